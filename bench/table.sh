@@ -10,6 +10,8 @@ trap 'rm -rf "$work"' EXIT
 cd "$work"
 python3 "$top/bench/image.py" 8388608 16777216 "$work/log"
 python3 "$top/bench/image.py" 67108864 134217728 "$work/large"
+python3 "$top/bench/image.py" 16777216 33554432 "$work/second" 1 2
+python3 "$top/bench/image.py" 67108864 134217728 "$work/seconds" 1 2
 python3 "$top/bench/image.py" 8454144 16777216 "$work/some" 128
 python3 "$top/bench/image.py" 67108864 134217728 "$work/many" 128
 python3 - <<'PY'
@@ -58,6 +60,12 @@ def log():
 def large():
     shutil.copyfile("large", "image")
 
+def second():
+    shutil.copyfile("second", "image")
+
+def seconds():
+    shutil.copyfile("seconds", "image")
+
 def file():
     blank(128 << 20)
     subprocess.run([famfs, "mkfs", "image", "-u", "2M", "-l", "2M"], stdout=subprocess.DEVNULL)
@@ -103,6 +111,10 @@ row("the same, each followed by a logplay", lambda: blank(16 << 20), ["script", 
 row("`storm 7 20000`", lambda: blank(4 << 20), ["storm", "7", "20000", "image"])
 row("`storm 7 100000`", lambda: blank(4 << 20), ["storm", "7", "100000", "image"])
 row("logplay of 131,070 directories", large, ["logplay", "image"])
+row("format 2: logplay of 16,382 directories", second, ["logplay", "image"])
+row("format 2: mkdir behind them", second, ["mkdir", "image", "last"])
+row("format 2: fsck of them", second, ["fsck", "image"])
+row("format 2: logplay of 65,534 directories", seconds, ["logplay", "image"])
 print()
 print("| Of mounted hosts, with one new slot, instructions | mkdir | verify | logplay, beside one with no new slot | 100 mkdirs |")
 print("|---|---|---|---|---|")

@@ -3,7 +3,7 @@
 # the options of a command, each with its other name behind a comma
 _famfs_options() {
     case $1 in
-        mkfs | dup) echo "-u,--unit -l,--loglen -f,--force --uuid --system" ;;
+        mkfs | dup) echo "-u,--unit -l,--loglen --format -f,--force --uuid --system" ;;
         mkdir) echo "-p,--parents -m,--mode -u,--uid -g,--gid --system" ;;
         creat) echo "-s,--size -S,--seed -m,--mode -u,--uid -g,--gid -N,--nstrips -B,--nbuckets -C,--chunksize --system" ;;
         cp) echo "-m,--mode -u,--uid -g,--gid -N,--nstrips -B,--nbuckets -C,--chunksize --system" ;;

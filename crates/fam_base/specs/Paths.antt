@@ -4,7 +4,7 @@ use Rattle.std.specs.List.{slice_split, list_all, list_any, before_last}
 
 -- the most bytes of a path
 abbrev pub path_limit : ℕ
-path_limit = 168
+path_limit = 512
 
 -- a name between two slashes: neither empty, nor `.`, nor `..`
 abbrev pub is_name : List ℕ → Bool
@@ -29,7 +29,7 @@ names bytes = slice_split is_slash bytes
 abbrev pub has_no_nul : List ℕ → Bool
 has_no_nul bytes = list_all (λ b. nat_lt 0 b && nat_lt b 256) bytes
 
--- 1 to path_limit (168) bytes, none of them 0, of proper names
+-- 1 to path_limit (512) bytes, none of them 0, of proper names
 unfoldable pub is_path : List ℕ → Bool
 is_path bytes =
     if length bytes == 0 then false

@@ -51,6 +51,8 @@ impl Entry {
 /// What the superblock says of a file system. Lengths are in bytes.
 #[derive(Clone, Copy, Debug, PartialEq, Eq)]
 pub struct Params {
+    /// Which shape the slots of the log have: 1, of 512 bytes, or 2, of 1,024.
+    pub format: u64,
     /// The bytes of the log with its header.
     pub log_length: u64,
     /// How many entries the log has room for.

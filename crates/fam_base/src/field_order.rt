@@ -7,12 +7,12 @@ use crate::path::PATH_LIMIT;
 use std::cmp::Ordering;
 
 /// The words of a field.
-const PATH_WORDS: usize = 21;
+const PATH_WORDS: usize = 64;
 
 /// Eight bytes as a number, the first one highest.
 #[inline(always)]
 fn word(bytes: &[u8; PATH_LIMIT], i: usize) -> u64
-    requires { i < 21 }
+    requires { i < 64 }
     ensures { result ≡ big 0 (slice_range bytes.now (8 * i) (8 * i + 8)) }
 {
     let at = 8 * i;

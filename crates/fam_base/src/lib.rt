@@ -5,6 +5,7 @@
 //! `Extents` as a list of at most 16 extents, and a `SharedEntries` as a list of entries. `specs/` has the definitions.
 #![tactic(auto)]
 
+mod boxed;
 mod byte_text;
 mod cmd;
 mod entry;
@@ -21,6 +22,7 @@ mod path_order;
 mod shared;
 mod units;
 
+pub use boxed::Boxed;
 pub use byte_text::ByteText;
 pub use cmd::{Attr, Cmd, Content, Stripe};
 pub use entry::{Entry, Kind, MapKind, Params};

@@ -10,13 +10,13 @@ ghost use Rattle.fam_base.specs.Paths.{slash, is_name, is_slash, names, has_no_n
 use std::marker::Model;
 
 /// The most bytes of a path, `path_limit` in contracts.
-pub const PATH_LIMIT: usize = 168;
+pub const PATH_LIMIT: usize = 512;
 
 /// The bytes are no path.
 #[derive(Clone, Copy, Debug, PartialEq, Eq)]
 pub struct BadPath;
 
-/// A path of 1 to 168 bytes, none of them 0, cut at slashes into names. No name is empty, `.` or `..`, so
+/// A path of 1 to 512 bytes, none of them 0, cut at slashes into names. No name is empty, `.` or `..`, so
 /// there is no slash in front or behind. `Copy`, with zeros behind. Paths are ordered by their bytes.
 #[derive(Clone, Copy)]
 pub struct Path {

@@ -25,7 +25,7 @@ use Rattle.fam_commands.specs.Kept.{first_slot}
 use Rattle.fam_commands.specs.Task.{Task, part_count, wanted_end}
 use Rattle.fam_commands.specs.Turns.{Turn, Goes, Marks, Finds, Writes, Ends, super_fault_reply, log_fault_reply, magic_turn, host_refusal, host_turn, super_turn, header_turn, slot_or_decide, slots_read, finds_or_goes, gate_loaded, gate_turn, join_turn, slot_turn, check_turn, first_store, append_turn, verify_lines, verify_turn, bytes_turn, kind_turn, found_turn, wish_turn, decide_turn, line_or, line_difference, compare_turn, file_turn, line_turn, with_word, word_turn, turn_at}
 use Rattle.fam_rules.specs.declared.answers.Refused.{Refused}
-use Rattle.fam_rules.specs.Decide.{Wish, decide_wish, master_refusal, wish_of}
+use Rattle.fam_rules.specs.Decide.{Wish, decide_wish, early_refusal, wish_of}
 use Rattle.fam_rules.specs.Place.{line_bytes}
 use Rattle.fam_rules.specs.Reply.{Reply, Appended, NotAppended, Reports, NoSuperblock, BadHeader, BadSlot, Played, Mounted, Same, Differs, Length, Bytes, NotFound, IsDirectory, Checks}
 use Rattle.fam_commands.specs.Appends.{IsBeforeWrites, HasWish}
@@ -119,7 +119,7 @@ module _ (p : Phase) (t : Task) where
 
   wished_host : (params : Params) (o : Option Wish) → wish_of t.cmd ≡ o → SaysAt p t.cmd (host_turn t params (host_refusal o params t.me))
   wished_host params None is = tt
-  wished_host params (Some w) is = host_says params (master_refusal params t.me) (w, is)
+  wished_host params (Some w) is = host_says params (early_refusal params t.me w.path) (w, is)
 
   super_says : (r : Result Params SuperFault) → SaysAt p t.cmd (super_turn t r)
   super_says (Err fault) = super_ends p t.cmd fault

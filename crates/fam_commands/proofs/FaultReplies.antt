@@ -1,5 +1,5 @@
 -- The replies on a damaged image, as tasks and table spell them.
-use Rattle.std.proofs.Common.{ℕ, ◌≡◌, ◌*◌, List, ◌++◌, length, take, drop, Option, Some, None, Ok, Err, refl, sym, ◌∙◌, ap, arith}
+use Rattle.std.proofs.Common.{ℕ, ◌≡◌, ◌*◌, List, ◌++◌, length, take, drop, Option, Some, None, Ok, Err, refl, sym, ◌∙◌, ap, ap₂, arith, ◌≤◌}
 use Rattle.std.specs.Prelude.{slice_index, slice_range}
 use Rattle.std.proofs.lemmas.List.{get_or-take, get_or-drop, drop-drop, take_all, length-drop, take-append-drop}
 use Rattle.fam_base.specs.declared.cmd.Cmd.{Cmd}
@@ -7,16 +7,19 @@ use Rattle.fam_base.specs.declared.cmd.Cmd.TheVariants.{Fsck}
 use Rattle.fam_base.specs.declared.entry.Params.{Params}
 use Rattle.fam_format.specs.declared.faults.SuperFault.{SuperFault}
 use Rattle.fam_format.specs.declared.faults.LogFault.{LogFault}
-use Rattle.fam_format.specs.Layout.{log_line}
+use Rattle.fam_format.specs.Layout.{geometry, gate_line, log_line}
 use Rattle.fam_format.specs.Stop.{stop}
 use Rattle.fam_format.specs.Super.{magic_fault, super_of, super_body_of}
 use Rattle.fam_format.specs.Log.{log_fault, gate_fault}
+use Rattle.fam_format.specs.Reading.{super_in, gate_in}
+use Rattle.fam_format.proofs.Formats.{shape}
 use Rattle.fam_rules.specs.Place.{line_bytes}
 use Rattle.fam_rules.specs.Reply as reply
 use Rattle.fam_rules.specs.Reply.{Reply}
 use Rattle.fam_rules.specs.Reports.{no_survey, survey_slots, super_report, log_report, report_by, report_below, report_log, report_super, report_of}
 use Rattle.fam_commands.specs.Turns.{super_fault_reply, log_fault_reply}
 use Rattle.fam_commands.specs.Table.{fed, fed_super, fed_gate, fault_reply, fed_head}
+use Rattle.fam_commands.proofs.FedLemmas.{head_line}
 
 -- The words of the head.
 
@@ -67,10 +70,23 @@ module _ (words : List ℕ) (lines : ℕ) where
   unfolding report_of
   report_on_gate p fault super header is = ap (report_super (fed_head words)) super ∙ ap (report_log (fed_head words) p) header ∙ ap (report_below (fed_head words) p) is
 
+  -- the superblock is read from the head
+  super_fed : (p : Params) → super_in (fed p 0 words) (line_bytes * lines) ≡ fed_super words lines
+  super_fed p =
+      let least : 8 ≤ (geometry p).lines = (shape p).lines in
+      ap₂ (λ (word : ℕ) (body : List ℕ). super_of word body (line_bytes * lines)) (ap (λ (l : List ℕ). slice_index l 0) (head_line p words 0 0 (omega arith)))
+      (ap₂ (λ (xs ys : List ℕ). xs ++ ys) (head_line p words 0 1 (omega arith)) (head_line p words 0 2 (omega arith)))
+
   -- a sound head leaves the report to the slots
   pub report_on_slots : (p : Params) → fed_super words lines ≡ Ok p → log_fault (fed_head words log_line) p ≡ None → gate_fault (fed_gate words) p ≡ None → report_of (fed p 0 words) (line_bytes * lines) ≡ report_by p (fed_gate words) (survey_slots (fed p 0 words) p (fed_gate words) 0 p.slots no_survey)
   unfolding report_of
-  report_on_slots p super header within = ap (report_super (fed p 0 words)) super ∙ ap (report_log (fed p 0 words) p) header ∙ ap (report_below (fed p 0 words) p) within
+  report_on_slots p super header within =
+      let least : 8 ≤ (geometry p).lines = (shape p).lines in
+      let gate : gate_in (fed p 0 words) ≡ fed_gate words = ap (λ (l : List ℕ). slice_index l 0) (head_line p words 0 gate_line (omega arith)) in
+      ap (report_super (fed p 0 words)) (super_fed p ∙ super)
+      ∙ ap (report_log (fed p 0 words) p) (ap (λ (l : List ℕ). log_fault l p) (head_line p words 0 log_line (omega arith)) ∙ header)
+      ∙ ap (report_below (fed p 0 words) p) (ap (λ (n : ℕ). gate_fault n p) gate ∙ within)
+      ∙ ap (λ (n : ℕ). report_by p n (survey_slots (fed p 0 words) p n 0 p.slots no_survey)) gate
 
   -- the answer where the superblock is bad
   pub super_reply : (cmd : Cmd) (fault : SuperFault) → fed_super words lines ≡ Err fault → fault_reply cmd words lines (reply.NoSuperblock fault) ≡ super_fault_reply cmd fault

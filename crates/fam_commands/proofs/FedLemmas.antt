@@ -6,17 +6,18 @@ use Rattle.std.proofs.lemmas.List.FromFn.{length-map-range_with_len, get_or-map-
 use Rattle.fam_base.specs.declared.entry.Params.{Params}
 use Rattle.fam_base.specs.declared.entry.Entry.{Entry}
 use Rattle.fam_format.specs.declared.faults.Reason.{Reason}
-use Rattle.fam_format.specs.Layout.{log_line, slot_line}
+use Rattle.fam_format.specs.Layout.{geometry, log_line, slot_line}
 use Rattle.fam_format.specs.Super.{super_of}
 use Rattle.fam_format.specs.Slot.{entry_of}
 use Rattle.fam_format.specs.Tree.{join_fault}
 use Rattle.fam_format.specs.Reading.{Reading, Sound, Lines, slot_word, slot_words, slot_in, slot_or, joined_or, read_slots}
+use Rattle.fam_format.proofs.Formats.{piece_ends, piece_span, all_words}
 use Rattle.fam_rules.specs.Place.{line_bytes}
 use Rattle.fam_rules.specs.Reports.{Survey, no_survey, survey_slot, survey_slots}
-use Rattle.fam_commands.specs.Table.{fed, fed_super, fed_gate, fed_slots, fed_head, fed_from}
+use Rattle.fam_commands.specs.Table.{fed, fed_super, fed_gate, fed_slots, fed_head, fed_from, words_before}
 use Rattle.fam_commands.proofs.ListPlaces.{range_stays, index_stays}
 use Rattle.fam_format.specs.Line.{line_words}
-use Rattle.std.proofs.lemmas.Bool.{le-ltb}
+use Rattle.std.proofs.lemmas.Bool.{le-ltb, lt-ltb}
 
 -- Superblock, header and gate.
 
@@ -44,41 +45,46 @@ far_line p words f line from far is =
     ap (λ (b : Bool). if b then fed_head words line else slice_range words (fed_from p f line) (fed_from p f line + line_words)) behind
     ∙ ap (λ (n : ℕ). slice_range words n (n + line_words)) is
 
+-- the lines before the slots are those of the head
+pub head_line : (p : Params) (words : List ℕ) (f line : ℕ) → line < slot_line p f 0 → fed p f words line ≡ fed_head words line
+head_line p words f line near =
+    ap (λ (b : Bool). if b then fed_head words line else slice_range words (fed_from p f line) (fed_from p f line + line_words)) (lt-ltb line (slot_line p f 0) near)
+
 -- the words of a line of a slot
-pub slot_line_fed : (words : List ℕ) (p : Params) (f i j : ℕ) → f ≤ i → fed p f words (slot_line p i j) ≡ slice_range words (26 + (64 * (i - f) + 8 * j)) (26 + (64 * (i - f) + 8 * j) + 8)
-slot_line_fed words p f i j behind = far_line p words f (slot_line p i j) (26 + (64 * (i - f) + 8 * j)) (omega arith) (omega arith)
+pub slot_line_fed : (words : List ℕ) (p : Params) (f i j : ℕ) → f ≤ i → fed p f words (slot_line p i j) ≡ slice_range words (26 + ((geometry p).words * (i - f) + 8 * j)) (26 + ((geometry p).words * (i - f) + 8 * j) + 8)
+slot_line_fed words p f i j behind = far_line p words f (slot_line p i j) (26 + ((geometry p).words * (i - f) + 8 * j)) (omega (arith, piece_span (geometry p).lines f i behind)) (omega (arith, piece_span (geometry p).lines f i behind, all_words p (i - f)))
 
 -- a word of a slot, by its place among the loaded words
-pub slot_word_fed : (words : List ℕ) (p : Params) (f i k : ℕ) → f ≤ i → k < 64 → slot_word (fed p f words) p i k ≡ slice_index words (26 + 64 * (i - f) + k)
+pub slot_word_fed : (words : List ℕ) (p : Params) (f i k : ℕ) → f ≤ i → k < (geometry p).words → slot_word (fed p f words) p i k ≡ slice_index words (words_before p f i + k)
 slot_word_fed words p f i k behind below =
     ap (λ (l : List ℕ). slice_index l (k % 8)) (slot_line_fed words p f i (k / 8) behind)
-    ∙ get_or-take (26 + (64 * (i - f) + 8 * (k / 8)) + 8 - (26 + (64 * (i - f) + 8 * (k / 8)))) (drop (26 + (64 * (i - f) + 8 * (k / 8))) words) (k % 8) 0 (omega arith)
-    ∙ get_or-drop (26 + (64 * (i - f) + 8 * (k / 8))) words (k % 8) 0
-    ∙ ap (λ (n : ℕ). slice_index words n) (let z : 26 + (64 * (i - f) + 8 * (k / 8)) + k % 8 ≡ 26 + 64 * (i - f) + k = omega arith in z)
+    ∙ get_or-take (26 + ((geometry p).words * (i - f) + 8 * (k / 8)) + 8 - (26 + ((geometry p).words * (i - f) + 8 * (k / 8)))) (drop (26 + ((geometry p).words * (i - f) + 8 * (k / 8))) words) (k % 8) 0 (omega arith)
+    ∙ get_or-drop (26 + ((geometry p).words * (i - f) + 8 * (k / 8))) words (k % 8) 0
+    ∙ ap (λ (n : ℕ). slice_index words n) (let z : 26 + ((geometry p).words * (i - f) + 8 * (k / 8)) + k % 8 ≡ words_before p f i + k = omega arith in z)
 
-length-slot : (line : Lines) (p : Params) (i : ℕ) → length (slot_words line p i) ≡ 64
+length-slot : (line : Lines) (p : Params) (i : ℕ) → length (slot_words line p i) ≡ (geometry p).words
 unfolding slot_words
-length-slot line p i = length-map-range_with_len (slot_word line p i) 0 64
+length-slot line p i = length-map-range_with_len (slot_word line p i) 0 (geometry p).words
 
-get-slot : (words : List ℕ) (p : Params) (f i k d : ℕ) → f ≤ i → k < 64 → get_or (slot_words (fed p f words) p i) k d ≡ slice_index words (26 + 64 * (i - f) + k)
+get-slot : (words : List ℕ) (p : Params) (f i k d : ℕ) → f ≤ i → k < (geometry p).words → get_or (slot_words (fed p f words) p i) k d ≡ slice_index words (words_before p f i + k)
 unfolding slot_words
-get-slot words p f i k d behind below = get_or-map-range_with_len (slot_word (fed p f words) p i) 0 64 k k d below (omega arith) ∙ slot_word_fed words p f i k behind below
+get-slot words p f i k d behind below = get_or-map-range_with_len (slot_word (fed p f words) p i) 0 (geometry p).words k k d below (omega arith) ∙ slot_word_fed words p f i k behind below
 
 -- the words of the slot that was loaded last
-pub slot_held : (words : List ℕ) (p : Params) (f i : ℕ) → f ≤ i → length words ≡ 26 + 64 * (i - f) + 64 → slot_words (fed p f words) p i ≡ drop (26 + 64 * (i - f)) words
+pub slot_held : (words : List ℕ) (p : Params) (f i : ℕ) → f ≤ i → length words ≡ words_before p f i + (geometry p).words → slot_words (fed p f words) p i ≡ drop (words_before p f i) words
 slot_held words p f i behind long =
-    same_lists (slot_words (fed p f words) p i) (drop (26 + 64 * (i - f)) words) (length-slot (fed p f words) p i ∙ omega (arith, length-drop (26 + 64 * (i - f)) words))
+    same_lists (slot_words (fed p f words) p i) (drop (words_before p f i) words) (length-slot (fed p f words) p i ∙ omega (arith, length-drop (words_before p f i) words))
     (λ k d below.
-    let small : k < 64 = omega (arith, length-slot (fed p f words) p i) in
-    get-slot words p f i k d behind small ∙ get_or_default words (26 + 64 * (i - f) + k) 0 d (omega arith) ∙ sym (get_or-drop (26 + 64 * (i - f)) words k d))
+    let small : k < (geometry p).words = omega (arith, length-slot (fed p f words) p i) in
+    get-slot words p f i k d behind small ∙ get_or_default words (words_before p f i + k) 0 d (omega arith) ∙ sym (get_or-drop (words_before p f i) words k d))
 
 -- the words of a slot stay
-pub slot_stays : (words more : List ℕ) (p : Params) (f i : ℕ) → f ≤ i → 26 + 64 * (i - f) + 64 ≤ length words → slot_words (fed p f (words ++ more)) p i ≡ slot_words (fed p f words) p i
+pub slot_stays : (words more : List ℕ) (p : Params) (f i : ℕ) → f ≤ i → words_before p f i + (geometry p).words ≤ length words → slot_words (fed p f (words ++ more)) p i ≡ slot_words (fed p f words) p i
 slot_stays words more p f i behind long =
     same_lists (slot_words (fed p f (words ++ more)) p i) (slot_words (fed p f words) p i) (length-slot (fed p f (words ++ more)) p i ∙ sym (length-slot (fed p f words) p i))
     (λ k d below.
-    let small : k < 64 = omega (arith, length-slot (fed p f (words ++ more)) p i) in
-    get-slot (words ++ more) p f i k d behind small ∙ index_stays words more (26 + 64 * (i - f) + k) (omega arith) ∙ sym (get-slot words p f i k d behind small))
+    let small : k < (geometry p).words = omega (arith, length-slot (fed p f (words ++ more)) p i) in
+    get-slot (words ++ more) p f i k d behind small ∙ index_stays words more (words_before p f i + k) (omega arith) ∙ sym (get-slot words p f i k d behind small))
 
 -- Slots that are read.
 
@@ -95,8 +101,8 @@ read_same a b p (suc n) from list same =
     (λ e. read_same a b p n (from + 1) (list ++ e ∷ []) (λ i behind below. same i (omega arith) (omega arith)))
 
 -- what the slots say stays
-pub slots_stay : (words more : List ℕ) (p : Params) (used : List Entry) (n : ℕ) → 26 + 64 * (n - length used) ≤ length words → fed_slots (words ++ more) p used n ≡ fed_slots words p used n
-slots_stay words more p used n long = read_same (fed p (length used) (words ++ more)) (fed p (length used) words) p (n - length used) (length used) used (λ i behind below. slot_stays words more p (length used) i behind (omega arith))
+pub slots_stay : (words more : List ℕ) (p : Params) (used : List Entry) (n : ℕ) → words_before p (length used) n ≤ length words → fed_slots (words ++ more) p used n ≡ fed_slots words p used n
+slots_stay words more p used n long = read_same (fed p (length used) (words ++ more)) (fed p (length used) words) p (n - length used) (length used) used (λ i behind below. slot_stays words more p (length used) i behind (omega (arith, piece_ends (geometry p).words (i - length used) (n - length used) (omega arith))))
 
 survey_same : (a b : Lines) (p : Params) (gate n from : ℕ) (s : Survey) → ((i : ℕ) → from ≤ i → i < from + n → slot_words a p i ≡ slot_words b p i) → survey_slots a p gate from n s ≡ survey_slots b p gate from n s
 survey_same a b p gate zero from s same = refl
@@ -105,8 +111,8 @@ survey_same a b p gate (suc n) from s same =
     ∙ survey_same a b p gate n (from + 1) (survey_slot p gate from (slot_words b p from) s) (λ i behind below. same i (omega arith) (omega arith))
 
 -- so does what a check of the whole file system finds in them
-pub survey_stays : (words more : List ℕ) (p : Params) (gate n : ℕ) → 26 + 64 * n ≤ length words → survey_slots (fed p 0 (words ++ more)) p gate 0 n no_survey ≡ survey_slots (fed p 0 words) p gate 0 n no_survey
-survey_stays words more p gate n long = survey_same (fed p 0 (words ++ more)) (fed p 0 words) p gate n 0 no_survey (λ i behind below. slot_stays words more p 0 i behind (omega arith))
+pub survey_stays : (words more : List ℕ) (p : Params) (gate n : ℕ) → words_before p 0 n ≤ length words → survey_slots (fed p 0 (words ++ more)) p gate 0 n no_survey ≡ survey_slots (fed p 0 words) p gate 0 n no_survey
+survey_stays words more p gate n long = survey_same (fed p 0 (words ++ more)) (fed p 0 words) p gate n 0 no_survey (λ i behind below. slot_stays words more p 0 i behind (omega (arith, piece_ends (geometry p).words (i - 0) (n - 0) (omega arith))))
 
 -- One slot more.
 

@@ -36,23 +36,25 @@ use Rattle.fam_commands.proofs.TurnTells.{ReplyTells, Tells, turn_tells}
 
 -- Parameters that are the same by every part.
 
-same_parts : (a b : Params) → a.log_length ≡ b.log_length → a.slots ≡ b.slots → a.unit ≡ b.unit → a.device ≡ b.device → a.fs ≡ b.fs → a.master ≡ b.master → a ≡ b
-same_parts a b log slots unit device fs master =
-    ap (λ (n : ℕ). record { log_length = n; slots = a.slots; unit = a.unit; device = a.device; fs = a.fs; master = a.master }) log
-    ∙ ap (λ (n : ℕ). record { log_length = b.log_length; slots = n; unit = a.unit; device = a.device; fs = a.fs; master = a.master }) slots
-    ∙ ap (λ (n : ℕ). record { log_length = b.log_length; slots = b.slots; unit = n; device = a.device; fs = a.fs; master = a.master }) unit
-    ∙ ap (λ (n : ℕ). record { log_length = b.log_length; slots = b.slots; unit = b.unit; device = n; fs = a.fs; master = a.master }) device
-    ∙ ap (λ (id : List ℕ). record { log_length = b.log_length; slots = b.slots; unit = b.unit; device = b.device; fs = id; master = a.master }) fs
-    ∙ ap (λ (id : List ℕ). record { log_length = b.log_length; slots = b.slots; unit = b.unit; device = b.device; fs = b.fs; master = id }) master
+same_parts : (a b : Params) → a.format ≡ b.format → a.log_length ≡ b.log_length → a.slots ≡ b.slots → a.unit ≡ b.unit → a.device ≡ b.device → a.fs ≡ b.fs → a.master ≡ b.master → a ≡ b
+same_parts a b format log slots unit device fs master =
+    ap (λ (n : ℕ). record { format = n; log_length = a.log_length; slots = a.slots; unit = a.unit; device = a.device; fs = a.fs; master = a.master }) format
+    ∙ ap (λ (n : ℕ). record { format = b.format; log_length = n; slots = a.slots; unit = a.unit; device = a.device; fs = a.fs; master = a.master }) log
+    ∙ ap (λ (n : ℕ). record { format = b.format; log_length = b.log_length; slots = n; unit = a.unit; device = a.device; fs = a.fs; master = a.master }) slots
+    ∙ ap (λ (n : ℕ). record { format = b.format; log_length = b.log_length; slots = b.slots; unit = n; device = a.device; fs = a.fs; master = a.master }) unit
+    ∙ ap (λ (n : ℕ). record { format = b.format; log_length = b.log_length; slots = b.slots; unit = b.unit; device = n; fs = a.fs; master = a.master }) device
+    ∙ ap (λ (id : List ℕ). record { format = b.format; log_length = b.log_length; slots = b.slots; unit = b.unit; device = b.device; fs = id; master = a.master }) fs
+    ∙ ap (λ (id : List ℕ). record { format = b.format; log_length = b.log_length; slots = b.slots; unit = b.unit; device = b.device; fs = b.fs; master = id }) master
 
 same_params : (a b : Params) → is_same_params a b ≡ true → a ≡ b
 same_params a b same =
-    let log = and_parts (a.log_length == b.log_length) _ same in
+    let format = and_parts (a.format == b.format) _ same in
+    let log = and_parts (a.log_length == b.log_length) _ format.1 in
     let slots = and_parts (a.slots == b.slots) _ log.1 in
     let unit = and_parts (a.unit == b.unit) _ slots.1 in
     let device = and_parts (a.device == b.device) _ unit.1 in
     let ids = and_parts (path_eq a.fs b.fs) (path_eq a.master b.master) device.1 in
-    same_parts a b (eqb-true a.log_length b.log_length log.0) (eqb-true a.slots b.slots slots.0) (eqb-true a.unit b.unit unit.0) (eqb-true a.device b.device device.0)
+    same_parts a b (eqb-true a.format b.format format.0) (eqb-true a.log_length b.log_length log.0) (eqb-true a.slots b.slots slots.0) (eqb-true a.unit b.unit unit.0) (eqb-true a.device b.device device.0)
     ((pointwise_decides Decides-eqb a.fs b.fs).0 ids.0) ((pointwise_decides Decides-eqb a.master b.master).0 ids.1)
 
 -- Entries that join.

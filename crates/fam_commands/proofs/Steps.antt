@@ -1,5 +1,6 @@
 -- What comes of each operation of a task, and that the task stands where the table says.
 pub mod Append
+pub mod Behind
 pub mod Decide
 pub mod FileLines
 pub mod Head

@@ -14,7 +14,7 @@ use Rattle.fam_format.specs.Layout.{Geometry, geometry}
 use Rattle.fam_format.specs.Line.{line_bytes, line_words}
 use Rattle.fam_format.specs.Tree.{replay}
 use Rattle.fam_rules.specs.declared.answers.Refused.{Refused}
-use Rattle.fam_rules.specs.declared.answers.Refused.TheVariants.{NotMaster, BadStripe, Exists, NoParent, ParentIsFile, LogFull, NoSpace}
+use Rattle.fam_rules.specs.declared.answers.Refused.TheVariants.{NotMaster, LongPath, BadStripe, Exists, NoParent, ParentIsFile, LogFull, NoSpace}
 use Rattle.fam_rules.specs.declared.answers.SuperState.{SuperState}
 use Rattle.fam_rules.specs.declared.answers.SuperState.TheVariants as superblock
 use Rattle.fam_rules.specs.declared.answers.LogState.{LogState}
@@ -77,9 +77,10 @@ field_steps field.Rest = log_header_steps
 abbrev pub fault_steps : LogFault → ℕ
 fault_steps (log_fault.BadLog field found wanted) = field_steps field
 
--- another host is refused where the superblock is read, everything else at the decision
+-- another host and a path that is too long are refused where the superblock is read, everything else at the decision
 abbrev pub refused_steps : Geometry → ℕ → ℕ → Refused → ℕ
 refused_steps g first n (NotMaster me master) = superblock_steps
+refused_steps g first n (LongPath limit) = superblock_steps
 refused_steps g first n BadStripe = decided_steps g first n
 refused_steps g first n (Exists kind) = decided_steps g first n
 refused_steps g first n NoParent = decided_steps g first n

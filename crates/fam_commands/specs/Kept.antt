@@ -24,7 +24,7 @@ IsKept (Some k) = AllJoin k.params k.entries
 -- the same file system, by every number and both UUIDs
 abbrev pub is_same_params : Params → Params → Bool
 is_same_params p q =
-    p.log_length == q.log_length && (p.slots == q.slots && (p.unit == q.unit && (p.device == q.device && (path_eq p.fs q.fs && path_eq p.master q.master))))
+    p.format == q.format && (p.log_length == q.log_length && (p.slots == q.slots && (p.unit == q.unit && (p.device == q.device && (path_eq p.fs q.fs && path_eq p.master q.master)))))
 
 -- the kept entries, where the superblock says the same as before and the gate counts no fewer
 unfoldable pub used_by : Option Kept → Params → ℕ → List Entry

@@ -22,7 +22,7 @@ use Rattle.fam_format.specs.Reading.{Reading, NoSuperblock, BadHeader, BadSlot, 
 use Rattle.fam_rules.specs.declared.answers.Refused.{Refused}
 use Rattle.fam_rules.specs.Asks.{File, file_at, ask}
 use Rattle.fam_rules.specs.Content.{byte_in, content_line}
-use Rattle.fam_rules.specs.Decide.{Wish, wish_of, master_refusal, decide}
+use Rattle.fam_rules.specs.Decide.{Wish, wish_of, early_refusal, decide}
 use Rattle.fam_rules.specs.Reply as reply
 use Rattle.fam_rules.specs.Reply.{Reply}
 use Rattle.fam_rules.specs.Reports.{report_of}
@@ -150,10 +150,10 @@ abbrev pub magic_note : Cmd → List ℕ → ℕ → Option SuperFault → RowNo
 magic_note cmd words lines (Some fault) = Answer (fault_reply cmd words lines (reply.NoSuperblock fault))
 magic_note cmd words lines None = Quiet
 
--- a command that appends, of another host than the master
-abbrev pub master_note : Option Wish → Params → List ℕ → RowNote
-master_note None p me = Quiet
-master_note (Some w) p me = refusal_note (master_refusal p me)
+-- a command that appends, of another host than the master or of a path that is too long
+abbrev pub host_note : Option Wish → Params → List ℕ → RowNote
+host_note None p me = Quiet
+host_note (Some w) p me = refusal_note (early_refusal p me w.path)
   where
     refusal_note : Option Refused → RowNote
     refusal_note None = Quiet
@@ -162,7 +162,7 @@ master_note (Some w) p me = refusal_note (master_refusal p me)
 -- with the last load of the superblock
 abbrev pub super_note : Cmd → List ℕ → List ℕ → ℕ → Result Params SuperFault → RowNote
 super_note cmd me words lines (Err fault) = Answer (fault_reply cmd words lines (reply.NoSuperblock fault))
-super_note cmd me words lines (Ok p) = master_note (wish_of cmd) p me
+super_note cmd me words lines (Ok p) = host_note (wish_of cmd) p me
 
 -- with the last load of the header
 abbrev pub header_note : Cmd → List ℕ → ℕ → Option LogFault → RowNote

@@ -47,7 +47,7 @@ pub record Task : Type 0 where
 -- nothing was read of a superblock
 abbrev pub no_params : Params
 no_params =
-    record { log_length = 0; slots = 0; unit = 0; device = 0; fs = replicate uuid_bytes 0; master = replicate uuid_bytes 0 }
+    record { format = 1; log_length = 0; slots = 0; unit = 0; device = 0; fs = replicate uuid_bytes 0; master = replicate uuid_bytes 0 }
 
 -- a command before its first operation, on a host that keeps this
 abbrev pub mounted : Option Kept → Cmd → List ℕ → ℕ → Task

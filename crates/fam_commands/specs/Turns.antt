@@ -22,7 +22,7 @@ use Rattle.fam_format.specs.Tree.{replay, join_fault}
 use Rattle.fam_rules.specs.declared.answers.Refused.{Refused}
 use Rattle.fam_rules.specs.Checks.{checked}
 use Rattle.fam_rules.specs.Content.{byte_in, content_byte}
-use Rattle.fam_rules.specs.Decide.{Wish, wish_of, master_refusal, decide_wish}
+use Rattle.fam_rules.specs.Decide.{Wish, wish_of, early_refusal, decide_wish}
 use Rattle.fam_rules.specs.Reply.{Reply, Appended, NotAppended, Played, Mounted, Same, Differs, Length, Bytes, NotFound, IsDirectory, Checks, Reports, NoSuperblock, BadHeader, BadSlot}
 use Rattle.fam_rules.specs.Reports.{survey_slot, report_by, super_report, log_report}
 use Rattle.fam_rules.specs.Written.{lines_of}
@@ -80,10 +80,10 @@ abbrev pub magic_turn : Task → Option SuperFault → Turn
 magic_turn t (Some fault) = Ends (super_fault_reply t.cmd fault)
 magic_turn t None = Goes (record t { phase = at.Drop Superblock 0; words = [] })
 
--- a host that appends must be the master
+-- a host that appends must be the master, with a path that fits a slot
 abbrev pub host_refusal : Option Wish → Params → List ℕ → Option Refused
 host_refusal None p me = None
-host_refusal (Some w) p me = master_refusal p me
+host_refusal (Some w) p me = early_refusal p me w.path
 
 -- the host may go on, or the answer
 abbrev pub host_turn : Task → Params → Option Refused → Turn

@@ -11,7 +11,7 @@ mod phase;
 mod solo;
 mod table;
 
-pub use counts::the_first_format_takes_these_counts;
+pub use counts::{each_shape_takes_these_counts, the_first_format_takes_these_counts};
 pub use phase::{Part, Phase};
 pub use solo::a_solo_command_is_a_run_of_operations;
 pub use table::{

@@ -14,7 +14,7 @@ use Rattle.fam_format.specs.ReadingLaws.{HasParent, Joins}
 use Rattle.fam_format.specs.Tree.{Tree, replay}
 use Rattle.fam_format.proofs.JoinLaws.{joins_from, replay_more}
 use Rattle.fam_rules.specs.declared.answers.Refused.{Refused}
-use Rattle.fam_rules.specs.declared.answers.Refused.TheVariants.{NotMaster, BadStripe, Exists, NoParent, ParentIsFile, LogFull, NoSpace}
+use Rattle.fam_rules.specs.declared.answers.Refused.TheVariants.{NotMaster, LongPath, BadStripe, Exists, NoParent, ParentIsFile, LogFull, NoSpace}
 use Rattle.fam_rules.specs.DecideLaws.{IsFirstRefusal}
 use Rattle.fam_rules.proofs.RefusalProofs.{refused_for}
 use Rattle.fam_dup.specs.Copies.{AreAlike, IsNext, IsWantOfRoom, copy_of, kind_at, wish_again}
@@ -76,7 +76,8 @@ module _ (q : Params) (copies : List Entry) (e : Entry) (next : IsNext copies e)
   -- no other first refusal comes
   by_cause : (refused : Refused) → IsFirstRefusal q q.master copies (wish_again e) refused → IsWantOfRoom refused
   by_cause (NotMaster me master) first = first.2 refl
-  by_cause BadStripe first = first.1 tt
+  by_cause (LongPath limit) first = tt
+  by_cause BadStripe first = first.2 tt
   by_cause (Exists kind) first = absent first.1.0 first.1.1
   by_cause NoParent first =
       let lacks = first.1 in
@@ -92,6 +93,6 @@ module _ (q : Params) (copies : List Entry) (e : Entry) (next : IsNext copies e)
   by_cause (LogFull slots) first = tt
   by_cause (NoSpace count) first = tt
 
-  -- an entry has no copy only for want of slots or of room
+  -- an entry has no copy only for want of slots or of room, for the path or for the bytes
   pub room_alone : (refused : Refused) → copy_of q copies e ≡ Err refused → IsWantOfRoom refused
   room_alone refused is = by_cause refused (refused_for q q.master copies (wish_again e) refused is)

@@ -7,6 +7,7 @@ use Rattle.fam_base.specs.Image.{Image, eight, line_at}
 use Rattle.fam_format.specs.Layout.{geometry, slot_line}
 use Rattle.fam_format.specs.Reading.{Lines}
 use Rattle.fam_format.specs.Slot.{spelling}
+use Rattle.fam_format.proofs.Formats.{piece_ends}
 use Rattle.fam_rules.specs.Content.{file_words}
 use Rattle.fam_rules.specs.Place.{line_bytes}
 use Rattle.fam_rules.specs.Written.{Put, file_line, file_puts, lines_of, put_lines, slot_part, slot_puts}
@@ -49,8 +50,8 @@ pub slots_elsewhere : (p : Params) (copies : List Entry) (seq l : ℕ) → ((i :
 slots_elsewhere p [] seq l off = tt
 slots_elsewhere p (c ∷ copies) seq l off =
     elsewhere-append l (slot_puts p seq c) (slots_puts p (seq + 1) copies)
-    (slot_elsewhere p seq c l (λ j below same. off 0 c refl j below (let none : slot_line p (seq + 0) j ≡ slot_line p seq j = omega arith in same ∙ sym none)))
-    (slots_elsewhere p copies (seq + 1) l (λ i d at j below same. off (suc i) d at j below (let next : slot_line p (seq + suc i) j ≡ slot_line p (seq + 1 + i) j = omega arith in same ∙ sym next)))
+    (slot_elsewhere p seq c l (λ j below same. off 0 c refl j below (same ∙ sym (ap (λ (n : ℕ). slot_line p n j) (omega arith)))))
+    (slots_elsewhere p copies (seq + 1) l (λ i d at j below same. off (suc i) d at j below (same ∙ sym (ap (λ (n : ℕ). slot_line p n j) (omega arith)))))
 
 -- Puts of slots.
 
@@ -66,18 +67,19 @@ slot_there p [] seq image i c j at below within = absurd (cc)
 slot_there p (x ∷ copies) seq image zero c j at below within =
     let same : x ≡ c = cc in
     let here : seq + 0 ≡ seq = omega arith in
-    let in_image : slot_line p seq j < length image = omega arith in
+    let in_image : slot_line p seq j < length image = subst (λ (n : ℕ). slot_line p n j < length image) here within in
     subst (λ (n : ℕ). line_at (put_lines (slot_puts p seq x ++ slots_puts p (seq + 1) copies) image) (slot_line p n j) ≡ eight (slot_part (spelling (geometry p) c n) j)) (sym here)
     (ap (λ (m : Image). line_at m (slot_line p seq j)) (put_lines-append (slot_puts p seq x) (slots_puts p (seq + 1) copies) image)
     ∙ put_elsewhere (slots_puts p (seq + 1) copies) (put_lines (slot_puts p seq x) image) (slot_line p seq j)
-    (slots_elsewhere p copies (seq + 1) (slot_line p seq j) (λ k d there l line is. omega arith))
+    (slots_elsewhere p copies (seq + 1) (slot_line p seq j) (λ k d there l line is. omega (arith, piece_ends (geometry p).lines seq (seq + 1 + k) (omega arith))))
     ∙ own_slot p seq x image j below in_image
     ∙ ap (λ (e : Entry). eight (slot_part (spelling (geometry p) e seq) j)) same)
 slot_there p (x ∷ copies) seq image (suc i) c j at below within =
     let next : seq + suc i ≡ seq + 1 + i = omega arith in
     subst (λ (n : ℕ). line_at (put_lines (slot_puts p seq x ++ slots_puts p (seq + 1) copies) image) (slot_line p n j) ≡ eight (slot_part (spelling (geometry p) c n) j)) (sym next)
     (ap (λ (m : Image). line_at m (slot_line p (seq + 1 + i) j)) (put_lines-append (slot_puts p seq x) (slots_puts p (seq + 1) copies) image)
-    ∙ slot_there p copies (seq + 1) (put_lines (slot_puts p seq x) image) i c j at below (omega (arith, length-put_lines (slot_puts p seq x) image)))
+    ∙ slot_there p copies (seq + 1) (put_lines (slot_puts p seq x) image) i c j at below
+    (subst (λ (n : ℕ). slot_line p n j < length (put_lines (slot_puts p seq x) image)) next (omega (arith, length-put_lines (slot_puts p seq x) image))))
 
 -- Puts of files.
 

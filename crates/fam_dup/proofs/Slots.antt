@@ -1,15 +1,16 @@
 -- The words of FROM's slots, and what a slot tells.
-use Rattle.std.proofs.Common.{◌≡◌, ℕ, suc, ◌+◌, ◌-◌, ◌*◌, ◌/◌, ◌%◌, ◌<◌, ◌≤◌, List, [], ◌∷◌, ◌++◌, length, get_or, Option, Some, None, Result, Ok, Err, sym, ap, ap₂, subst, ◌∙◌, inl, inr, arith}
+use Rattle.std.proofs.Common.{◌≡◌, ℕ, suc, ◌+◌, ◌-◌, ◌*◌, ◌/◌, ◌%◌, ◌<◌, ◌≤◌, List, [], ◌∷◌, ◌++◌, length, take, get_or, Option, Some, None, Result, Ok, Err, sym, ap, ap₂, subst, ◌∙◌, inl, inr, arith}
 use Rattle.std.proofs.lemmas.Bool.{cases_lt}
-use Rattle.std.proofs.lemmas.List.{length-append}
+use Rattle.std.proofs.lemmas.List.{length-append, length-take-le, get_or-take}
 use Rattle.std.proofs.lemmas.List.FromFn.{fill_by_all}
 use Rattle.fam_base.specs.declared.entry.Params.{Params}
 use Rattle.fam_base.specs.declared.entry.Entry.{Entry}
 use Rattle.fam_format.specs.declared.faults.Reason.{Reason}
-use Rattle.fam_format.specs.Layout.{slot_line}
+use Rattle.fam_format.specs.Layout.{geometry, slot_line}
 use Rattle.fam_format.specs.Reading.{Lines, Reading, joined_or, read_slots, slot_or, slot_word, slot_words}
 use Rattle.fam_format.specs.Slot.{entry_of}
 use Rattle.fam_format.specs.Tree.{join_fault}
+use Rattle.fam_format.proofs.Formats.{shape}
 use Rattle.fam_dup.specs.Findings.{FaultClass, FaultInSlot, Finding, Names, from_or, slot_class}
 
 module _ (memory : Lines) (p : Params) (slot : ℕ) where
@@ -31,9 +32,12 @@ module _ (memory : Lines) (p : Params) (slot : ℕ) where
       ]
 
   -- all of them
-  pub words_all : (words : List ℕ) (line : ℕ) → length words ≡ 64 → 8 ≤ line → ((k : ℕ) → k < 8 * line → get_or words k 0 ≡ slot_word memory p slot k) → words ≡ slot_words memory p slot
+  pub words_all : (words : List ℕ) (line : ℕ) → (geometry p).words ≤ length words → (geometry p).lines ≤ line → ((k : ℕ) → k < 8 * line → get_or words k 0 ≡ slot_word memory p slot k)
+      → take (geometry p).words words ≡ slot_words memory p slot
   unfolding slot_words
-  words_all words line count past each = fill_by_all (slot_word memory p slot) words 64 0 count (λ k below. each k (omega arith))
+  words_all words line count past each =
+      fill_by_all (slot_word memory p slot) (take (geometry p).words words) (geometry p).words 0 (length-take-le (geometry p).words words count)
+      (λ k below. get_or-take (geometry p).words words k 0 below ∙ each k (omega (arith, past, below, (shape p).words)))
 
 module _ (memory : Lines) (p : Params) (list : List Entry) (words : List ℕ) (is : words ≡ slot_words memory p (length list)) (more : ℕ) where
   reads : (r : Result Entry Reason) → r ≡ entry_of p words (length list)

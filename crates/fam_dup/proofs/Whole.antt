@@ -19,6 +19,7 @@ use Rattle.fam_format.specs.ReadingLaws.{Holds}
 use Rattle.fam_format.specs.Slot.{Proper, spelling}
 use Rattle.fam_format.specs.Super.{magic_line, super_of, super_words}
 use Rattle.fam_format.proofs.EntryLawsProofs.{spelling_count}
+use Rattle.fam_format.proofs.Formats.{shape}
 use Rattle.fam_format.proofs.JoinLaws.{joins_from}
 use Rattle.fam_format.proofs.LogLawsProofs.{header_passes}
 use Rattle.fam_format.proofs.ReadingLawsProofs.{holds_sound}
@@ -199,15 +200,16 @@ module _ (q : Params) (es cs : List Entry) (from to : Image) (sound : SoundParam
 
   -- Slots.
 
-  at_slot : (i : ℕ) (c : Entry) (j : ℕ) → slice_get cs i ≡ Some c → j < 8 → line_at whole (slot_line q i j) ≡ eight (slot_part (spelling (geometry q) c i) j)
+  at_slot : (i : ℕ) (c : Entry) (j : ℕ) → slice_get cs i ≡ Some c → j < (geometry q).lines → line_at whole (slot_line q i j) ≡ eight (slot_part (spelling (geometry q) c i) j)
   unfolding with_slots
   at_slot i c j at below =
       let slot : i < q.slots = omega (arith, history.few, slice_get_within cs i c at) in
       before_magic (slot_line q i j) (λ e. omega arith)
-      ∙ before_head (slot_line q i j) (λ e. omega arith) (λ e. omega arith) (λ e. omega arith) (λ e. omega arith)
+      ∙ before_head (slot_line q i j) (λ e. omega (arith, (shape q).lines)) (λ e. omega (arith, (shape q).lines)) (λ e. omega arith) (λ e. omega arith)
       ∙ (let zero_i : 0 + i ≡ i = omega arith in
       subst (λ (n : ℕ). line_at (put_lines (slots_puts q 0 cs) with_files) (slot_line q n j) ≡ eight (slot_part (spelling (geometry q) c n) j)) zero_i
-      (slot_there q cs 0 with_files i c j at below (omega (arith, count_files, slot_within q i j (length to) sound slot below fits))))
+      (slot_there q cs 0 with_files i c j at below
+      (subst (λ (n : ℕ). slot_line q n j < length with_files) (sym zero_i) (omega (arith, count_files, slot_within q i j (length to) sound slot below fits)))))
 
   slot_words_there : (i : ℕ) (c : Entry) → slice_get cs i ≡ Some c → slot_words (line_at whole) q i ≡ spelling (geometry q) c i
   unfolding slot_words
@@ -217,7 +219,7 @@ module _ (q : Params) (es cs : List Entry) (from to : Image) (sound : SoundParam
       (λ k below.
       let short : k < (geometry q).words = omega (arith, length-map-range_with_len (slot_word (line_at whole) q i) 0 (geometry q).words) in
       get_or-map-range_with_len (slot_word (line_at whole) q i) 0 (geometry q).words k k 0 short (omega arith)
-      ∙ ap (λ (words : List ℕ). slice_index words (k % 8)) (at_slot i c (k / 8) at (omega arith))
+      ∙ ap (λ (words : List ℕ). slice_index words (k % 8)) (at_slot i c (k / 8) at (omega (arith, (shape q).words)))
       ∙ eight_word (slot_part (spelling (geometry q) c i) (k / 8)) (k % 8) (omega arith)
       ∙ part_word q c i k)
 
@@ -276,9 +278,9 @@ module _ (q : Params) (es cs : List Entry) (from to : Image) (sound : SoundParam
   at_line i e c j at_e at_c below =
       let proper = (history.added i c at_c).proper in
       let high = file_high c j proper below in
-      let low = slot_before q 0 0 sound (omega (arith, history.few, slice_get_within cs i c at_c)) (omega arith) in
-      before_magic (file_line c j) (λ same. omega arith)
-      ∙ before_head (file_line c j) (λ same. omega arith) (λ same. omega arith) (λ same. omega arith) (λ same. omega arith)
+      let low = slot_before q 0 0 sound (omega (arith, history.few, slice_get_within cs i c at_c)) (omega (arith, (shape q).lines)) in
+      before_magic (file_line c j) (λ same. omega (arith, (shape q).lines))
+      ∙ before_head (file_line c j) (λ same. omega (arith, (shape q).lines)) (λ same. omega (arith, (shape q).lines)) (λ same. omega (arith, (shape q).lines)) (λ same. omega (arith, (shape q).lines))
       ∙ put_elsewhere (slots_puts q 0 cs) with_files (file_line c j)
       (slots_elsewhere q cs 0 (file_line c j) (λ k d at l line same.
       omega (arith, same, high, slot_before q k l sound (omega (arith, history.few, slice_get_within cs k d at)) line)))
@@ -304,7 +306,7 @@ module _ (q : Params) (es cs : List Entry) (from to : Image) (sound : SoundParam
         (elsewhere-append l (files_puts (line_at from) es cs) (slots_puts q 0 cs ++ head_puts q (length cs))
         (files_elsewhere (line_at from) es cs l off.files)
         (elsewhere-append l (slots_puts q 0 cs) (head_puts q (length cs))
-        (slots_elsewhere q cs 0 l (λ i c at j below same. off.slots i c at j below (let zero_i : slot_line q (0 + i) j ≡ slot_line q i j = omega arith in same ∙ zero_i)))
+        (slots_elsewhere q cs 0 l (λ i c at j below same. off.slots i c at j below (same ∙ ap (λ (n : ℕ). slot_line q n j) (omega arith))))
         (off.gate, (off.header, (off.first, (off.second, tt))))))
         (off.magic, tt),
   )

@@ -9,7 +9,7 @@ use Rattle.fam_base.specs.declared.entry.Kind.{Kind}
 use Rattle.fam_format.specs.Tree.{replay}
 use Rattle.fam_plan.specs.State.{IsAdded}
 use Rattle.fam_rules.specs.declared.answers.Refused.{Refused}
-use Rattle.fam_rules.specs.declared.answers.Refused.TheVariants.{NotMaster, BadStripe, Exists, NoParent, ParentIsFile, LogFull, NoSpace}
+use Rattle.fam_rules.specs.declared.answers.Refused.TheVariants.{NotMaster, LongPath, BadStripe, Exists, NoParent, ParentIsFile, LogFull, NoSpace}
 use Rattle.fam_rules.specs.Decide.{Wish, decide_wish}
 use Rattle.fam_rules.specs.DecideLaws.{IsAsWished}
 
@@ -46,9 +46,10 @@ copying_from p (e ∷ more) copies = copied_or copies (copy_of p copies e) (λ c
 abbrev pub copying : Params → List Entry → Copying
 copying p list = copying_from p list []
 
--- a refusal for want of slots or of room
+-- a refusal for want of slots or of room, for the path or for the bytes
 abbrev pub IsWantOfRoom : Refused → Type 0
 IsWantOfRoom (NotMaster me master) = ⊥
+IsWantOfRoom (LongPath limit) = ⊤
 IsWantOfRoom BadStripe = ⊥
 IsWantOfRoom (Exists kind) = ⊥
 IsWantOfRoom NoParent = ⊥

@@ -5,7 +5,7 @@ use Rattle.fam_base.specs.declared.entry.Entry.{Entry}
 use Rattle.fam_base.specs.Image.{Image, line_at}
 use Rattle.fam_format.specs.declared.faults.SuperFault.TheVariants as super
 use Rattle.fam_format.specs.Layout.{slots_of}
-use Rattle.fam_format.specs.Params.{is_log_length, is_unit}
+use Rattle.fam_format.specs.Params.{is_format, is_log_length, is_unit}
 use Rattle.fam_format.specs.Reading.{Reading, NoSuperblock, Sound, reading}
 use Rattle.fam_media.specs.Causes.{Rose}
 use Rattle.fam_media.specs.Outside.{IfModelled}
@@ -17,12 +17,13 @@ use Rattle.fam_dup.specs.Lines.{AreCut, IsOffCopy, bytes_in, copy_puts}
 use Rattle.fam_dup.specs.declared.fault.DupFault.{DupFault}
 use Rattle.fam_dup.specs.declared.fault.DupFault.TheVariants as fault
 
--- parameters that are asked for on a device of so many lines: a unit, a log of such units, and the slots and the bytes
+-- parameters that are asked for on a device of so many lines: a format, a unit, a log of such units, and the slots and the bytes
 -- that follow from these
 pub record AreAsked (p : Params) (lines : ℕ) : Type 0 where
+  pub format : IsTrue (is_format p.format)
   pub unit : IsTrue (is_unit p.unit)
   pub log_length : IsTrue (is_log_length p.unit p.log_length)
-  pub slots : p.slots ≡ slots_of p.log_length
+  pub slots : p.slots ≡ slots_of p.format p.log_length
   pub device : p.device ≡ line_bytes * lines
 
 -- TO reads as the copies, each file has the bytes of its entry, and lines that hold no part of the copy are as before

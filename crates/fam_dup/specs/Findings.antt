@@ -63,8 +63,9 @@ finding from to p force =
     if nat_lt (length from) least_lines then SmallFrom (length from)
     else from_or (reading from) (λ entries. to_or to p force (copies_or entries (copying p entries)))
 
--- a want of slots or of room, among the refusals of a decision
+-- a want of slots or of room, for the path or for the bytes, among the refusals of a decision
 abbrev pub refused_of : DupRefusal → Refused
+refused_of (refusal.LongPath limit) = refused.LongPath limit
 refused_of (refusal.LogFull slots) = refused.LogFull slots
 refused_of (refusal.NoSpace units) = refused.NoSpace units
 

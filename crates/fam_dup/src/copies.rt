@@ -44,12 +44,13 @@ fn command(entry: &Entry) -> Cmd
     }
 }
 
-/// A refusal for want of slots or of room.
+/// A refusal for want of slots or of room, for the path or for the bytes.
 fn refusal_of(refused: Refused) -> DupRefusal
     requires { IsWantOfRoom refused }
     ensures { refused_of result ≡ refused }
 {
     match refused {
+        Refused::LongPath(limit) => DupRefusal::LongPath(limit),
         Refused::LogFull(slots) => DupRefusal::LogFull(slots),
         Refused::NoSpace(units) => DupRefusal::NoSpace(units),
         Refused::NotMaster { .. }

@@ -10,6 +10,8 @@ use uuid::Uuid;
 /// Why an entry has no copy.
 #[derive(Clone, Copy, Debug, PartialEq, Eq)]
 pub enum DupRefusal {
+    /// The path has more bytes than so many, for which a slot of TO's format has room.
+    LongPath(u64),
     /// The log has room for so many entries, and the copies before this one fill it.
     LogFull(u64),
     /// There is no room for so many units in a row.

@@ -1,9 +1,9 @@
 //! FROM, read up to its last entry.
 
-ghost use Rattle.std.specs.Prelude.{◌≡◌, ◌+◌, ◌*◌, ◌≤◌, ◌<◌, [], ℕ, suc, IfErr, IfOk, OnErr, OnOk, List, length, slice_index};
+ghost use Rattle.std.specs.Prelude.{◌≡◌, ◌+◌, ◌*◌, ◌≤◌, ◌<◌, [], ℕ, suc, IfErr, IfOk, OnErr, OnOk, List, length, slice_index, take};
 ghost use Rattle.fam_base.specs.declared.entry.Entry.{Entry as EntryValue};
 ghost use Rattle.fam_base.specs.Image.{line_at};
-ghost use Rattle.fam_format.specs.Layout.{least_lines, log_line};
+ghost use Rattle.fam_format.specs.Layout.{geometry, least_lines, log_line};
 ghost use Rattle.fam_format.specs.Log.{log_fault};
 ghost use Rattle.fam_format.specs.Params.{SoundParams};
 ghost use Rattle.fam_format.specs.Reading.{reading, slot_words, super_in};
@@ -20,7 +20,7 @@ use crate::lines::{FailedAt, read_line, superblock};
 use fam_base::{Line, LineNo, Params};
 use fam_entry::read_entry;
 use fam_format::{
-    GATE_LINE, LINE_WORDS, LOG_LINE, LogFault, Reason, SLOT_LINES, SLOT_WORDS, SuperFault,
+    GATE_LINE, LINE_WORDS, LOG_LINE, LogFault, MOST_SLOT_WORDS, Reason, SuperFault, shape_of,
 };
 use fam_media::Media;
 use fam_plan::{AddFault, Plan};
@@ -138,8 +138,8 @@ fn read_count<M: Media>(from: &mut M, params: &Params) -> Result<u64, DupFault>
 }
 
 /// Puts the words of a line into those of its slot.
-fn put_words(slot: &mut [u64; SLOT_WORDS], line: u64, words: &Line)
-    requires { line < SLOT_LINES }
+fn put_words(slot: &mut [u64; MOST_SLOT_WORDS], line: u64, words: &Line)
+    requires { LINE_WORDS * line + LINE_WORDS ≤ MOST_SLOT_WORDS }
     ensures here { (k : ℕ) → k < LINE_WORDS → slice_index slot.new (LINE_WORDS * line + k) ≡ slice_index words.now k }
     ensures before { (k : ℕ) → k < LINE_WORDS * line → slice_index slot.new k ≡ slice_index slot.old k }
 {
@@ -148,24 +148,24 @@ fn put_words(slot: &mut [u64; SLOT_WORDS], line: u64, words: &Line)
     }
 }
 
-/// The words of one of FROM's slots.
+/// The words of one of FROM's slots, in front of others.
 fn read_words<M: Media>(
     from: &mut M,
     params: &Params,
     slot: u64,
-) -> Result<[u64; SLOT_WORDS], DupFault>
+) -> Result<[u64; MOST_SLOT_WORDS], DupFault>
     requires sound { SoundParams params.now }
     requires device { params.now.device ≤ line_bytes * M.size from.old }
     requires slot { slot < params.now.slots }
-    ensures words { IfOk result (λ words. IfModelled (M.state from.old).image (λ image. words ≡ slot_words (line_at image) params.now slot)) }
+    ensures words { IfOk result (λ words. IfModelled (M.state from.old).image (λ image. take (geometry params.now).words words ≡ slot_words (line_at image) params.now slot)) }
     ensures failed { IfErr result (λ fault. class_of fault ≡ FailsFrom) }
     ensures cause { IfErr result (λ fault. IsCausedByFrom (M.state from.old).faults (M.state from.new).faults (class_of fault)) }
     ensures line { IfErr result (λ fault. NamesLine (M.size from.old) 0 fault) }
     ensures same { (M.state from.new).image ≡ (M.state from.old).image }
     ensures steady { IsSteady M.size M.state from.old from.new }
 {
-    let mut words = [0; SLOT_WORDS];
-    'lines: for line in 0..SLOT_LINES {
+    let mut words = [0; MOST_SLOT_WORDS];
+    'lines: for line in 0..shape_of(params.format).lines {
         let part = read_from(from, line_of_slot(params, slot, line))?;
         put_words(&mut words, line, &part);
     }
@@ -192,7 +192,8 @@ fn read_slot<M: Media>(from: &mut M, plan: &mut Plan, seq: u64) -> Result<(), Du
     plan.each_entry_joins();
     let params = *plan.params();
     let words = read_words(from, &params, seq)?;
-    let entry = match read_entry(&words, seq, &params) {
+    let count = shape_of(params.format).words;
+    let entry = match read_entry(&words[..count], seq, &params) {
         Ok(entry) => entry,
         Err(reason) => return Err(DupFault::BadEntry { seq, reason }),
     };

@@ -20,7 +20,7 @@ use crate::files::copy_files;
 use crate::lines::{FailedAt, are_words, write_line};
 use fam_base::{Entry, Line, LineNo, Params};
 use fam_entry::{spell, spell_log};
-use fam_format::{GATE_LINE, LINE_WORDS, LOG_LINE, SLOT_LINES, SLOT_WORDS};
+use fam_format::{GATE_LINE, LINE_WORDS, LOG_LINE, shape_of};
 use fam_media::Media;
 use fam_plan::Plan;
 use fam_replay::line_of_slot;
@@ -41,8 +41,8 @@ fn write_to<N: Media>(to: &mut N, line: LineNo, words: &Line) -> Result<(), DupF
 }
 
 /// Line `j` of the words of a slot.
-fn part_of(words: &[u64; SLOT_WORDS], j: u64) -> Line
-    requires { j < SLOT_LINES }
+fn part_of(words: &[u64], j: u64) -> Line
+    requires { LINE_WORDS * j + LINE_WORDS ≤ length words.now }
     ensures { result ≡ slot_part words.now j }
 {
     let first = LINE_WORDS * j as usize;
@@ -61,9 +61,9 @@ fn write_slot<N: Media>(to: &mut N, params: &Params, seq: u64, copy: &Entry) -> 
     ensures line { IfErr result (λ fault. NamesLine 0 (N.size to.old) fault) }
     ensures steady { IsSteady N.size N.state to.old to.new }
 {
-    let words = spell(copy, seq);
-    'lines: for j in 0..SLOT_LINES {
-        write_to(to, line_of_slot(params, seq, j), &part_of(&words, j))?;
+    let slot = spell(copy, seq, params.format);
+    'lines: for j in 0..shape_of(params.format).lines {
+        write_to(to, line_of_slot(params, seq, j), &part_of(slot.words(), j))?;
     }
     Ok(())
 }

@@ -1,5 +1,6 @@
 -- A field that a path's bytes are put into, eight at a time.
-use Rattle.std.proofs.Common.{◌≡◌, ℕ, zero, suc, ◌+◌, ◌-◌, ◌*◌, ◌/◌, ◌%◌, ◌<◌, ◌≤◌, true, false, nat_lt, List, ◌∷◌, ◌++◌, length, map, get_or, slice_index, take, drop, replicate, Some, None, length-append, ◌⊎◌, inl, inr, refl, sym, ap, ◌∙◌, arith}
+use Rattle.std.specs.Prelude.{if◌then◌else◌}
+use Rattle.std.proofs.Common.{◌≡◌, ℕ, zero, suc, ◌+◌, ◌-◌, ◌*◌, ◌/◌, ◌%◌, ◌<◌, ◌≤◌, ◌==◌, Bool, true, false, nat_lt, nat_le, List, ◌∷◌, ◌++◌, length, map, get_or, slice_index, take, drop, replicate, Some, None, length-append, ◌⊎◌, inl, inr, refl, sym, ap, ◌∙◌, arith}
 use Rattle.std.specs.List.{range_with_len}
 use Rattle.std.specs.Int.{to_le_bytes, w64}
 use Rattle.std.proofs.lemmas.Bool.{cases_lt}
@@ -10,20 +11,20 @@ use borrow.Rule.Slice.PartMut.{put_mid}
 use Rattle.fam_base.specs.Image.{byte_of}
 use Rattle.fam_base.specs.Paths.{is_path, IsPathField}
 use Rattle.fam_format.specs.declared.faults.Reason.TheVariants.{BadPath}
-use Rattle.fam_format.specs.Layout.{first_format}
+use Rattle.fam_format.specs.Layout.{Geometry}
 use Rattle.fam_format.specs.Slot.{path_word, path_of, path_fault}
 use Rattle.fam_format.specs.Words.{byte_from, bytes_from}
-use Rattle.fam_format.proofs.WordRounds.{le_byte}
+use Rattle.fam_format.proofs.WordRounds.{le_byte, length_of_bytes}
 use Rattle.fam_entry.proofs.Filling.{filled_bytes}
 
-module _ (a n m : ℕ) (xs ys : List ℕ) (long : length xs ≡ 168) (within : a + m ≤ 168) (size : n ≡ m) (count : length ys ≡ m) where
+module _ (a n m : ℕ) (xs ys : List ℕ) (long : length xs ≡ 512) (within : a + m ≤ 512) (size : n ≡ m) (count : length ys ≡ m) where
   put_size : put_mid a n xs ys ≡ put_mid a m xs ys
   put_size = ap (λ (k : ℕ). put_mid a k xs ys) size
 
   -- as many bytes as before
-  pub put_length : length (put_mid a n xs ys) ≡ 168
+  pub put_length : length (put_mid a n xs ys) ≡ 512
   put_length =
-      let all : length (put_mid a m xs ys) ≡ 168 =
+      let all : length (put_mid a m xs ys) ≡ 512 =
       omega (arith, length-append (take a xs) (ys ++ drop m (drop a xs)), length-append ys (drop m (drop a xs)), length-take-le a xs (omega arith), length-drop m (drop a xs), length-drop a xs) in
       ap length put_size ∙ all
 
@@ -70,37 +71,44 @@ same_map zero a = refl
 same_map (suc n) a = ap (λ (l : List ℕ). 0 ∷ l) (same_map n (a + 1))
 
 -- zeros behind the bytes
-zeros_behind : (bytes : List ℕ) (len : ℕ) → len ≤ 168 → length bytes ≡ 168 → ((k : ℕ) → len ≤ k → get_or bytes k 0 ≡ 0) → drop len bytes ≡ replicate (168 - len) 0
+zeros_behind : (bytes : List ℕ) (len : ℕ) → len ≤ 512 → length bytes ≡ 512 → ((k : ℕ) → len ≤ k → get_or bytes k 0 ≡ 0) → drop len bytes ≡ replicate (512 - len) 0
 zeros_behind bytes len few long zeros =
-    fill_by_all (λ _. 0) (drop len bytes) (168 - len) 0 (omega (arith, length-drop len bytes)) (λ k below. get_or-drop len bytes k 0 ∙ zeros (len + k) (omega arith))
-    ∙ same_map (168 - len) 0
+    fill_by_all (λ _. 0) (drop len bytes) (512 - len) 0 (omega (arith, length-drop len bytes)) (λ k below. get_or-drop len bytes k 0 ∙ zeros (len + k) (omega arith))
+    ∙ same_map (512 - len) 0
 
 -- a field whose first bytes are a path, in front of zeros
-pub path_field : (words bytes : List ℕ) (len : ℕ) → len ≤ 168 → length bytes ≡ 168 → ((k : ℕ) → k < len → get_or bytes k 0 ≡ byte_from path_word words k) → ((k : ℕ) → len ≤ k → get_or bytes k 0 ≡ 0)
+pub path_field : (words bytes : List ℕ) (len : ℕ) → len ≤ 512 → length bytes ≡ 512 → ((k : ℕ) → k < len → get_or bytes k 0 ≡ byte_from path_word words k) → ((k : ℕ) → len ≤ k → get_or bytes k 0 ≡ 0)
     → is_path (take len bytes) ≡ true → IsPathField bytes len
 path_field words bytes len few long each zeros path =
     let count : length (take len bytes) ≡ len = length-take-le len bytes (omega arith) in
     record {
       path = path;
       count = count;
-      zeros = sym (take-append-drop len bytes) ∙ ap (λ (l : List ℕ). take len bytes ++ l) (zeros_behind bytes len few long zeros ∙ ap (λ (n : ℕ). replicate (168 - n) 0) (sym count));
+      zeros = sym (take-append-drop len bytes) ∙ ap (λ (l : List ℕ). take len bytes ++ l) (zeros_behind bytes len few long zeros ∙ ap (λ (n : ℕ). replicate (512 - n) 0) (sym count));
     }
 
 -- what is in the field is the path of the words
-pub path_read : (words bytes : List ℕ) (len : ℕ) → slice_index words 6 ≡ len → len ≤ 168 → length bytes ≡ 168 → ((k : ℕ) → k < len → get_or bytes k 0 ≡ byte_from path_word words k) → take len bytes ≡ path_of words
+pub path_read : (words bytes : List ℕ) (len : ℕ) → slice_index words 6 ≡ len → len ≤ 512 → length bytes ≡ 512 → ((k : ℕ) → k < len → get_or bytes k 0 ≡ byte_from path_word words k) → take len bytes ≡ path_of words
 path_read words bytes len is few long each =
     filled_bytes path_word words bytes len (omega arith) each ∙ ap (λ (n : ℕ). bytes_from path_word words n) (sym is)
 
-module _ (words : List ℕ) (few : slice_index words 6 ≤ 168) where
-  not_long : nat_lt 168 (slice_index words 6) ≡ false
+-- of a length that slots of this shape allow
+module _ (g : Geometry) (words : List ℕ) (few : slice_index words 6 ≤ g.path_limit) where
+  not_long : nat_lt g.path_limit (slice_index words 6) ≡ false
   not_long = grind (arith, nat_tests)
 
   -- a path, and no path
-  pub no_path_fault : is_path (path_of words) ≡ true → path_fault first_format words ≡ None
+  pub no_path_fault : is_path (path_of words) ≡ true → path_fault g words ≡ None
   no_path_fault path = rw (not_long, path) refl
 
-  pub bad_path : is_path (path_of words) ≡ false → path_fault first_format words ≡ Some BadPath
+  pub bad_path : is_path (path_of words) ≡ false → path_fault g words ≡ Some BadPath
   bad_path none = rw (not_long, none) refl
+
+-- longer than they allow
+pub too_long : (g : Geometry) (words : List ℕ) → g.path_limit < slice_index words 6 → path_fault g words ≡ Some BadPath
+too_long g words over =
+    let long : nat_lt g.path_limit (slice_index words 6) ≡ true = grind (arith, nat_tests) in
+    rw long refl
 
 -- a field at first
 pub zero_at : (n k : ℕ) → get_or {A = ℕ} (replicate n 0) k 0 ≡ 0

@@ -1,17 +1,16 @@
 //! The fields that the words of a slot tell, whatever its checksum and its unused words are.
 
-ghost use Rattle.std.specs.Prelude.{◌≡◌, ◌*◌, ◌<◌, ◌≤◌, ◌^◌, ℕ, slice_index, OnOk};
-ghost use Rattle.fam_format.specs.Layout.{first_format};
+ghost use Rattle.std.specs.Prelude.{◌≡◌, ◌+◌, ◌*◌, ◌<◌, ◌≤◌, ◌^◌, ℕ, length, slice_index, OnOk};
+ghost use Rattle.fam_format.specs.Layout.{Geometry};
 ghost use Rattle.fam_format.specs.Words.{byte_from};
 ghost use Rattle.fam_format.specs.Slot as slots;
 ghost use Rattle.fam_entry.specs.Tests.{HasFields, HasPath, NamesFault};
 
 use crate::places::{
     CHUNK_WORD, COUNT_WORD, EMPTY_MAP, EXTENT_LIMIT, EXTENTS_WORD, FILE_KIND, GID_WORD, KIND_WORD,
-    MAP_WORD, MODE_WORD, PATH_LENGTH_WORD, PATH_LIMIT, PATH_WORD, SIMPLE_MAP, SIZE_WORD,
-    SLOT_WORDS, UID_WORD,
+    MAP_WORD, MODE_WORD, PATH_LENGTH_WORD, PATH_WORD, SIMPLE_MAP, SIZE_WORD, UID_WORD,
 };
-use fam_base::{Entry, Extent, Extents, Kind, MapKind, Path};
+use fam_base::{Entry, Extent, Extents, Kind, MapKind, PATH_LIMIT, Path};
 use fam_format::Reason;
 
 fn kind_of(word: u64) -> Kind
@@ -34,8 +33,9 @@ fn map_of(word: u64, chunk: u64) -> MapKind
     }
 }
 
-fn extents_of(words: &[u64; SLOT_WORDS], count: usize) -> Extents
-    requires { count ≤ EXTENT_LIMIT }
+fn extents_of(words: &[u64], count: usize) -> Extents
+    requires long { slots.path_word ≤ length words.now }
+    requires few { count ≤ EXTENT_LIMIT }
     ensures { result ≡ slots.extents_of words.now count }
 {
     let mut extents = Extents::new();
@@ -49,8 +49,9 @@ fn extents_of(words: &[u64; SLOT_WORDS], count: usize) -> Extents
 }
 
 /// Puts so many whole words of the path into its field.
-fn put_words(words: &[u64; SLOT_WORDS], count: usize, field: &mut [u8; PATH_LIMIT])
-    requires { count ≤ 21 }
+fn put_words(words: &[u64], count: usize, field: &mut [u8; PATH_LIMIT])
+    requires few { 8 * count ≤ PATH_LIMIT }
+    requires room { slots.path_word + count ≤ length words.now }
     ensures bytes { (k : ℕ) → k < 8 * count → slice_index field.new k ≡ byte_from slots.path_word words.now k }
     ensures behind { (k : ℕ) → 8 * count ≤ k → slice_index field.new k ≡ slice_index field.old k }
 {
@@ -61,8 +62,9 @@ fn put_words(words: &[u64; SLOT_WORDS], count: usize, field: &mut [u8; PATH_LIMI
 }
 
 /// Puts the bytes of the path into a field of zeros.
-fn put_path(words: &[u64; SLOT_WORDS], len: usize, field: &mut [u8; PATH_LIMIT])
+fn put_path(words: &[u64], len: usize, field: &mut [u8; PATH_LIMIT])
     requires few { len ≤ PATH_LIMIT }
+    requires room { 8 * slots.path_word + len + 8 ≤ 8 * length words.now }
     requires empty { (k : ℕ) → slice_index field.old k ≡ 0 }
     ensures bytes { (k : ℕ) → k < len → slice_index field.new k ≡ byte_from slots.path_word words.now k }
     ensures behind { (k : ℕ) → len ≤ k → slice_index field.new k ≡ 0 }
@@ -73,17 +75,20 @@ fn put_path(words: &[u64; SLOT_WORDS], len: usize, field: &mut [u8; PATH_LIMIT])
     field[whole..len].copy_from_slice(&bytes[..len - whole]);
 }
 
-/// Whether the length is that of a path and the bytes are one, which are put into a field of zeros.
+/// Whether the length is within the limit of the format and the bytes are a path, which are put into a field of zeros.
 pub(crate) fn check_path(
-    words: &[u64; SLOT_WORDS],
+    words: &[u64],
+    limit: usize,
     field: &mut [u8; PATH_LIMIT],
 ) -> Result<(), Reason>
-    requires { (k : ℕ) → slice_index field.old k ≡ 0 }
-    ensures first { NamesFault result (slots.path_fault first_format words.now) }
+    requires few { limit ≤ PATH_LIMIT }
+    requires room { 8 * slots.path_word + limit + 8 ≤ 8 * length words.now }
+    requires empty { (k : ℕ) → slice_index field.old k ≡ 0 }
+    ensures first { (g : Geometry) → g.path_limit ≡ limit → NamesFault result (slots.path_fault g words.now) }
     ensures field { OnOk result (HasPath words.now field.new) }
 {
     let len = words[PATH_LENGTH_WORD];
-    if len > PATH_LIMIT as u64 {
+    if len > limit as u64 {
         return Err(Reason::BadPath);
     }
     put_path(words, len as usize, field);
@@ -96,8 +101,9 @@ pub(crate) fn check_path(
 
 /// The entry of a slot whose words were checked, and whose path lies in a field: the one that these words tell.
 #[tactic(auto, unfolding(fam_format::specs::Slot::fields_of))]
-pub fn checked_entry(words: &[u64; SLOT_WORDS], field: &[u8; PATH_LIMIT]) -> Entry
-    requires { HasFields words.now field.now }
+pub fn checked_entry(words: &[u64], field: &[u8; PATH_LIMIT]) -> Entry
+    requires long { 64 ≤ length words.now }
+    requires fields { HasFields words.now field.now }
     ensures { result ≡ slots.fields_of words.now }
 {
     Entry {

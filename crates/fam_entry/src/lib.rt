@@ -17,6 +17,5 @@ mod slot;
 pub use fam_format::{LogFault, LogField, Reason};
 pub use fields::checked_entry;
 pub use log::{read_log, spell_log};
-pub use places::SLOT_WORDS;
 pub use reading::{check_entry, read_entry};
-pub use slot::spell;
+pub use slot::{Slot, spell};

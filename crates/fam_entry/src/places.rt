@@ -1,7 +1,5 @@
 //! Where a slot and the log's header have their words, and the numbers that stand there for kinds and limits.
 
-pub use fam_format::SLOT_WORDS;
-
 /// The slot's own number.
 pub(crate) const SEQ_WORD: usize = 0;
 
@@ -20,7 +18,7 @@ pub(crate) const UID_WORD: usize = 4;
 /// The group's number, at most `ID_LIMIT`.
 pub(crate) const GID_WORD: usize = 5;
 
-/// The bytes of the path, at most `PATH_LIMIT`.
+/// The bytes of the path, at most as many as the format allows.
 pub(crate) const PATH_LENGTH_WORD: usize = 6;
 
 /// `EMPTY_MAP`, `SIMPLE_MAP` or `STRIPED_MAP`.
@@ -38,9 +36,6 @@ pub(crate) const EXTENTS_WORD: usize = 10;
 /// The first word of the path.
 pub(crate) const PATH_WORD: usize = 42;
 
-/// The checksum of a slot, behind all other words.
-pub(crate) const CRC_WORD: usize = 63;
-
 /// The checksum of the log's header, behind all other words.
 pub(crate) const HEADER_CRC_WORD: usize = 7;
 
@@ -53,9 +48,6 @@ pub(crate) const EMPTY_MAP: u64 = 0;
 pub(crate) const SIMPLE_MAP: u64 = 1;
 
 pub(crate) const STRIPED_MAP: u64 = 2;
-
-/// The most bytes of a path.
-pub(crate) const PATH_LIMIT: usize = 168;
 
 /// The most extents of a file.
 pub(crate) const EXTENT_LIMIT: u64 = 16;

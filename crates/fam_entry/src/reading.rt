@@ -1,9 +1,9 @@
 //! Reading of a slot: a test for each reason, in the order of the reasons. The first that fails decides.
 
-ghost use Rattle.std.specs.Prelude.{◌≡◌, ◌<◌, ◌≤◌, ◌^◌, ℕ, MatchResult, IfOk, OnOk, Ok, Err, length, slice_index};
+ghost use Rattle.std.specs.Prelude.{◌≡◌, ◌+◌, ◌<◌, ◌≤◌, ◌^◌, ℕ, MatchResult, IfOk, OnOk, Ok, Err, length, slice_index};
 ghost use Rattle.std.specs.Bool.{OnTrue};
 ghost use Rattle.std.specs.List.{list_any, range_with_len};
-ghost use Rattle.fam_format.specs.Layout.{first_format};
+ghost use Rattle.fam_format.specs.Layout.{Geometry, geometry};
 ghost use Rattle.fam_format.specs.Params.{SoundParams};
 ghost use Rattle.fam_format.specs.Slot as slots;
 ghost use Rattle.fam_format.specs.SuperLaws.{IsWords};
@@ -13,18 +13,20 @@ ghost use Rattle.fam_entry.specs.Tests.{HasFields, NamesFault, read_as};
 use crate::fields::{check_path, checked_entry};
 use crate::map_rule::is_map;
 use crate::places::{
-    CHUNK_WORD, COUNT_WORD, CRC_WORD, DIRECTORY_KIND, EMPTY_MAP, EXTENT_LIMIT, EXTENTS_WORD,
-    FILE_KIND, GID_WORD, ID_LIMIT, KIND_WORD, MAP_WORD, MODE_LIMIT, MODE_WORD, PATH_LENGTH_WORD,
-    PATH_LIMIT, PATH_WORD, SEQ_WORD, SIZE_WORD, SLOT_WORDS, STRIPED_MAP, UID_WORD,
+    CHUNK_WORD, COUNT_WORD, DIRECTORY_KIND, EMPTY_MAP, EXTENT_LIMIT, EXTENTS_WORD, FILE_KIND,
+    GID_WORD, ID_LIMIT, KIND_WORD, MAP_WORD, MODE_LIMIT, MODE_WORD, PATH_LENGTH_WORD, PATH_WORD,
+    SEQ_WORD, SIZE_WORD, STRIPED_MAP, UID_WORD,
 };
 use crate::slot::checksum;
-use fam_base::{Entry, Params};
-use fam_format::{Reason, byte_of};
+use fam_base::{Entry, PATH_LIMIT, Params};
+use fam_format::{Reason, byte_of, shape_of};
 
-fn check_crc(words: &[u64; SLOT_WORDS]) -> Result<(), Reason>
-    ensures { NamesFault result (slots.crc_fault first_format words.now) }
+fn check_crc(words: &[u64]) -> Result<(), Reason>
+    requires { 64 ≤ length words.now }
+    ensures first { (g : Geometry) → length words.now ≡ g.words → NamesFault result (slots.crc_fault g words.now) }
+    ensures words { IsWords (length words.now) words.now }
 {
-    let found = words[CRC_WORD];
+    let found = words[words.len() - 1];
     let wanted = checksum(words);
     if found == wanted {
         return Ok(());
@@ -32,7 +34,8 @@ fn check_crc(words: &[u64; SLOT_WORDS]) -> Result<(), Reason>
     Err(Reason::Crc { found, wanted })
 }
 
-fn check_seq(words: &[u64; SLOT_WORDS], wanted: u64) -> Result<(), Reason>
+fn check_seq(words: &[u64], wanted: u64) -> Result<(), Reason>
+    requires { 64 ≤ length words.now }
     ensures { NamesFault result (slots.seq_fault words.now wanted) }
 {
     let found = words[SEQ_WORD];
@@ -42,7 +45,8 @@ fn check_seq(words: &[u64; SLOT_WORDS], wanted: u64) -> Result<(), Reason>
     Err(Reason::Seq { found, wanted })
 }
 
-fn check_kind(words: &[u64; SLOT_WORDS]) -> Result<(), Reason>
+fn check_kind(words: &[u64]) -> Result<(), Reason>
+    requires { 64 ≤ length words.now }
     ensures { NamesFault result (slots.kind_fault words.now) }
 {
     match words[KIND_WORD] {
@@ -51,7 +55,8 @@ fn check_kind(words: &[u64; SLOT_WORDS]) -> Result<(), Reason>
     }
 }
 
-fn check_attributes(words: &[u64; SLOT_WORDS]) -> Result<(), Reason>
+fn check_attributes(words: &[u64]) -> Result<(), Reason>
+    requires { 64 ≤ length words.now }
     ensures first { NamesFault result (slots.attribute_fault words.now) }
     ensures mode { OnOk result (slice_index words.now MODE_WORD < 2 ^ 32) }
     ensures uid { OnOk result (slice_index words.now UID_WORD < 2 ^ 32) }
@@ -69,7 +74,8 @@ fn check_attributes(words: &[u64; SLOT_WORDS]) -> Result<(), Reason>
     Ok(())
 }
 
-fn are_map_words(words: &[u64; SLOT_WORDS]) -> bool
+fn are_map_words(words: &[u64]) -> bool
+    requires { 64 ≤ length words.now }
     ensures value { result ≡ slots.is_map_words words.now }
     ensures few { OnTrue result (slice_index words.now COUNT_WORD ≤ EXTENT_LIMIT) }
 {
@@ -85,9 +91,9 @@ fn are_map_words(words: &[u64; SLOT_WORDS]) -> bool
     words[CHUNK_WORD] == 0
 }
 
-fn is_stray_byte(words: &[u64; SLOT_WORDS], i: usize, b: usize) -> bool
+fn is_stray_byte(words: &[u64], i: usize, b: usize) -> bool
     requires from { slots.path_word ≤ i }
-    requires below { i < CRC_WORD }
+    requires below { i + 1 < length words.now }
     requires byte { b < 8 }
     ensures { result ≡ slots.is_stray_byte words.now i b }
 {
@@ -95,9 +101,9 @@ fn is_stray_byte(words: &[u64; SLOT_WORDS], i: usize, b: usize) -> bool
     words[PATH_LENGTH_WORD] <= place as u64 && byte_of(words[i], b) != 0
 }
 
-fn has_stray_byte(words: &[u64; SLOT_WORDS], i: usize) -> bool
+fn has_stray_byte(words: &[u64], i: usize) -> bool
     requires from { slots.path_word ≤ i }
-    requires below { i < CRC_WORD }
+    requires below { i + 1 < length words.now }
     ensures { result ≡ list_any (slots.is_stray_byte words.now i) (range_with_len 0 8) }
 {
     let from = 8 * (i - PATH_WORD) as u64;
@@ -119,9 +125,9 @@ fn has_stray_byte(words: &[u64; SLOT_WORDS], i: usize) -> bool
 
 /// Whether a word is one. Most words are 0, and those are none.
 #[inline(always)]
-fn is_stray(words: &[u64; SLOT_WORDS], i: usize) -> bool
+fn is_stray(words: &[u64], i: usize) -> bool
     requires from { slots.extents_word ≤ i }
-    requires below { i < CRC_WORD }
+    requires below { i + 1 < length words.now }
     ensures { result ≡ slots.is_stray words.now i }
 {
     let word = words[i];
@@ -132,9 +138,9 @@ fn is_stray(words: &[u64; SLOT_WORDS], i: usize) -> bool
 }
 
 /// Whether a word is one, by its place.
-fn is_stray_there(words: &[u64; SLOT_WORDS], i: usize) -> bool
+fn is_stray_there(words: &[u64], i: usize) -> bool
     requires from { slots.extents_word ≤ i }
-    requires below { i < CRC_WORD }
+    requires below { i + 1 < length words.now }
     ensures { result ≡ slots.is_stray words.now i }
 {
     if i < PATH_WORD {
@@ -187,14 +193,16 @@ fn begin_with_zeros(words: &[u64]) -> bool
     }
 }
 
-fn check_rest(words: &[u64; SLOT_WORDS]) -> Result<(), Reason>
-    ensures { NamesFault result (slots.rest_fault first_format words.now) }
+fn check_rest(words: &[u64]) -> Result<(), Reason>
+    requires { 64 ≤ length words.now }
+    ensures { (g : Geometry) → length words.now ≡ g.words → NamesFault result (slots.rest_fault g words.now) }
 {
+    let last = words.len() - 1;
     let mut i = EXTENTS_WORD;
-    while i < CRC_WORD {
-        if begin_with_sixteen(&words[i..CRC_WORD]) {
+    while i < last {
+        if begin_with_sixteen(&words[i..last]) {
             i += 16;
-        } else if begin_with_zeros(&words[i..CRC_WORD]) {
+        } else if begin_with_zeros(&words[i..last]) {
             i += 8;
         } else if is_stray(words, i) {
             return Err(Reason::Rest(i as u64));
@@ -206,8 +214,9 @@ fn check_rest(words: &[u64; SLOT_WORDS]) -> Result<(), Reason>
 }
 
 /// Whether the map fits, where its words can be one's. Most entries have none, and that is seen in the words.
-fn fits_map(words: &[u64; SLOT_WORDS], field: &[u8; PATH_LIMIT], params: &Params) -> bool
+fn fits_map(words: &[u64], field: &[u8; PATH_LIMIT], params: &Params) -> bool
     requires sound { SoundParams params.now }
+    requires long { 64 ≤ length words.now }
     requires fields { HasFields words.now field.now }
     ensures { result ≡ slots.is_map params.now (slots.fields_of words.now) }
 {
@@ -220,24 +229,25 @@ fn fits_map(words: &[u64; SLOT_WORDS], field: &[u8; PATH_LIMIT], params: &Params
 /// Whether the words have an entry with this number, whose path is put into a field of zeros.
 #[tactic(auto, unfolding(fam_format::specs::Slot::entry_of))]
 fn check(
-    words: &[u64; SLOT_WORDS],
+    words: &[u64],
     seq: u64,
     params: &Params,
     field: &mut [u8; PATH_LIMIT],
 ) -> Result<(), Reason>
     requires sound { SoundParams params.now }
+    requires count { length words.now ≡ (geometry params.now).words }
     requires empty { (k : ℕ) → slice_index field.old k ≡ 0 }
     ensures value { MatchResult result
         (λ _. slots.entry_of params.now words.now seq ≡ Ok (slots.fields_of words.now))
         (λ reason. slots.entry_of params.now words.now seq ≡ Err reason) }
     ensures fields { OnOk result (HasFields words.now field.new) }
-    ensures words { IsWords SLOT_WORDS words.now }
+    ensures words { IsWords (geometry params.now).words words.now }
 {
     check_crc(words)?;
     check_seq(words, seq)?;
     check_kind(words)?;
     check_attributes(words)?;
-    check_path(words, field)?;
+    check_path(words, shape_of(params.format).path_limit, field)?;
     if !are_map_words(words) {
         return Err(Reason::Map);
     }
@@ -251,12 +261,13 @@ fn check(
 /// field of zeros; `checked_entry` then gives the entry. If they are no such spelling, the first reason against them, in
 /// the order of `Reason`.
 pub fn check_entry(
-    words: &[u64; SLOT_WORDS],
+    words: &[u64],
     seq: u64,
     params: &Params,
     field: &mut [u8; PATH_LIMIT],
 ) -> Result<(), Reason>
     requires sound { SoundParams params.now }
+    requires count { length words.now ≡ (geometry params.now).words }
     requires empty { (k : ℕ) → slice_index field.old k ≡ 0 }
     ensures value { read_as words.now result ≡ slots.entry_of params.now words.now seq }
     ensures proper { OnOk result (slots.Proper params.now (slots.fields_of words.now)) }
@@ -267,15 +278,16 @@ pub fn check_entry(
 
 /// The entry of which the words of slot `seq` are the spelling, where these parameters allow it; if they are no such
 /// spelling, the first reason against them. The reasons come in the order of `Reason`, from `Crc` to `Rest`.
-pub fn read_entry(words: &[u64; SLOT_WORDS], seq: u64, params: &Params) -> Result<Entry, Reason>
-    requires { SoundParams params.now }
+pub fn read_entry(words: &[u64], seq: u64, params: &Params) -> Result<Entry, Reason>
+    requires sound { SoundParams params.now }
+    requires count { length words.now ≡ (geometry params.now).words }
 
     ensures value { result ≡ slots.entry_of params.now words.now seq }
 
     ensures found { IfOk result (λ e.
-        slots.Proper params.now e × (words.now ≡ slots.spelling first_format e seq)) }
+        slots.Proper params.now e × (words.now ≡ slots.spelling (geometry params.now) e seq)) }
     ensures only { (e : Entry) → slots.Proper params.now e
-        → words.now ≡ slots.spelling first_format e seq → result ≡ Ok e }
+        → words.now ≡ slots.spelling (geometry params.now) e seq → result ≡ Ok e }
 {
     let mut field = [0; PATH_LIMIT];
     match check(words, seq, params, &mut field) {

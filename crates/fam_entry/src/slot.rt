@@ -1,18 +1,20 @@
 //! Entries as the words of a slot: one function a field, and `word_of` for the table of the words.
 
-ghost use Rattle.std.specs.Prelude.{◌≡◌, ◌<◌, slice_index_or};
+ghost use Rattle.std.specs.Prelude.{◌≡◌, ◌<◌, ◌≤◌, length, slice_index_or};
 ghost use Rattle.fam_base.specs.ExtentLists.{no_extent};
-ghost use Rattle.fam_format.specs.Layout.{first_format};
+ghost use Rattle.fam_format.specs.Layout as layout;
+ghost use Rattle.fam_format.specs.Layout.{Geometry};
 ghost use Rattle.fam_format.specs.Slot as slots;
 
 use crate::places::{
-    CHUNK_WORD, COUNT_WORD, CRC_WORD, DIRECTORY_KIND, EMPTY_MAP, EXTENTS_WORD, FILE_KIND, GID_WORD,
+    CHUNK_WORD, COUNT_WORD, DIRECTORY_KIND, EMPTY_MAP, EXTENTS_WORD, FILE_KIND, GID_WORD,
     KIND_WORD, MAP_WORD, MODE_WORD, PATH_LENGTH_WORD, PATH_WORD, SEQ_WORD, SIMPLE_MAP, SIZE_WORD,
-    SLOT_WORDS, STRIPED_MAP, UID_WORD,
+    STRIPED_MAP, UID_WORD,
 };
 use fam_base::{Entry, Extent, Extents, Kind, MapKind};
 use fam_crc::crc_words;
-use fam_format::word_of_bytes;
+use fam_format::{MOST_SLOT_WORDS, shape_of, word_of_bytes};
+use std::marker::Model;
 
 /// What stands in the words past the last extent.
 const NO_EXTENT: Extent = Extent {
@@ -70,7 +72,7 @@ fn word_of_chunk(map: MapKind) -> u64
 
 #[tactic(auto, unfolding(fam_format::specs::Slot::slot_word_at))]
 fn word_of(entry: &Entry, seq: u64, i: usize) -> u64
-    requires { i < CRC_WORD }
+    requires { i < MOST_SLOT_WORDS }
     ensures { result ≡ slots.slot_word_at entry.now seq i }
 {
     match i {
@@ -90,21 +92,57 @@ fn word_of(entry: &Entry, seq: u64, i: usize) -> u64
 }
 
 /// What the checksum of these words should be.
-pub(crate) fn checksum(words: &[u64; SLOT_WORDS]) -> u64
-    ensures { result ≡ slots.slot_crc first_format words.now }
+pub(crate) fn checksum(words: &[u64]) -> u64
+    requires { 1 ≤ length words.now }
+    ensures value { (g : Geometry) → length words.now ≡ g.words → result ≡ slots.slot_crc g words.now }
 {
-    crc_words(&words[..CRC_WORD]) as u64
+    crc_words(&words[..words.len() - 1]) as u64
 }
 
-/// The words of the slot that holds entry number `seq`: its fields, zeros in all unused parts, and the checksum.
-#[tactic(auto, unfolding(fam_format::specs::Slot::spelling))]
-pub fn spell(entry: &Entry, seq: u64) -> [u64; SLOT_WORDS]
-    ensures { result ≡ slots.spelling first_format entry.now seq }
+/// The words of a slot.
+///
+/// A contract sees a `Slot` as the list of its words: 64 in the first format, 128 in the second.
+#[derive(Drop)]
+pub struct Slot {
+    words: [u64; MOST_SLOT_WORDS],
+    len: usize,
+}
+
+impl Model for Slot {
+    ghost use Rattle.std.specs.Prelude.{List, ℕ, ◌≤◌, take};
+    ghost use Rattle.fam_format.specs.declared.shape.TheConstants.{MOST_SLOT_WORDS};
+
+    ghost Value = { List ℕ };
+
+    ghost view = { λ s. take s.len s.words };
+
+    ghost invariant = { λ s. s.len ≤ MOST_SLOT_WORDS };
+}
+
+impl Slot {
+    /// The words.
+    pub fn words(&self) -> &[u64]
+        ensures same { result.now ≡ self.now }
+        ensures few { length self.now ≤ MOST_SLOT_WORDS }
+    {
+        &self.words[..self.len]
+    }
+}
+
+/// The words of the slot that holds entry number `seq` in a log of this format: its fields, zeros in all unused parts, and
+/// the checksum.
+pub fn spell(entry: &Entry, seq: u64, format: u64) -> Slot
+    ensures { result ≡ slots.spelling (layout.shape_of format) entry.now seq }
 {
-    let mut words = [0; SLOT_WORDS];
-    for i in 0..CRC_WORD {
+    let shape = shape_of(format);
+    let last = shape.words - 1;
+    let mut words = [0; MOST_SLOT_WORDS];
+    for i in 0..last {
         words[i] = word_of(entry, seq, i);
     }
-    words[CRC_WORD] = checksum(&words);
-    words
+    words[last] = crc_words(&words[..last]) as u64;
+    Slot {
+        words,
+        len: shape.words,
+    }
 }

@@ -16,8 +16,8 @@ use Rattle.fam_world.specs.Answers.{IsUntouched}
 -- by any command that is one, or none. Hosts that are declared, begin, stop, halt or forget never come to the media.
 abbrev pub IsUntouchedBy : {M : Type 0} → Event → ℕ → WorldView → M → M → Type 0
 IsUntouchedBy (event.Host name uuid) lines world before behind = behind ≡ before
-IsUntouchedBy (event.Mkfs name fs unit log force halt) lines world before behind =
-    IsUntouched (Makes name (mkfs_request fs unit log force halt)) lines world before behind
+IsUntouchedBy (event.Mkfs name fs unit log format force halt) lines world before behind =
+    IsUntouched (Makes name (mkfs_request fs unit log format force halt)) lines world before behind
 IsUntouchedBy (event.Begin name what) lines world before behind = behind ≡ before
 IsUntouchedBy (event.Run name what) lines world before behind =
     (cmd : Cmd) → is_mount cmd ≡ mounts what → IsUntouched (Begins name cmd) lines world before behind

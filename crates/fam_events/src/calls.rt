@@ -1,7 +1,8 @@
 //! Calls of the world as parts of events: what was refused is noted, and the run goes on.
 
-ghost use Rattle.std.specs.Prelude.{◌≡◌, length, ℕ, OnErr, Option, Some};
+ghost use Rattle.std.specs.Prelude.{◌≡◌, length, ℕ, IsTrue, OnErr, Option, Some};
 ghost use Rattle.fam_base.specs.Image.{Image};
+ghost use Rattle.fam_format.specs.Params.{is_format};
 ghost use Rattle.fam_journal.specs.Calls.{Declares, Finishes, Halts, Makes, Moves, Stops, Umounts};
 ghost use Rattle.fam_journal.specs.ByWorld.{number_in};
 ghost use Rattle.fam_journal.specs.CallRecords.{FitsMedia, IsUnstoredAt};
@@ -94,6 +95,7 @@ pub(crate) fn make<M: Media>(
 ) -> Result<(), EventFault>
     requires formed { IsFormed world.old }
     requires fits { FitsMedia (M.size media.old) world.old.hosts }
+    requires format { IsTrue (is_format request.format) }
     ensures says { (files : Option Files) (copied : ℕ) → CallSays (Makes name.now request) (world_change M.size M.state
         media.old media.new world.old world.new files copied copied) result }
     ensures untouched { IsUntouched (Makes name.now request) (M.size media.old) world.old media.old media.new }
@@ -103,13 +105,14 @@ pub(crate) fn make<M: Media>(
         fs,
         unit,
         log,
+        format,
         force,
         halt,
     } = request;
     is_uuid(fs);
     match halt {
-        Some(k) => made(world.mkfs_cut(media, name, fs, unit, log, force, k)),
-        None => made(world.mkfs(media, name, fs, unit, log, force)),
+        Some(k) => made(world.mkfs_cut(media, name, fs, unit, log, format, force, k)),
+        None => made(world.mkfs(media, name, fs, unit, log, format, force)),
     }
 }
 

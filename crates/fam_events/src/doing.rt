@@ -114,6 +114,7 @@ pub fn happen<M: Media, S: Shelf>(
             fs,
             unit,
             log,
+            format,
             force,
             halt,
         } => {
@@ -121,13 +122,16 @@ pub fn happen<M: Media, S: Shelf>(
                 fs,
                 unit,
                 log,
+                format,
                 force,
                 halt,
             };
             make(world, media, &name, request)
         }
-        Event::Begin(name, what) => begin(alloc, world, media, shelf, copied, name, what),
-        Event::Run(name, what) => run(alloc, world, media, shelf, copied, name, what),
+        Event::Begin(name, what) => {
+            begin(alloc, world, media, shelf, copied, name, what.into_inner())
+        }
+        Event::Run(name, what) => run(alloc, world, media, shelf, copied, name, what.into_inner()),
         Event::Step(name, count) => step(world, media, &name, count),
         Event::Finish(name) => finish(world, media, &name),
         Event::Stop(name) => stop(world, &name),

@@ -11,6 +11,7 @@ use Rattle.fam_format.specs.Layout.{Geometry, geometry}
 use Rattle.fam_format.specs.Params.{SoundParams}
 use Rattle.fam_format.specs.Slot.{mode_limit, path_word, kind_word, map_word, chunk_word, slot_word_at, spelling, slot_crc, is_map, is_map_words, Proper, path_of, fields_of, crc_fault, seq_fault, kind_fault, attribute_fault, path_fault, map_fault, rest_fault, entry_of}
 use Rattle.fam_format.specs.EntryLaws.{IsInDevice, FitsWords}
+use Rattle.fam_format.proofs.Formats.{IsShape, shape}
 use Rattle.fam_format.proofs.Filling.{length_of_spelling, crc_of_spelling}
 use Rattle.fam_format.proofs.WordRounds.{length_of_bytes}
 use Rattle.fam_format.proofs.RoundTrip.{HasRoom, field_read, path_of_spelling, fields_read}
@@ -91,7 +92,8 @@ pass_of_read p words seq e h =
 pub room_of_proper : (p : Params) (e : Entry) → Proper p e → HasRoom (geometry p) e
 room_of_proper p e h =
     let short : length e.path ≤ (geometry p).path_limit = h.short in
-    record { bytes = path_bytes_fit e.path h.path; path = omega arith; extents = few_extents p e h.map; prefix = omega arith }
+    let is : IsShape (geometry p) = shape p in
+    record { bytes = path_bytes_fit e.path h.path; path = omega (arith, is.path, is.words); extents = few_extents p e h.map; prefix = omega (arith, is.words, is.lines) }
 
 -- The laws.
 
@@ -112,7 +114,7 @@ read_proper p words seq e h =
 pub read_spelled : (p : Params) (words : List ℕ) (seq : ℕ) (e : Entry) → length words ≡ (geometry p).words → ((i : ℕ) → get_or words i 0 < 2 ^ 64) → entry_of p words seq ≡ Ok e → words ≡ spelling (geometry p) e seq
 read_spelled p words seq e long fits h =
     let both = pass_of_read p words seq e h in
-    words_found (geometry p) p words seq (omega arith) long fits both.0 ∙ ap (λ (f : Entry). spelling (geometry p) f seq) both.1
+    words_found (geometry p) p words seq (omega (arith, (shape p).words, (shape p).lines)) long fits both.0 ∙ ap (λ (f : Entry). spelling (geometry p) f seq) both.1
 
 -- the entry and the number of a spelling
 pub entry_of_spelling : (p q : Params) (e f : Entry) (m n : ℕ) → Proper p e → Proper q f → spelling (geometry p) e m ≡ spelling (geometry q) f n → e ≡ f
@@ -139,7 +141,7 @@ proper_fits p e sound proper = fits_words p e sound.unit sound.device proper.map
 
 -- a spelling has the words of a slot
 pub spelling_count : (p : Params) (e : Entry) (seq : ℕ) → length (spelling (geometry p) e seq) ≡ (geometry p).words
-spelling_count p e seq = length_of_spelling (geometry p) e seq (omega arith)
+spelling_count p e seq = length_of_spelling (geometry p) e seq (omega (arith, (shape p).words, (shape p).lines))
 
 -- each of them fits
 pub proper_words_fit : (p : Params) (e : Entry) (seq : ℕ) → SoundParams p → Proper p e → seq < 2 ^ 64 → (i : ℕ) → get_or (spelling (geometry p) e seq) i 0 < 2 ^ 64
@@ -148,8 +150,9 @@ proper_words_fit p e seq sound proper number i =
     let mode : e.mode ≤ mode_limit = proper.mode in
     let uid : e.uid < 2 ^ 32 = proper.uid in
     let gid : e.gid < 2 ^ 32 = proper.gid in
-    spelling_fits (geometry p) e seq i (omega arith) (proper_fits p e sound proper)
-    record { number = number; mode = omega arith; uid = omega arith; gid = omega arith; count = omega arith; path = path_bytes_fit e.path proper.path }
+    let is : IsShape (geometry p) = shape p in
+    spelling_fits (geometry p) e seq i (omega (arith, is.words, is.lines)) (proper_fits p e sound proper)
+    record { number = number; mode = omega arith; uid = omega arith; gid = omega arith; count = omega (arith, is.limit); path = path_bytes_fit e.path proper.path }
 
 -- the extents lie inside
 pub proper_inside : (p : Params) (e : Entry) → Proper p e → All (IsInDevice p) e.extents

@@ -1,5 +1,5 @@
 -- A slot's words as a list that is filled by place, with the checksum behind.
-use Rattle.std.proofs.Common.{◌≡◌, ℕ, suc, ◌+◌, ◌-◌, ◌<◌, ◌≤◌, List, [], ◌∷◌, ◌++◌, length, map, get_or, set, take, drop, inl, inr, sym, ap, ◌∙◌, arith}
+use Rattle.std.proofs.Common.{◌≡◌, ℕ, suc, ◌+◌, ◌-◌, ◌<◌, ◌≤◌, List, [], ◌∷◌, ◌++◌, append_assoc, length, map, get_or, set, take, drop, inl, inr, sym, ap, ◌∙◌, arith}
 use Rattle.std.specs.List.{range_with_len}
 use Rattle.std.proofs.lemmas.Bool.{cases_lt}
 use Rattle.std.proofs.lemmas.List.{set_split, drop_all, get_or-take, length-take-le, get_or_append_left, get_or_at, length_push, take_at, ext_get_or}
@@ -28,6 +28,18 @@ pub spelled : (g : Geometry) (e : Entry) (seq : ℕ) (words : List ℕ) → 0 < 
     set words (g.words - 1) (slot_crc g words) ≡ spelling g e seq
 unfolding spelling
 spelled g e seq words some long each = filled_by (slot_word_at e seq) (λ l. crc32 (bytes_of_words l)) (g.words - 1) words (omega arith) each
+
+-- words whose front is filled by place, and which have the checksum of that front behind it
+pub spelled_in_front : (g : Geometry) (e : Entry) (seq n : ℕ) (words : List ℕ) → g.words ≡ n + 1 → n < length words → ((k : ℕ) → k < n → get_or words k 0 ≡ slot_word_at e seq k) →
+    take g.words (set words n (crc32 (bytes_of_words (take n words)))) ≡ spelling g e seq
+unfolding spelling
+spelled_in_front g e seq n words is long each =
+    let crc : ℕ = crc32 (bytes_of_words (take n words)) in
+    let body : take n words ≡ slot_body g e seq = prefix_of (slot_word_at e seq) n words (omega arith) each ∙ ap (λ (k : ℕ). map (slot_word_at e seq) (range_with_len 0 k)) (let last : n ≡ g.words - 1 = omega arith in last) in
+    let parts : set words n crc ≡ (take n words ++ crc ∷ []) ++ drop (suc n) words = set_split words n crc long ∙ sym (append_assoc (take n words) (crc ∷ []) (drop (suc n) words)) in
+    ap (take g.words) parts
+    ∙ take_at (take n words ++ crc ∷ []) (drop (suc n) words) g.words (omega (arith, is, length_push (take n words) crc, length-take-le n words (omega arith)))
+    ∙ ap (λ (l : List ℕ). l ++ crc32 (bytes_of_words l) ∷ []) body
 
 -- a member of the prefix
 prefix_word : (f : ℕ → ℕ) (n : ℕ) (last : List ℕ) (k : ℕ) → k < n → get_or (map f (range_with_len 0 n) ++ last) k 0 ≡ f k

@@ -1,4 +1,5 @@
 pub mod ByteLemmas
+pub mod Formats
 pub mod Filling
 pub mod PathWords
 pub mod RoundTrip

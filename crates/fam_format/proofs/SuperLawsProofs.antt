@@ -9,7 +9,7 @@ use Rattle.fam_base.specs.declared.entry.Params.{Params}
 use Rattle.fam_crc.specs.Crc.{crc32, bytes_of_words}
 use Rattle.fam_format.specs.Layout.{device_limit, log_offset}
 use Rattle.fam_format.specs.Words.{word_of_bytes, bytes_from, uuid_bytes}
-use Rattle.fam_format.specs.Params.{SoundParams, is_unit, is_log_length, need}
+use Rattle.fam_format.specs.Params.{SoundParams, is_format, is_unit, is_log_length, need}
 use Rattle.fam_format.specs.Stop.{stop}
 use Rattle.fam_format.specs.Super.{magic, magic_fault, crc_fault, version_fault, offset_fault, unit_fault, length_fault, device_fault, small_fault, used_word, rest_fault, super_body, super_words, params_of, super_body_of, super_of}
 use Rattle.fam_format.specs.SuperLaws.{IsSuper, IsWords}
@@ -54,9 +54,9 @@ crc_passes n body len =
 -- What is spelled is read.
 
 -- parameters are their fields
-same_params : (p : Params) (log_length slots unit device : ℕ) (fs master : List ℕ) → log_length ≡ p.log_length → slots ≡ p.slots → unit ≡ p.unit → device ≡ p.device → fs ≡ p.fs
-    → master ≡ p.master → record { log_length = log_length; slots = slots; unit = unit; device = device; fs = fs; master = master } ≡ p
-same_params p l s u d f m el es eu ed ef em = rw (el, es, eu, ed, ef, em) refl
+same_params : (p : Params) (format log_length slots unit device : ℕ) (fs master : List ℕ) → format ≡ p.format → log_length ≡ p.log_length → slots ≡ p.slots → unit ≡ p.unit → device ≡ p.device → fs ≡ p.fs
+    → master ≡ p.master → record { format = format; log_length = log_length; slots = slots; unit = unit; device = device; fs = fs; master = master } ≡ p
+same_params p v l s u d f m ev el es eu ed ef em = rw (ev, el, es, eu, ed, ef, em) refl
 
 -- the spelling of sound parameters, test by test
 module _ (p : Params) (sound : SoundParams p) where
@@ -85,10 +85,10 @@ module _ (p : Params) (sound : SoundParams p) where
   unfolding super_words
   small_none = let h = sound.need in grind (arith, nat_tests)
 
-  -- the version is the only one
+  -- the version is a format's
   version_none : version_fault (super_words p) ≡ None
   unfolding super_words
-  version_none = refl
+  version_none = rw sound.format refl
 
   -- the log begins where it has to
   offset_none : offset_fault (super_words p) ≡ None
@@ -113,7 +113,7 @@ module _ (p : Params) (sound : SoundParams p) where
   -- the fields come back
   params_back : params_of (super_words p) ≡ p
   unfolding params_of super_words
-  params_back = same_params p _ _ _ _ _ _ refl (sym sound.slots) refl refl fs_back master_back
+  params_back = same_params p _ _ _ _ _ _ _ refl refl (sym sound.slots) refl refl fs_back master_back
 
   -- what is spelled is read on each image that has the device
   pub read_spelling : (have : ℕ) → p.device ≤ have → super_of magic (super_words p) have ≡ Ok p
@@ -225,6 +225,7 @@ module _ (word : ℕ) (w : List ℕ) (have : ℕ) (p : Params) (is : IsWords 16 
   sound_told : SoundParams (params_of w)
   unfolding params_of
   sound_told = record {
+    format = true_none (is_format (get_or w 0 0)) _ pass.version;
     unit = true_none (is_unit (get_or w 3 0)) _ pass.unit;
     log_length = true_none (is_log_length (get_or w 3 0) (get_or w 2 0)) _ pass.log_length;
     slots = refl;
@@ -244,7 +245,6 @@ module _ (word : ℕ) (w : List ℕ) (have : ℕ) (p : Params) (is : IsWords 16 
   unfolding params_of
   body_told =
       let places = ap (take 15) (sixteen w is.count) in
-      let version : get_or w 0 0 ≡ 1 = same_if_none _ _ _ pass.version in
       let offset : get_or w 1 0 ≡ log_offset = same_if_none _ _ _ pass.offset in
       let fs_low : word_of_bytes (bytes_from 5 w uuid_bytes) 0 ≡ get_or w 5 0 = word_back 5 w uuid_bytes 0 (omega arith) (is.fits 5) in
       let fs_high : word_of_bytes (bytes_from 5 w uuid_bytes) 1 ≡ get_or w 6 0 = word_back 5 w uuid_bytes 1 (omega arith) (is.fits 6) in
@@ -256,7 +256,7 @@ module _ (word : ℕ) (w : List ℕ) (have : ℕ) (p : Params) (is : IsWords 16 
       let zero_12 : get_or w 12 0 ≡ 0 = rest_zero w pass.rest 3 (omega arith) in
       let zero_13 : get_or w 13 0 ≡ 0 = rest_zero w pass.rest 4 (omega arith) in
       let zero_14 : get_or w 14 0 ≡ 0 = rest_zero w pass.rest 5 (omega arith) in
-      places ∙ rw (version, offset, fs_low, fs_high, master_low, master_high, zero_9, zero_10, zero_11, zero_12, zero_13, zero_14) refl
+      places ∙ rw (offset, fs_low, fs_high, master_low, master_high, zero_9, zero_10, zero_11, zero_12, zero_13, zero_14) refl
 
   -- and so are all words
   words_told : w ≡ super_words (params_of w)

@@ -1,7 +1,6 @@
 -- Where superblock, log and slots stand on the media. docs/FORMAT.md, "Regions".
-use Rattle.std.specs.Prelude.{ℕ, ◌+◌, ◌-◌, ◌*◌, ◌/◌}
+use Rattle.std.specs.Prelude.{ℕ, ◌+◌, ◌-◌, ◌*◌, ◌/◌, ◌==◌, if◌then◌else◌}
 use Rattle.fam_base.specs.declared.entry.Params.{Params}
-use Rattle.fam_base.specs.Paths as paths
 
 -- the log begins at 2 MiB, in bytes
 abbrev pub log_offset : ℕ
@@ -40,15 +39,23 @@ pub record Geometry : Type 0 where
 
 -- slots of 512 bytes, with paths of up to 168
 abbrev pub first_format : Geometry
-first_format = record { words = 64; lines = 8; bytes = 512; path_limit = paths.path_limit }
+first_format = record { words = 64; lines = 8; bytes = 512; path_limit = 168 }
 
--- the shape of a file system's slots: there is one format
+-- slots of 1,024 bytes, with paths of up to 512
+abbrev pub second_format : Geometry
+second_format = record { words = 128; lines = 16; bytes = 1024; path_limit = 512 }
+
+-- the shape of slots by the number of their format, which is 1 or 2
+unfoldable pub shape_of : ℕ → Geometry
+shape_of format = if format == 2 then second_format else first_format
+
+-- the shape of a file system's slots
 abbrev pub geometry : Params → Geometry
-geometry p = first_format
+geometry p = shape_of p.format
 
--- the slots of a log of so many bytes: the header has the room of one
-abbrev pub slots_of : ℕ → ℕ
-slots_of log_length = log_length / first_format.bytes - 1
+-- the slots of a log of so many bytes, by the format: the header has the room of one
+abbrev pub slots_of : ℕ → ℕ → ℕ
+slots_of format log_length = log_length / (shape_of format).bytes - 1
 
 -- line j of slot i, in lines from the front of the image
 abbrev pub slot_line : Params → ℕ → ℕ → ℕ

@@ -17,6 +17,18 @@ is_log_length unit bytes = nat_lt 0 bytes && (bytes % unit == 0) && nat_le bytes
 abbrev pub need : ℕ → ℕ → ℕ
 need log_length unit = log_offset + log_length + unit
 
+-- the number of the first format, which is made where nothing else is asked for
+abbrev pub first_number : ℕ
+first_number = 1
+
+-- the number of the second one
+abbrev pub second_number : ℕ
+second_number = 2
+
+-- the number of a format in which file systems are made and read
+abbrev pub is_format : ℕ → Bool
+is_format n = n == first_number || n == second_number
+
 -- the bytes of a UUID
 pub record IsUuid (id : List ℕ) : Type 0 where
   pub count : length id ≡ uuid_bytes
@@ -24,9 +36,10 @@ pub record IsUuid (id : List ℕ) : Type 0 where
 
 -- parameters that a superblock can tell
 pub record SoundParams (p : Params) : Type 0 where
+  pub format : IsTrue (is_format p.format)
   pub unit : IsTrue (is_unit p.unit)
   pub log_length : IsTrue (is_log_length p.unit p.log_length)
-  pub slots : p.slots ≡ slots_of p.log_length
+  pub slots : p.slots ≡ slots_of p.format p.log_length
   pub need : need p.log_length p.unit ≤ p.device
   pub device : p.device ≤ device_limit
   pub fs : IsUuid p.fs

@@ -7,7 +7,7 @@ use Rattle.fam_format.specs.declared.faults.SuperFault.{SuperFault}
 use Rattle.fam_format.specs.declared.faults.SuperFault.TheVariants.{NoSuper, BadSuper}
 use Rattle.fam_format.specs.declared.faults.SuperField.TheVariants as field
 use Rattle.fam_format.specs.Layout.{log_offset, slots_of}
-use Rattle.fam_format.specs.Params.{is_unit, is_log_length, need}
+use Rattle.fam_format.specs.Params.{second_number, is_format, is_unit, is_log_length, need}
 use Rattle.fam_format.specs.Words.{word_of_bytes, bytes_from, uuid_bytes}
 use Rattle.fam_format.specs.Stop.{stop}
 
@@ -19,11 +19,11 @@ magic = 0x31302d73666d6166
 abbrev pub magic_line : List ℕ
 magic_line = magic ∷ 0 ∷ 0 ∷ 0 ∷ 0 ∷ 0 ∷ 0 ∷ 0 ∷ []
 
--- the fifteen words of lines 1 and 2 before the checksum: version, log offset, log length, unit, device, both
+-- the fifteen words of lines 1 and 2 before the checksum: version, which is the format, log offset, log length, unit, device, both
 -- UUIDs and six zeros
 abbrev pub super_body : Params → List ℕ
 super_body p =
-    1 ∷ log_offset ∷ p.log_length ∷ p.unit ∷ p.device ∷ word_of_bytes p.fs 0 ∷ word_of_bytes p.fs 1 ∷ word_of_bytes p.master 0 ∷ word_of_bytes p.master 1 ∷ 0 ∷ 0 ∷ 0 ∷ 0 ∷ 0 ∷ 0 ∷ []
+    p.format ∷ log_offset ∷ p.log_length ∷ p.unit ∷ p.device ∷ word_of_bytes p.fs 0 ∷ word_of_bytes p.fs 1 ∷ word_of_bytes p.master 0 ∷ word_of_bytes p.master 1 ∷ 0 ∷ 0 ∷ 0 ∷ 0 ∷ 0 ∷ 0 ∷ []
 
 -- the sixteen words of lines 1 and 2
 unfoldable pub super_words : Params → List ℕ
@@ -32,7 +32,7 @@ super_words p = super_body p ++ crc32 (bytes_of_words (super_body p)) ∷ []
 -- what the sixteen words tell, whatever a test says of them
 unfoldable pub params_of : List ℕ → Params
 params_of w =
-    record { log_length = slice_index w 2; slots = slots_of (slice_index w 2); unit = slice_index w 3; device = slice_index w 4; fs = bytes_from 5 w uuid_bytes; master = bytes_from 7 w uuid_bytes }
+    record { format = slice_index w 0; log_length = slice_index w 2; slots = slots_of (slice_index w 0) (slice_index w 2); unit = slice_index w 3; device = slice_index w 4; fs = bytes_from 5 w uuid_bytes; master = bytes_from 7 w uuid_bytes }
 
 -- the tests in their order; `w` are the sixteen words, `have` is the image's bytes
 abbrev pub magic_fault : ℕ → Option SuperFault
@@ -46,9 +46,13 @@ super_crc w = crc32 (bytes_of_words (take 15 w))
 abbrev pub crc_fault : List ℕ → Option SuperFault
 crc_fault w = if slice_index w 15 == super_crc w then None else Some (BadSuper field.Crc (slice_index w 15) (super_crc w))
 
--- another version than 1
+-- the greatest version that is read
+abbrev pub last_version : ℕ
+last_version = second_number
+
+-- another version than those of the formats
 abbrev pub version_fault : List ℕ → Option SuperFault
-version_fault w = if slice_index w 0 == 1 then None else Some (BadSuper field.Version (slice_index w 0) 1)
+version_fault w = if is_format (slice_index w 0) then None else Some (BadSuper field.Version (slice_index w 0) last_version)
 
 -- a log that doesn't begin at 2 MiB
 abbrev pub offset_fault : List ℕ → Option SuperFault

@@ -9,13 +9,10 @@ pub const LINE_WORDS: usize = 8;
 /// The last word of a line, counted from 0.
 pub const LAST_WORD: u8 = 7;
 
-/// The bytes of a slot, and of the log before its first slot.
-pub const SLOT_BYTES: u64 = 512;
-
-/// The words of a slot, its checksum included.
+/// The words of a slot of the first format, its checksum included.
 pub const SLOT_WORDS: usize = 64;
 
-/// The lines of a slot, and of the log before its first slot.
+/// The lines of a slot of the first format, and of the log before its first slot.
 pub const SLOT_LINES: u64 = 8;
 
 /// Where the log begins, in bytes from the front of the image.

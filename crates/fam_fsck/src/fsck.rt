@@ -1,6 +1,7 @@
 //! The report over all slots.
 
-ghost use Rattle.std.specs.Prelude.{◌≡◌, ◌<◌, ◌≤◌, IfOk, IsOk, OnOk, OnErr};
+ghost use Rattle.std.specs.Prelude.{◌≡◌, ◌<◌, ◌≤◌, IfOk, IsOk, OnOk, OnErr, length};
+ghost use Rattle.fam_format.specs.Layout.{geometry};
 ghost use Rattle.fam_format.specs.Params.{SoundParams};
 ghost use Rattle.fam_format.specs.Slot.{Proper, entry_of, fields_of};
 ghost use Rattle.fam_entry.specs.Tests.{HasFields, read_as};
@@ -9,7 +10,7 @@ ghost use Rattle.fam_fsck.specs.Scan.{bad_after, first_scan, with_slot, with_sur
 
 use crate::findings::Findings;
 use fam_base::{OutOfMemory, PATH_LIMIT, Params};
-use fam_entry::{SLOT_WORDS, check_entry, checked_entry};
+use fam_entry::{check_entry, checked_entry};
 use fam_format::Reason;
 use fam_rules::{LogState, Report, SuperState};
 use std::alloc::Global;
@@ -76,10 +77,11 @@ impl Fsck {
     /// Adds what a slot below the gate reads as; where that is an entry, its path lies in the field.
     fn add_below(
         &mut self,
-        words: &[u64; SLOT_WORDS],
+        words: &[u64],
         field: &[u8; PATH_LIMIT],
         read: &Result<(), Reason>,
     ) -> Result<(), OutOfMemory>
+        requires long { 64 ≤ length words.now }
         requires fewer { self.old.added < self.old.params.slots }
         requires proper { OnOk read.now (Proper self.old.params (fields_of words.now)) }
         requires fields { OnOk read.now (HasFields words.now field.now) }
@@ -105,7 +107,7 @@ impl Fsck {
     }
 
     /// Adds what a slot at or past the gate reads as.
-    fn add_past(&mut self, words: &[u64; SLOT_WORDS], read: &Result<(), Reason>)
+    fn add_past(&mut self, words: &[u64], read: &Result<(), Reason>)
         requires fewer { self.old.added < self.old.params.slots }
         ensures { self.new ≡ with_survey self.old (past_gate self.old.survey (read_as words.now read.now)) }
     {
@@ -118,8 +120,9 @@ impl Fsck {
     }
 
     /// Adds the words of the next slot. After an Err everything is as before.
-    pub fn add(&mut self, words: &[u64; SLOT_WORDS]) -> Result<(), OutOfMemory>
-        requires { self.old.added < self.old.params.slots }
+    pub fn add(&mut self, words: &[u64]) -> Result<(), OutOfMemory>
+        requires fewer { self.old.added < self.old.params.slots }
+        requires count { length words.now ≡ (geometry self.old.params).words }
         ensures slot { OnOk result (self.new ≡ with_slot self.old words.now) }
         ensures err { OnErr result (self.new ≡ self.old) }
 

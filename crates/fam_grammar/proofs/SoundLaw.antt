@@ -1,10 +1,12 @@
 -- What a line reads as is within its limits.
 use Rattle.std.proofs.Common.{◌≡◌, ℕ, ◌+◌, ◌-◌, ◌<◌, ◌≤◌, Bool, true, false, List, [], ◌∷◌, length, Option, Some, None, Ok, Err, refl, subst, arith}
-use Rattle.std.specs.Prelude.{⊤, codes, fold, nat_le, nat_lt, ◌==◌, ◌&&◌, unwrap_or, option_map, option_and_then, if◌then◌else◌}
+use Rattle.std.specs.Prelude.{⊤, IsTrue, codes, fold, nat_le, nat_lt, ◌==◌, ◌&&◌, unwrap_or, option_map, option_and_then, if◌then◌else◌}
 use Rattle.std.specs.List.{list_all}
+use Rattle.std.specs.Str.{bytes_eq}
 use Rattle.std.proofs.lemmas.Bool.Decides.{nat_tests}
 use Rattle.std.proofs.lemmas.Option.{same_Some}
 use Rattle.fam_base.specs.Commands.{mode_limit, read_limit}
+use Rattle.fam_format.specs.Params.{first_number, is_format}
 use Rattle.fam_journal.specs.declared.event.Event.{Event}
 use Rattle.fam_grammar.specs.declared.keywords.CommandWord.{CommandWord}
 use Rattle.fam_grammar.specs.declared.keywords.CommandWord.TheVariants as command
@@ -13,14 +15,17 @@ use Rattle.fam_grammar.specs.declared.keywords.EventWord.TheVariants as word
 use Rattle.fam_grammar.specs.declared.options.FileOption.{FileOption}
 use Rattle.fam_grammar.specs.declared.options.FileOption.TheVariants as file
 use Rattle.fam_grammar.specs.declared.options.FileOptions.{FileOptions}
+use Rattle.fam_grammar.specs.declared.options.MkfsOption.{MkfsOption}
+use Rattle.fam_grammar.specs.declared.options.MkfsOption.TheVariants as mkfs
+use Rattle.fam_grammar.specs.declared.options.MkfsOptions.{MkfsOptions}
 use Rattle.fam_grammar.specs.declared.options.Takes.{Takes}
 use Rattle.fam_grammar.specs.Lines.{against_line, against_of, ask_behind, ask_line, attr_of, cp_takes, creat_takes, directory_mode, event_behind, event_line, file_mode, mkdir_takes, steps_line}
 use Rattle.fam_grammar.specs.Numbers.{below, not_zero, number_of_text, size_of_text}
-use Rattle.fam_grammar.specs.Options.{file_option_of, file_options, keyed, mkfs_options, no_file_options, no_mkfs_options, once, where_taken, with_file_option, with_file_word}
+use Rattle.fam_grammar.specs.Options.{file_option_of, file_options, keyed, mkfs_option_of, mkfs_options, no_file_options, no_mkfs_options, once, where_taken, with_file_option, with_file_word, with_mkfs_option, with_mkfs_word}
 use Rattle.fam_grammar.specs.Reading.{Reading, Reads, Misfit, ends_with, fitting_word, then_reads, word_of}
 use Rattle.fam_grammar.specs.Scripts.{LineReading, event_or_column, is_comment, line_of_words, line_reads}
 use Rattle.fam_grammar.specs.Sound.{IfEvent, IsSoundAsk, IsSoundEvent}
-use Rattle.fam_grammar.specs.Spellings.{count_of, file_of, id_of, is_octal, mask_of, mode_of, name_of, path_of, steps_of, stripe_of, uuid_of, value_behind, with_octal}
+use Rattle.fam_grammar.specs.Spellings.{among_formats, count_of, file_of, format_of, halted_of, id_of, is_octal, mask_of, mode_of, name_of, path_of, steps_of, stripe_of, uuid_of, value_behind, with_octal}
 use Rattle.fam_grammar.specs.Words.{Word, without_return, words_from}
 use Rattle.fam_grammar.specs.Keywords.{command_word, event_word}
 
@@ -214,6 +219,87 @@ attr_small mode o fits small = by_mode o.mode small
     by_mode None small = fits
     by_mode (Some m) small = small
 
+-- Options of a mkfs.
+
+abbrev IsOneFormat : ℕ → Type 0
+IsOneFormat n = IsTrue (is_format n)
+
+-- the format, where one is given
+abbrev pub HasFormat : MkfsOptions → Type 0
+HasFormat o = IfHas IsOneFormat o.format
+
+abbrev IsGood : MkfsOption → Type 0
+IsGood (mkfs.Unit unit) = ⊤
+IsGood (mkfs.Log log) = ⊤
+IsGood (mkfs.Format format) = IsOneFormat format
+IsGood mkfs.Force = ⊤
+IsGood (mkfs.Halt count) = ⊤
+
+among_is : (o : Option ℕ) (x : ℕ) → among_formats o ≡ Some x → IsOneFormat x
+among_is None x is = absurd cc
+among_is (Some n) x is = by_test (is_format n) refl is
+  where
+    by_test : (t : Bool) → is_format n ≡ t → (if t then Some n else None) ≡ Some x → IsOneFormat x
+    by_test true good e = subst IsOneFormat (same_Some n x e) good
+    by_test false good e = absurd cc
+
+-- a word that reads as a format is the number of one
+pub format_is : (text : List ℕ) (n : ℕ) → format_of text ≡ Some n → IsTrue (is_format n)
+format_is text n is = among_is (number_of_text text) n is
+
+mkfs_option_good : (text : List ℕ) → IfHas IsGood (mkfs_option_of text)
+unfolding mkfs_option_of
+mkfs_option_good text =
+    keyed_has IsGood (value_behind (codes "unit=") text) _ _ (λ v. mapped_has IsGood mkfs.Unit (size_of_text v) (λ x is. tt))
+    (keyed_has IsGood (value_behind (codes "log=") text) _ _ (λ v. mapped_has IsGood mkfs.Log (size_of_text v) (λ x is. tt))
+    (keyed_has IsGood (value_behind (codes "format=") text) _ _ (λ v. mapped_has IsGood mkfs.Format (format_of v) (λ x is. format_is v x is))
+    (keyed_has IsGood (value_behind (codes "halt=") text) _ _ (λ v. mapped_has IsGood mkfs.Halt (halted_of v) (λ x is. tt)) (forced (bytes_eq text (codes "force"))))))
+  where
+    forced : (t : Bool) → IfHas IsGood (if t then Some mkfs.Force else None)
+    forced true = tt
+    forced false = tt
+
+with_format : (given : MkfsOptions) (o : MkfsOption) → HasFormat given → IsGood o → IfHas HasFormat (with_mkfs_option given o)
+with_format given (mkfs.Unit unit) has good = once_has HasFormat given.unit _ has
+with_format given (mkfs.Log log) has good = once_has HasFormat given.log _ has
+with_format given (mkfs.Format format) has good = once_has HasFormat given.format _ good
+with_format given (mkfs.Halt count) has good = once_has HasFormat given.halt _ has
+with_format given mkfs.Force has good = by_force given.force
+  where
+    by_force : (t : Bool) → IfHas HasFormat (if t then None else Some (record given { force = true }))
+    by_force true = tt
+    by_force false = has
+
+word_format : (given : MkfsOptions) (text : List ℕ) → HasFormat given → IfHas HasFormat (with_mkfs_word given text)
+word_format given text has = by_option (mkfs_option_of text) (mkfs_option_good text)
+  where
+    by_option : (o : Option MkfsOption) → IfHas IsGood o → IfHas HasFormat (option_and_then (with_mkfs_option given) o)
+    by_option None good = tt
+    by_option (Some x) good = with_format given x has good
+
+mkfs_options_format : (given : MkfsOptions) (words : List Word) → HasFormat given → Holds HasFormat (mkfs_options given words)
+mkfs_options_format given [] has = has
+mkfs_options_format given (w ∷ words) has = by_word (with_mkfs_word given w.text) (λ more has. mkfs_options_format more words has) (word_format given w.text has)
+  where
+    by_word : (o : Option MkfsOptions) → ((more : MkfsOptions) → HasFormat more → Holds HasFormat (mkfs_options more words)) → IfHas HasFormat o → Holds HasFormat (elim o as (λ _. Reading MkfsOptions) [
+      | None ↦ Misfit w.column
+      | Some more ↦ mkfs_options more words
+    ])
+    by_word None rest has = tt
+    by_word (Some more) rest has = rest more has
+
+-- of the options at a line's end
+pub options_format : (words : List Word) → Holds HasFormat (mkfs_options no_mkfs_options words)
+options_format words = mkfs_options_format no_mkfs_options words tt
+
+-- the format that is given, or else the first
+pub format_sound : (o : MkfsOptions) → HasFormat o → IsTrue (is_format (unwrap_or o.format first_number))
+format_sound o has = by_format o.format has
+  where
+    by_format : (f : Option ℕ) → IfHas IsOneFormat f → IsTrue (is_format (unwrap_or f first_number))
+    by_format None has = refl
+    by_format (Some n) has = has
+
 -- Asks.
 
 against_sound : (path : List ℕ) (text : List ℕ) → IfHas IsSoundAsk (against_of path text)
@@ -275,7 +361,8 @@ event_sound_behind end word.Host words =
     behind IsSoundEvent (word_of name_of end words) _ (λ name rest. behind IsSoundEvent (word_of uuid_of end rest) _ (λ uuid rest. ends_holds IsSoundEvent _ rest tt))
 event_sound_behind end word.Mkfs words =
     behind IsSoundEvent (word_of name_of end words) _ (λ name rest.
-    behind IsSoundEvent (word_of uuid_of end rest) _ (λ fs rest. behind IsSoundEvent (mkfs_options no_mkfs_options rest) _ (λ o none. tt)))
+    behind IsSoundEvent (word_of uuid_of end rest) _ (λ fs rest.
+    then_holds HasFormat IsSoundEvent (mkfs_options no_mkfs_options rest) _ (options_format rest) (λ o none has. format_sound o has)))
 event_sound_behind end word.Begin words =
     behind IsSoundEvent (word_of name_of end words) _ (λ name rest.
     then_holds IsSoundAsk IsSoundEvent (ask_line end rest) _ (ask_sound end rest) (λ asked none sound. sound))

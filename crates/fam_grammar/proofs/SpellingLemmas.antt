@@ -31,11 +31,11 @@ fails : (test : List ℕ → Bool) (bytes : List ℕ) → test bytes ≡ false �
 fails test bytes is = ap (λ (t : Bool). cond t (Some bytes) None) (sym is)
 
 -- a longer one is no path
-long_is_none : (bytes : List ℕ) → 168 < length bytes → is_path bytes ≡ false
+long_is_none : (bytes : List ℕ) → 512 < length bytes → is_path bytes ≡ false
 unfolding is_path
 long_is_none bytes long =
     let some : eqb (length bytes) 0 ≡ false = grind (arith, nat_tests) in
-    let over : leb (length bytes) 168 ≡ false = grind (arith, nat_tests) in
+    let over : leb (length bytes) 512 ≡ false = grind (arith, nat_tests) in
     rw (some, over) refl
 
 module _ (word : List ℕ) where
@@ -66,7 +66,7 @@ module _ (word : List ℕ) where
   is_no_file bytes is file = fails is_file_name bytes file ∙ ap (option_and_then (passing is_file_name)) (sym is)
 
   -- bytes that are too many for a path
-  pub too_long : (prefix : List ℕ) (byte : ℕ) (rest : Option (List ℕ)) → 168 ≤ length prefix → unescaped word ≡ behind prefix (in_prefix byte rest) → None ≡ path_of word
+  pub too_long : (prefix : List ℕ) (byte : ℕ) (rest : Option (List ℕ)) → 512 ≤ length prefix → unescaped word ≡ behind prefix (in_prefix byte rest) → None ≡ path_of word
   too_long prefix byte None long is = no_path is
   too_long prefix byte (Some rest) long is =
       is_no_path (prefix ++ byte ∷ rest) is (long_is_none _ (omega (arith, long, length-append prefix (byte ∷ rest))))

@@ -1,4 +1,4 @@
--- The UUIDs that lines name are UUIDs: what a text parses to is sixteen bytes, each below 256.
+-- The UUIDs that lines name are UUIDs: what a text parses to is sixteen bytes, each below 256. And formats are such.
 use Rattle.std.proofs.Common.{◌≡◌, ℕ, ◌+◌, ◌*◌, ◌<◌, ◌≤◌, inl, inr, Bool, true, false, List, [], ◌∷◌, length, take, drop, slice_index, Option, Some, None, Result, Ok, Err, refl, sym, ◌∙◌, subst, arith}
 use Rattle.std.specs.Prelude.{⊤, ◌==◌, ◌&&◌, if◌then◌else◌}
 use Rattle.std.specs.List.{list_all, slice_split}
@@ -23,7 +23,7 @@ use Rattle.fam_grammar.specs.Reading.{Reading, Reads, Misfit, word_of}
 use Rattle.fam_grammar.specs.Scripts.{LineReading, event_or_column, events_from, is_comment, is_line_feed, line_of_words, line_reads, script_events, with_line}
 use Rattle.fam_grammar.specs.Spellings.{mask_of, name_of, steps_of, uuid_of}
 use Rattle.fam_grammar.specs.Words.{Word, without_return, words_from}
-use Rattle.fam_grammar.proofs.SoundLaw.{Holds, behind, ends_holds, then_holds, word_holds}
+use Rattle.fam_grammar.proofs.SoundLaw.{HasFormat, Holds, behind, ends_holds, format_sound, options_format, then_holds, word_holds}
 
 -- Digits and bytes.
 
@@ -122,7 +122,7 @@ event_uuids end word.Host words =
 event_uuids end word.Mkfs words =
     behind IsSoundEvent (word_of name_of end words) _ (λ name rest.
     then_holds IsUuid IsSoundEvent (word_of uuid_of end rest) _ (word_holds IsUuid uuid_of end rest uuid_sound)
-    (λ fs rest is. behind IsSoundEvent (mkfs_options no_mkfs_options rest) _ (λ o none. is)))
+    (λ fs rest is. then_holds HasFormat IsSoundEvent (mkfs_options no_mkfs_options rest) _ (options_format rest) (λ o none has. record { fs = is; format = format_sound o has })))
 event_uuids end word.Begin words = behind IsSoundEvent (word_of name_of end words) _ (λ name rest. behind IsSoundEvent (ask_line end rest) _ (λ asked none. tt))
 event_uuids end word.Run words = behind IsSoundEvent (word_of name_of end words) _ (λ name rest. behind IsSoundEvent (ask_line end rest) _ (λ asked none. tt))
 event_uuids end word.Step words = behind IsSoundEvent (word_of name_of end words) _ (λ name rest. steps_uuids end name rest)

@@ -4,6 +4,7 @@ use Rattle.fam_base.specs.declared.cmd.Attr.{Attr}
 use Rattle.fam_base.specs.declared.cmd.Cmd.TheVariants as cmd
 use Rattle.fam_base.specs.declared.cmd.Content.{Content}
 use Rattle.fam_base.specs.declared.cmd.Content.TheVariants as content
+use Rattle.fam_format.specs.Params.{first_number}
 use Rattle.fam_journal.specs.declared.event.Ask.{Ask}
 use Rattle.fam_journal.specs.declared.event.Ask.TheVariants as ask
 use Rattle.fam_journal.specs.declared.event.Event.{Event}
@@ -141,7 +142,7 @@ mkfs_line end words =
     then_reads (word_of name_of end words) (λ name rest.
     then_reads (word_of uuid_of end rest) (λ fs rest.
     then_reads (mkfs_options no_mkfs_options rest) (λ o none.
-    Reads (event.Mkfs name fs (unwrap_or o.unit default_unit) (unwrap_or o.log default_log) o.force o.halt) none)))
+    Reads (event.Mkfs name fs (unwrap_or o.unit default_unit) (unwrap_or o.log default_log) (unwrap_or o.format first_number) o.force o.halt) none)))
 
 -- begin and run: NAME, a command
 abbrev pub begin_line : ℕ → List Word → Reading Event

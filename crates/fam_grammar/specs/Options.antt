@@ -10,7 +10,7 @@ use Rattle.fam_grammar.specs.declared.options.MkfsOptions.{MkfsOptions}
 use Rattle.fam_grammar.specs.declared.options.Takes.{Takes}
 use Rattle.fam_grammar.specs.Numbers.{number_of_text, size_of_text}
 use Rattle.fam_grammar.specs.Reading.{Reading, Reads, Misfit}
-use Rattle.fam_grammar.specs.Spellings.{halted_of, id_of, mode_of, stripe_of, value_behind}
+use Rattle.fam_grammar.specs.Spellings.{format_of, halted_of, id_of, mode_of, stripe_of, value_behind}
 use Rattle.fam_grammar.specs.Words.{Word}
 
 -- a word with this key and a value that is spelled so; or else another word
@@ -79,13 +79,15 @@ unfoldable pub mkfs_option_of : List ℕ → Option MkfsOption
 mkfs_option_of word =
     keyed (value_behind (codes "unit=") word) (λ v. option_map mkfs.Unit (size_of_text v))
     (keyed (value_behind (codes "log=") word) (λ v. option_map mkfs.Log (size_of_text v))
+    (keyed (value_behind (codes "format=") word) (λ v. option_map mkfs.Format (format_of v))
     (keyed (value_behind (codes "halt=") word) (λ v. option_map mkfs.Halt (halted_of v))
-    (if bytes_eq word (codes "force") then Some mkfs.Force else None)))
+    (if bytes_eq word (codes "force") then Some mkfs.Force else None))))
 
 -- an option joins those before it; none is given twice
 abbrev pub with_mkfs_option : MkfsOptions → MkfsOption → Option MkfsOptions
 with_mkfs_option given (mkfs.Unit unit) = once given.unit (record given { unit = Some unit })
 with_mkfs_option given (mkfs.Log log) = once given.log (record given { log = Some log })
+with_mkfs_option given (mkfs.Format format) = once given.format (record given { format = Some format })
 with_mkfs_option given (mkfs.Halt count) = once given.halt (record given { halt = Some count })
 with_mkfs_option given mkfs.Force = if given.force then None else Some (record given { force = true })
 
@@ -104,4 +106,4 @@ mkfs_options given (word ∷ words) =
 
 -- no option is given
 abbrev pub no_mkfs_options : MkfsOptions
-no_mkfs_options = record { unit = None; log = None; force = false; halt = None }
+no_mkfs_options = record { unit = None; log = None; format = None; force = false; halt = None }

@@ -1,6 +1,7 @@
 -- Asks and events within their limits. A source holds bytes, or entries of a listing, which are within theirs.
-use Rattle.std.specs.Prelude.{⊤, ◌<◌, Option, Some, None}
+use Rattle.std.specs.Prelude.{⊤, ◌<◌, IsTrue, Option, Some, None}
 use Rattle.fam_base.specs.Commands.{IsSoundAttr, IsSoundCmd}
+use Rattle.fam_format.specs.Params.{is_format}
 use Rattle.fam_journal.specs.declared.event.Ask.{Ask}
 use Rattle.fam_journal.specs.declared.event.Ask.TheVariants.{Plain, Cp, VerifySource, Check}
 use Rattle.fam_journal.specs.declared.event.Event.{Event}
@@ -13,10 +14,10 @@ IsSoundAsk (Cp source path attr stripe) = IsSoundAttr attr
 IsSoundAsk (VerifySource path source) = ⊤
 IsSoundAsk (Check source) = ⊤
 
--- its ask is within its limits, and some operations are done
+-- its ask is within its limits, its format is one that there is, and some operations are done
 abbrev pub IsSoundEvent : Event → Type 0
 IsSoundEvent (event.Host name uuid) = ⊤
-IsSoundEvent (event.Mkfs name fs unit log force halt) = ⊤
+IsSoundEvent (event.Mkfs name fs unit log format force halt) = IsTrue (is_format format)
 IsSoundEvent (event.Begin name what) = IsSoundAsk what
 IsSoundEvent (event.Run name what) = IsSoundAsk what
 IsSoundEvent (event.Step name count) = 0 < count

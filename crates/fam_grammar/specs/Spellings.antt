@@ -7,6 +7,7 @@ use Rattle.fam_base.specs.declared.cmd.Stripe.{Stripe}
 use Rattle.fam_base.specs.Escapes.{is_plain}
 use Rattle.fam_base.specs.HostNames.{is_host_name}
 use Rattle.fam_base.specs.Paths.{is_path}
+use Rattle.fam_format.specs.Params.{is_format}
 use Rattle.fam_grammar.specs.Numbers.{number_of_text, size_of_text, below, not_zero}
 
 -- a text that passes a test
@@ -85,6 +86,15 @@ steps_of word = not_zero (below 1000000001 (number_of_text word))
 -- the K of halt=: 1 to 80
 abbrev pub halted_of : List ℕ → Option ℕ
 halted_of word = not_zero (below 81 (number_of_text word))
+
+-- the number of a format that there is
+abbrev pub among_formats : Option ℕ → Option ℕ
+among_formats None = None
+among_formats (Some n) = if is_format n then Some n else None
+
+-- the N of format=: a number, of a format in which file systems are made
+abbrev pub format_of : List ℕ → Option ℕ
+format_of word = among_formats (number_of_text word)
 
 -- an octal digit
 abbrev pub is_octal : ℕ → Bool

@@ -12,7 +12,8 @@ use crate::fault::LineFault;
 use crate::keywords::EventWord;
 use crate::options::MkfsOptions;
 use crate::words::{Line, Words};
-use fam_base::{LineNo, Mask};
+use fam_base::{Boxed, LineNo, Mask};
+use fam_format::FIRST_FORMAT;
 use fam_journal::Event;
 use std::alloc::Global;
 
@@ -58,6 +59,7 @@ fn mkfs(words: &mut Words<'_>, line: Line) -> Result<Event, LineFault>
         fs,
         unit: options.unit.unwrap_or(DEFAULT_UNIT),
         log: options.log.unwrap_or(DEFAULT_LOG),
+        format: options.format.unwrap_or(FIRST_FORMAT),
         force: options.force,
         halt: options.halt,
     })
@@ -70,7 +72,7 @@ fn begin(alloc: Global, words: &mut Words<'_>, line: Line) -> Result<Event, Line
 {
     let name = words.name(line)?;
     let asked = ask(alloc, words, line)?;
-    Ok(Event::Begin(name, asked))
+    Ok(Event::Begin(name, Boxed::new(alloc, asked)?))
 }
 
 fn run(alloc: Global, words: &mut Words<'_>, line: Line) -> Result<Event, LineFault>
@@ -80,7 +82,7 @@ fn run(alloc: Global, words: &mut Words<'_>, line: Line) -> Result<Event, LineFa
 {
     let name = words.name(line)?;
     let asked = ask(alloc, words, line)?;
-    Ok(Event::Run(name, asked))
+    Ok(Event::Run(name, Boxed::new(alloc, asked)?))
 }
 
 fn step(words: &mut Words<'_>, line: Line) -> Result<Event, LineFault>

@@ -22,5 +22,5 @@ pub use fault::LineFault;
 pub use laws::{uuids_of_a_script_are_uuids, what_reads_is_sound};
 pub use numbers::{number, size};
 pub use script::{read_line, words_of};
-pub use spellings::{count_of, id_of, mode_of};
+pub use spellings::{count_of, format_of, id_of, mode_of};
 pub use words::{Line, Word, Words};

@@ -5,7 +5,7 @@ ghost use Rattle.fam_grammar.specs.Options.{file_option_of, with_file_option, wi
 
 use crate::keywords::is;
 use crate::numbers::{number, size};
-use crate::spellings::{halted_of, id_of, mode_of, stripe_of, value_behind};
+use crate::spellings::{format_of, halted_of, id_of, mode_of, stripe_of, value_behind};
 use fam_base::Stripe;
 
 /// An option of mkdir, creat or cp.
@@ -40,6 +40,7 @@ pub(crate) struct Takes {
 pub(crate) enum MkfsOption {
     Unit(u64),
     Log(u64),
+    Format(u64),
     Force,
     Halt(u64),
 }
@@ -49,6 +50,7 @@ pub(crate) enum MkfsOption {
 pub(crate) struct MkfsOptions {
     pub(crate) unit: Option<u64>,
     pub(crate) log: Option<u64>,
+    pub(crate) format: Option<u64>,
     pub(crate) force: bool,
     pub(crate) halt: Option<u64>,
 }
@@ -149,6 +151,9 @@ fn mkfs_option_of(word: &[u8]) -> Option<MkfsOption>
     if let Some(value) = value_behind("log=", word) {
         return size(value).map(MkfsOption::Log);
     }
+    if let Some(value) = value_behind("format=", word) {
+        return format_of(value).map(MkfsOption::Format);
+    }
     if let Some(value) = value_behind("halt=", word) {
         return halted_of(value).map(MkfsOption::Halt);
     }
@@ -166,6 +171,7 @@ impl MkfsOptions {
         MkfsOptions {
             unit: None,
             log: None,
+            format: None,
             force: false,
             halt: None,
         }
@@ -188,6 +194,12 @@ impl MkfsOptions {
                     return None;
                 }
                 more.log = Some(log);
+            }
+            MkfsOption::Format(format) => {
+                if self.format.is_some() {
+                    return None;
+                }
+                more.format = Some(format);
             }
             MkfsOption::Force => {
                 if self.force {

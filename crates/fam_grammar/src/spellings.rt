@@ -3,12 +3,14 @@
 ghost use Rattle.std.specs.Prelude.{◌≡◌, ◌<◌, ◌≤◌, IfOk, IfSome, IsTrue, MatchOption, fold, length, option_map, position, ◌==◌};
 ghost use Rattle.fam_base.specs.Commands.{mode_limit, read_limit};
 ghost use Rattle.fam_base.specs.Escapes.{is_plain};
-ghost use Rattle.fam_grammar.specs.Spellings.{name_of, uuid_of, unescaped, in_prefix, byte_of, with_octal, path_of, file_of, id_of, mask_of, count_of, steps_of, halted_of, is_octal, mode_of, at_comma, stripe_of, stripe_with, value_behind};
+ghost use Rattle.fam_format.specs.Params.{is_format};
+ghost use Rattle.fam_grammar.specs.Spellings.{name_of, uuid_of, unescaped, in_prefix, byte_of, with_octal, path_of, file_of, id_of, mask_of, count_of, steps_of, halted_of, format_of, is_octal, mode_of, at_comma, stripe_of, stripe_with, value_behind};
 ghost use Rattle.uuid.specs.Text.{hex_digit_value, parsed};
 ghost use Rattle.std.specs.List.{list_all};
 
 use crate::numbers::{number, size};
 use fam_base::{HostName, Mask, NameText, OutOfMemory, PATH_LIMIT, Path, Stripe};
+use fam_format::is_format;
 use std::alloc::Global;
 use std::str::from_utf8;
 use uuid::Uuid;
@@ -187,6 +189,17 @@ pub(crate) fn halted_of(word: &[u8]) -> Option<u64>
     match number(word) {
         Some(0) => None,
         Some(n) if n < 81 => Some(n),
+        _ => None,
+    }
+}
+
+/// The number of a format in which file systems are made.
+pub fn format_of(word: &[u8]) -> Option<u64>
+    ensures value { result ≡ format_of word.now }
+    ensures sound { IfSome result (λ format. IsTrue (is_format format)) }
+{
+    match number(word) {
+        Some(n) if is_format(n) => Some(n),
         _ => None,
     }
 }

@@ -4,6 +4,7 @@ pub mod OverMemory
 pub mod Settles
 pub mod ReplyCases
 pub mod Journals
+pub mod LongPaths
 pub mod SoundTurns
 pub mod DamagedTurns
 pub mod TaskTurns

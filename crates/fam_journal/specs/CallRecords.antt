@@ -17,7 +17,7 @@ use Rattle.fam_media.specs.States.{MediaChange}
 use Rattle.fam_protocol.specs.Tasks.{IsCommand}
 use Rattle.fam_journal.specs.Calls as call
 use Rattle.fam_journal.specs.declared.refusal.Refusal.{Refusal}
-use Rattle.fam_journal.specs.Calls.{Call, Does, BreaksOff, Unfinished, name_of, number_of}
+use Rattle.fam_journal.specs.Calls.{Call, Does, BreaksOff, IsSoundRequest, Unfinished, name_of, number_of}
 use Rattle.fam_journal.specs.Ends.{CutCallReads, HasCounted, is_answer_note}
 use Rattle.fam_journal.specs.Forms.{BreaksForm, DoesForm, HostForm, IsFormed, PartForm, forms_of}
 use Rattle.fam_journal.specs.Legal.{Legal}
@@ -94,10 +94,10 @@ abbrev pub CallBreaks : Call → Image → Option Image → Option Image → Wor
 CallBreaks call start before told old new =
     (state : Machines) → before ≡ Some state.memory → Held start state old state.memory → LeavesBroken start told call state old new
 
--- UUIDs are such, and a command's numbers, path and bytes fit
+-- UUIDs and formats are such, and a command's numbers, path and bytes fit
 abbrev pub IsSoundCall : Call → Type 0
 IsSoundCall (call.Declares name uuid) = IsUuid uuid
-IsSoundCall (call.Makes name request) = IsUuid request.fs
+IsSoundCall (call.Makes name request) = IsSoundRequest request
 IsSoundCall (call.Begins name cmd) = IsCommand cmd
 IsSoundCall (call.Steps name) = ⊤
 IsSoundCall (call.Finishes name) = ⊤

@@ -1,12 +1,13 @@
 -- The calls of the world, and what each of them does on the machine of all hosts: a row for each, by the first refusal.
 use Prim.Native.Nat.{zero, suc}
-use Rattle.std.specs.Prelude.{ℕ, ⊤, ◌≡◌, ◌⊎◌, ◌+◌, ◌*◌, ◌==◌, ◌&&◌, ◌||◌, not, nat_le, nat_lt, if◌then◌else◌, Bool, true, false, List, [], ◌∷◌, ◌++◌, length, slice_get, Option, Some, None, is_some, option_map, Ok}
+use Rattle.std.specs.Prelude.{ℕ, ⊤, ◌≡◌, ◌⊎◌, ◌+◌, ◌*◌, ◌==◌, ◌&&◌, ◌||◌, not, nat_le, nat_lt, if◌then◌else◌, Bool, true, false, List, [], ◌∷◌, ◌++◌, length, slice_get, Option, Some, None, IsTrue, is_some, option_map, Ok}
 use Rattle.std.specs.FinMap as map
 use Rattle.fam_base.specs.declared.cmd.Cmd.{Cmd}
 use Rattle.fam_base.specs.declared.entry.Params.{Params}
 use Rattle.fam_base.specs.PathOrder.{path_eq}
 use Rattle.fam_commands.specs.Classes.{is_mount}
 use Rattle.fam_format.specs.Layout.{least_lines}
+use Rattle.fam_format.specs.Params.{IsUuid, is_format}
 use Rattle.fam_format.specs.Stop.{or_else}
 use Rattle.fam_base.specs.declared.line.LineNo.{LineNo}
 use Rattle.fam_machine.specs.declared.request.MkfsRequest.{MkfsRequest}
@@ -36,6 +37,11 @@ pub data Call : Type 0 where
   Umounts : (name : List ℕ) → Call
   Moves : (name : List ℕ) (line : ℕ) (move : Move) → Call
   Refuses : (name : List ℕ) (cause : Refusal) → Call
+
+-- a mkfs is asked for a UUID, and for a format that there is
+pub record IsSoundRequest (request : MkfsRequest) : Type 0 where
+  pub fs : IsUuid request.fs
+  pub format : IsTrue (is_format request.format)
 
 -- the host that is asked
 abbrev pub name_of : Call → List ℕ

@@ -21,7 +21,7 @@ use Rattle.fam_journal.specs.Events.{Session, first_session}
 use Rattle.fam_journal.specs.Follows.{Follows}
 use Rattle.fam_journal.specs.Ends.{IsFaultless}
 use Rattle.fam_journal.specs.Machines.{Machines}
-use Rattle.fam_journal.specs.Legal.{InBounds, IsReportOf, OfHost, damaged_master, damaged_report}
+use Rattle.fam_journal.specs.Legal.{InBounds, IsReportOf, OfHost, NamesLong, DamagedSuper, damaged_master, damaged_report}
 use Rattle.fam_journal.specs.Notes.{Answer, Replied, MediaFault, Note, Answered, Refused}
 use Rattle.fam_journal.specs.Past.{first_past, Damage, FewLines, NoSuperblock, BadHeader, BadSlot, Origin, State, Bad, Sound, HostPast, Past, past_after, with_pending}
 use Rattle.fam_commands.specs.Classes.{Class, class_of, Replays, Appends, Compares, Reads, Surveys}
@@ -35,11 +35,17 @@ pub record AnswersClient (p : Params) (host : HostPast) (why : Cause) : Type 0 w
   pub other : host.uuid ≢ p.master
   pub is : why ≡ cause.NotMaster host.uuid p.master
 
--- it is done; or its host is a client; or the decision refuses it, with nothing pending; by the class of the reply
+-- the master, and a slot has no room for the path
+pub record AnswersLong (p : Params) (host : HostPast) (why : Cause) : Type 0 where
+  pub limit : ℕ
+  pub names : NamesLong p host limit
+  pub is : why ≡ cause.LongPath limit
+
+-- it is done; or its host is a client; or its path is too long; or the decision refuses it, with nothing pending; by the class of the reply
 abbrev pub IsAppendAnswerIn : Params → List File → Option File → HostPast → Cmd → ReplyClass → Type 0
 IsAppendAnswerIn p history pending host cmd (Appending seq) = ⊤
 IsAppendAnswerIn p history pending host cmd (Declining why) =
-    AnswersClient p host why ⊎ ((pending ≡ None) × (decide p host.uuid (entries_of history) cmd ≡ Some (Err why)))
+    AnswersClient p host why ⊎ AnswersLong p host why ⊎ ((pending ≡ None) × (decide p host.uuid (entries_of history) cmd ≡ Some (Err why)))
 IsAppendAnswerIn p history pending host cmd (Showing m) = ⊥
 IsAppendAnswerIn p history pending host cmd (Reporting report) = ⊥
 IsAppendAnswerIn p history pending host cmd Faulty = ⊥
@@ -89,14 +95,25 @@ pub record IsDamagedClient (origin : Origin) (damage : Damage) (host : HostPast)
   pub other : host.uuid ≢ master
   pub is : given ≡ reply.NotAppended (cause.NotMaster host.uuid master)
 
--- the fault; and whose command appends is the one that the superblock names, where it reads
+-- the host that the superblock names, where it reads, and a slot has no room for its path
+pub record IsDamagedLong (origin : Origin) (damage : Damage) (host : HostPast) (given : Reply) : Type 0 where
+  pub params : Params
+  pub super : DamagedSuper params origin damage
+  pub limit : ℕ
+  pub names : NamesLong params host limit
+  pub is : given ≡ reply.NotAppended (cause.LongPath limit)
+
+-- the fault; and whose command appends is the one that the superblock names, where it reads, with a path that fits
 pub record IsDamagedMaster (origin : Origin) (damage : Damage) (host : HostPast) (given : Reply) : Type 0 where
   pub is : IsFaultAnswer damage given
   pub own : (master : List ℕ) → damaged_master origin damage ≡ Some master → host.uuid ≡ master
+  pub fits : (p : Params) (limit : ℕ) → DamagedSuper p origin damage → NamesLong p host limit → ⊥
 
--- an append answers that its host is a client, just where it is one; and else the fault
+-- an append answers that its host is a client, just where it is one; that its path is too long, just where it is; and else
+-- the fault
 abbrev pub IsDamagedAppend : Origin → Damage → HostPast → Reply → Type 0
-IsDamagedAppend origin damage host given = IsDamagedMaster origin damage host given ⊎ IsDamagedClient origin damage host given
+IsDamagedAppend origin damage host given =
+    IsDamagedMaster origin damage host given ⊎ IsDamagedClient origin damage host given ⊎ IsDamagedLong origin damage host given
 
 -- a check of the whole file system reports; another command that reads answers the fault, whoever asks; by the class of the command
 abbrev pub IsDamagedAnswerIn : Origin → Damage → HostPast → Class → Reply → Type 0
@@ -164,7 +181,7 @@ pub record CanEnd (h : ℕ) (state : Machines) : Type 0 where
 -- a command that is run and isn't refused ends in an answer
 abbrev pub RunEnds : Event → List Note → Type 0
 RunEnds (event.Host name uuid) notes = ⊤
-RunEnds (event.Mkfs name fs unit log force halt) notes = ⊤
+RunEnds (event.Mkfs name fs unit log format force halt) notes = ⊤
 RunEnds (event.Begin name what) notes = ⊤
 RunEnds (event.Run name what) notes = EndsInAnswer notes ⊎ ((why : Refusal) × (notes ≡ Refused name why ∷ []))
 RunEnds (event.Step name count) notes = ⊤

@@ -137,8 +137,8 @@ CutCallReads (call.Refuses name cause) begun state after = ⊥
 
 -- so it is behind an event of a script that a media fault cut
 abbrev pub CutEventReads : Event → Session → State → Image → Type 0
-CutEventReads (event.Mkfs name fs unit log force halt) begun state after =
-    CutCallReads (call.Makes name (mkfs_request fs unit log force halt)) begun.machines state after
+CutEventReads (event.Mkfs name fs unit log format force halt) begun state after =
+    CutCallReads (call.Makes name (mkfs_request fs unit log format force halt)) begun.machines state after
 CutEventReads (event.Host name uuid) begun state after = ⊥
 CutEventReads (event.Begin name what) begun state after = ⊥
 CutEventReads (event.Run name what) begun state after = ⊥

@@ -97,7 +97,7 @@ StepForm count name lines hosts notes =
 -- what an event adds after which the run goes on
 abbrev pub EventForm : Event → ℕ → List HostForm → List Note → Type 0
 EventForm (event.Host name uuid) lines hosts notes = DoesForm (call.Declares name uuid) lines hosts notes
-EventForm (event.Mkfs name fs unit log force halt) lines hosts notes = DoesForm (call.Makes name (mkfs_request fs unit log force halt)) lines hosts notes
+EventForm (event.Mkfs name fs unit log format force halt) lines hosts notes = DoesForm (call.Makes name (mkfs_request fs unit log format force halt)) lines hosts notes
 EventForm (event.Begin name what) lines hosts notes = BeginForm NoMore name what lines hosts notes
 EventForm (event.Run name what) lines hosts notes = BeginForm CompletesForm name what lines hosts notes
 EventForm (event.Step name count) lines hosts notes = StepForm count name lines hosts notes
@@ -112,7 +112,7 @@ EventForm (event.Fetch name line mask) lines hosts notes = DoesForm (call.Moves 
 -- a media fault cuts an event behind which nothing goes on
 abbrev pub EventBreaksForm : Event → ℕ → List HostForm → List Note → Type 0
 EventBreaksForm (event.Host name uuid) lines hosts notes = ⊥
-EventBreaksForm (event.Mkfs name fs unit log force halt) lines hosts notes = BreaksForm (call.Makes name (mkfs_request fs unit log force halt)) lines hosts notes
+EventBreaksForm (event.Mkfs name fs unit log format force halt) lines hosts notes = BreaksForm (call.Makes name (mkfs_request fs unit log format force halt)) lines hosts notes
 EventBreaksForm (event.Begin name what) lines hosts notes = ⊥
 EventBreaksForm (event.Run name what) lines hosts notes = ⊥
 EventBreaksForm (event.Step name count) lines hosts notes = ⊥
@@ -127,7 +127,7 @@ EventBreaksForm (event.Fetch name line mask) lines hosts notes = ⊥
 -- no memory was left for an operation of an event: of its operations some were done, and its command has not answered
 abbrev pub EventPartForm : Event → ℕ → List HostForm → List Note → Type 0
 EventPartForm (event.Host name uuid) lines hosts notes = ⊥
-EventPartForm (event.Mkfs name fs unit log force halt) lines hosts notes = ⊥
+EventPartForm (event.Mkfs name fs unit log format force halt) lines hosts notes = ⊥
 EventPartForm (event.Begin name what) lines hosts notes = ⊥
 EventPartForm (event.Run name what) lines hosts notes = StartForm UnfinishedForm name what lines hosts notes
 EventPartForm (event.Step name count) lines hosts notes = SomeForm name lines hosts notes × (length notes ≤ count)

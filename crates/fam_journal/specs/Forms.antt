@@ -117,9 +117,10 @@ abbrev pub CountForm : Option ℕ → CommandStage → Type 0
 CountForm None stage = ⊤
 CountForm (Some m) stage = stage ≡ Marked
 
--- why nothing is appended: the host is another one than the master; or what the found entries tell
+-- why nothing is appended: the host is another one than the master; or the path is too long; or what the found entries tell
 abbrev pub CauseForm : List ℕ → CommandStage → Cause → Type 0
 CauseForm me stage (cause.NotMaster own master) = (own ≡ me) × (own ≢ master) × ((stage ≡ Begun) ⊎ HasMet stage)
+CauseForm me stage (cause.LongPath limit) = (stage ≡ Begun) ⊎ HasMet stage
 CauseForm me stage cause.BadStripe = HasMet stage
 CauseForm me stage (cause.Exists kind) = HasMet stage
 CauseForm me stage cause.NoParent = HasMet stage

@@ -22,6 +22,8 @@ use Rattle.fam_journal.specs.declared.event.Event.TheVariants as event
 use Rattle.fam_journal.specs.Ends.{Ending, AllDone, MkfsFails, SourceFails, EndsOutOfMemory, EndsOutOfMemoryBroken, SinkFails, EventsDone, ReadsAfter, ends_history}
 use Rattle.fam_rules.specs.Asks.{File}
 use Rattle.fam_rules.specs.Reply.{Reply}
+use Rattle.fam_journal.specs.Calls.{IsSoundRequest}
+use Rattle.fam_machine.specs.MkfsRequest.{mkfs_request}
 use Rattle.fam_journal.specs.Legal.{Legal}
 use Rattle.fam_journal.specs.Notes.{Note, Answered, Replied}
 use Rattle.fam_journal.specs.Past.{Damage, Given, HostPast, Past, State, Bad, Sound, count_of, first_state, past_of, with_pending}
@@ -93,10 +95,10 @@ pub record AreSame (notes other : List Note) (state left : Session) : Type 0 whe
   pub notes_are : notes ≡ other
   pub states_are : state ≡ left
 
--- an event's UUIDs are such
+-- an event's UUIDs are such, and its format is one
 abbrev pub IsSoundEvent : Event → Type 0
 IsSoundEvent (event.Host name uuid) = IsUuid uuid
-IsSoundEvent (event.Mkfs name fs unit log force halt) = IsUuid fs
+IsSoundEvent (event.Mkfs name fs unit log format force halt) = IsSoundRequest (mkfs_request fs unit log format force halt)
 IsSoundEvent (event.Begin name what) = ⊤
 IsSoundEvent (event.Run name what) = ⊤
 IsSoundEvent (event.Step name count) = ⊤

@@ -12,7 +12,8 @@ use Rattle.fam_rules.specs.declared.answers.LogState.TheVariants as log
 use Rattle.fam_rules.specs.declared.answers.Report.{Report}
 use Rattle.fam_rules.specs.declared.answers.SuperState.TheVariants as superblock
 use Rattle.fam_rules.specs.Asks.{File, ask, entries_of}
-use Rattle.fam_rules.specs.Decide.{decide}
+use Rattle.fam_rules.specs.Decide.{Wish, wish_of, decide}
+use Rattle.fam_rules.specs.DecideLaws.{IsTooLong}
 use Rattle.fam_rules.specs.Place.{line_bytes}
 use Rattle.fam_rules.specs.Reply as reply
 use Rattle.fam_rules.specs.Reply.{Reply}
@@ -100,9 +101,41 @@ pub record IsOther (me master : List ℕ) (host : HostPast) (state : State) : Ty
   pub master_is : master_of state ≡ Some master
   pub other : me ≢ master
 
--- an append may be refused so: another host may append alone, or the rules decide it
+-- the superblock of a damaged image that was handed in reads as these parameters
+abbrev pub GivenSuper : Params → Image → Damage → Type 0
+GivenSuper p image (FewLines lines) = ⊥
+GivenSuper p image (NoSuperblock fault) = ⊥
+GivenSuper p image (BadHeader fault) = super_in (line_at image) (line_bytes * length image) ≡ Ok p
+GivenSuper p image (BadSlot i reason) = super_in (line_at image) (line_bytes * length image) ≡ Ok p
+
+-- so of a damaged image: behind a mkfs whose maker halted there is no superblock
+abbrev pub DamagedSuper : Params → Origin → Damage → Type 0
+DamagedSuper p (Given image) damage = GivenSuper p image damage
+DamagedSuper p Halted damage = ⊥
+
+-- the superblock has these parameters
+abbrev pub HasSuper : Params → State → Type 0
+HasSuper p (Sound q history pending) = p ≡ q
+HasSuper p (Bad origin damage gate) = DamagedSuper p origin damage
+
+-- what the host's command wants to append has a path for which a slot has no room, and the host may append
+pub record NamesLong (p : Params) (host : HostPast) (limit : ℕ) : Type 0 where
+  pub cmd : Cmd
+  pub told : host.cmd ≡ Some cmd
+  pub wish : Wish
+  pub wished : wish_of cmd ≡ Some wish
+  pub is : IsTooLong p host.uuid wish limit
+
+-- so it is by the superblock
+pub record IsLong (limit : ℕ) (host : HostPast) (state : State) : Type 0 where
+  pub params : Params
+  pub super : HasSuper params state
+  pub names : NamesLong params host limit
+
+-- an append may be refused so: another host may append alone, or the path is too long, or the rules decide it
 abbrev pub CauseAllowed : Cause → HostPast → State → Type 0
 CauseAllowed (cause.NotMaster me master) host state = IsOther me master host state
+CauseAllowed (cause.LongPath limit) host state = IsLong limit host state
 CauseAllowed cause.BadStripe host state = DecideAllowed host (Err cause.BadStripe) state
 CauseAllowed (cause.Exists kind) host state = DecideAllowed host (Err (cause.Exists kind)) state
 CauseAllowed cause.NoParent host state = DecideAllowed host (Err cause.NoParent) state

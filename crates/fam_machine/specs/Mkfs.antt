@@ -63,7 +63,7 @@ drop_lines puts cache = fold drop_line cache puts
 -- the parameters that are asked for, of a host of this UUID, on a device of so many lines
 abbrev pub asked : MkfsRequest → List ℕ → ℕ → Params
 asked request me lines =
-    record { log_length = request.log; slots = slots_of request.log; unit = request.unit; device = line_bytes * lines; fs = request.fs; master = me }
+    record { format = request.format; log_length = request.log; slots = slots_of request.format request.log; unit = request.unit; device = line_bytes * lines; fs = request.fs; master = me }
 
 -- a unit, and the length of a log of such units
 abbrev pub is_geometry : ℕ → ℕ → Bool

@@ -11,6 +11,8 @@ pub struct MkfsRequest {
     pub unit: u64,
     /// The bytes of the log with its header.
     pub log: u64,
+    /// The shape of the slots: 1 or 2.
+    pub format: u64,
     /// Whether a file system that stands there is written over.
     pub force: bool,
     /// After so many operations the maker halts: after 80 where the number is greater, and never before the 27 that

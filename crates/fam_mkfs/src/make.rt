@@ -19,7 +19,7 @@ use crate::lines::{FailedAt, read_line, write_line};
 use fam_base::{Line, LineNo, OutOfMemory, Params};
 use fam_cache::HostCache;
 use fam_entry::spell_log;
-use fam_format::{GATE_LINE, LINE_BYTES, LOG_LINE, LOG_OFFSET, SLOT_BYTES};
+use fam_format::{GATE_LINE, LINE_BYTES, LOG_LINE, LOG_OFFSET, shape_of};
 use fam_machine::MkfsRequest;
 use fam_media::{MOST_LINES, Media};
 use fam_super::{LOG_LIMIT, Super, is_unit, read_super};
@@ -70,8 +70,9 @@ pub fn asked(request: &MkfsRequest, me: Uuid, lines: u64) -> Params
     ensures { result ≡ spec.asked request.now me lines }
 {
     Params {
+        format: request.format,
         log_length: request.log,
-        slots: (request.log / SLOT_BYTES).saturating_sub(1),
+        slots: (request.log / shape_of(request.format).bytes).saturating_sub(1),
         unit: request.unit,
         device: LINE_BYTES * lines,
         fs: request.fs,

@@ -25,6 +25,7 @@ answer_view (given.BadSuper field found wanted) = Replied (reply.NoSuperblock (s
 answer_view (given.BadLog field found wanted) = Replied (reply.BadHeader (log_fault.BadLog field found wanted))
 answer_view (given.BadEntry seq reason) = Replied (reply.BadSlot seq reason)
 answer_view (given.NotMaster me master) = Replied (reply.NotAppended (refused.NotMaster me master))
+answer_view (given.LongPath limit) = Replied (reply.NotAppended (refused.LongPath limit))
 answer_view given.BadStripe = Replied (reply.NotAppended refused.BadStripe)
 answer_view (given.Exists kind) = Replied (reply.NotAppended (refused.Exists kind))
 answer_view given.NoParent = Replied (reply.NotAppended refused.NoParent)

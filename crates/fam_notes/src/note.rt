@@ -1,6 +1,6 @@
 //! Notes. `specs/Notes.antt` says which note of a journal each one is.
 
-use fam_base::{Cmd, Entry, HostName, Params};
+use fam_base::{Boxed, Cmd, Entry, HostName, Params};
 use fam_journal::{HostId, Refusal};
 use fam_tasks::Answer;
 use uuid::Uuid;
@@ -27,7 +27,7 @@ pub enum Note {
     /// A host begins a command.
     Start {
         host: HostId,
-        cmd: Cmd,
+        cmd: Boxed<Cmd>,
     },
     /// Its task dropped the gate's line: all that was settled by now will be read.
     Mark {
@@ -42,7 +42,7 @@ pub enum Note {
     Writes {
         host: HostId,
         seq: u64,
-        entry: Entry,
+        entry: Boxed<Entry>,
     },
     /// The task is done.
     Answered {

@@ -31,7 +31,7 @@ module _ (files : Files) where
   event_ends : (e : Event) (old new : Session) (notes : List Note) → IsFaultless notes → DoesEvent files e old notes new → RunEnds e notes
   unfolding refusal_of
   event_ends (event.Host name uuid) old new notes clean x = tt
-  event_ends (event.Mkfs name fs unit log force halt) old new notes clean x = tt
+  event_ends (event.Mkfs name fs unit log format force halt) old new notes clean x = tt
   event_ends (event.Begin name what) old new notes clean x = tt
   event_ends (event.Run name what) old new notes clean (inl x) = inl (run_ends files name what old new notes x clean)
   event_ends (event.Run name what) old new notes clean (inr (inl x)) = inr (x.cause, x.notes_are)

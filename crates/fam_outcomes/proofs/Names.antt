@@ -447,7 +447,7 @@ module _ (files : Files) where
 
   event_named : (e : Event) (old new : Session) (notes : List Note) → DoesEvent files e old notes new → Named old.machines notes new.machines
   event_named (event.Host name uuid) old new notes x = does_named old.machines notes new.machines (call.Declares name uuid) tt x.0
-  event_named (event.Mkfs name fs unit log force halt) old new notes x = does_named old.machines notes new.machines (call.Makes name (mkfs_request fs unit log force halt)) tt x.0
+  event_named (event.Mkfs name fs unit log format force halt) old new notes x = does_named old.machines notes new.machines (call.Makes name (mkfs_request fs unit log format force halt)) tt x.0
   event_named (event.Begin name what) old new notes (inl x) = begun_named name what old new notes x
   event_named (event.Begin name what) old new notes (inr x) = refused_named name what old new notes x
   event_named (event.Run name what) old new notes (inl x) =

@@ -132,6 +132,7 @@ kind_stops kind.Directory = false
 -- a refusal stops it, but that a directory is there
 abbrev pub refusal_stops : Cause → Bool
 refusal_stops (cause.NotMaster me master) = true
+refusal_stops (cause.LongPath limit) = true
 refusal_stops cause.BadStripe = true
 refusal_stops (cause.Exists found) = kind_stops found
 refusal_stops cause.NoParent = true

@@ -1,5 +1,5 @@
 -- The text of a journal. docs/MANUAL.md.
-use Rattle.std.specs.Prelude.{ℕ, ◌/◌, ◌%◌, Bool, true, false, ◌&&◌, if◌then◌else◌, List, [], ◌∷◌, ◌++◌, codes, length, slice_index_or, Option, Some, None}
+use Rattle.std.specs.Prelude.{ℕ, ◌/◌, ◌%◌, Bool, true, false, ◌==◌, ◌&&◌, if◌then◌else◌, List, [], ◌∷◌, ◌++◌, codes, length, slice_index_or, Option, Some, None}
 use Rattle.std.specs.Fmt.{decimal}
 use Rattle.std.specs.List.{flat_map}
 use Rattle.uuid.specs.Text.{lower, hyphenated_text}
@@ -23,6 +23,7 @@ use Rattle.fam_format.specs.declared.faults.LogFault.{LogFault}
 use Rattle.fam_format.specs.declared.faults.LogFault.TheVariants.{BadLog}
 use Rattle.fam_format.specs.declared.faults.Reason.{Reason}
 use Rattle.fam_format.specs.declared.faults.Reason.TheVariants as reason
+use Rattle.fam_format.specs.Params.{first_number}
 use Rattle.fam_rules.specs.declared.answers.Refused.{Refused as Cause}
 use Rattle.fam_rules.specs.declared.answers.Refused.TheVariants as cause
 use Rattle.fam_rules.specs.declared.answers.Checked.{Checked}
@@ -217,6 +218,7 @@ report_text r =
 -- why an append is refused
 abbrev pub cause_text : Cause → List ℕ
 cause_text (cause.NotMaster me master) = codes "not master" ++ uuid_text me ++ uuid_text master
+cause_text (cause.LongPath limit) = codes "path too long" ++ number limit
 cause_text cause.BadStripe = codes "bad stripe"
 cause_text (cause.Exists kind) = codes "exists " ++ kind_text kind
 cause_text cause.NoParent = codes "no parent"
@@ -281,9 +283,13 @@ refusal_text names (why.MediaFault at) = fault_text at.0
 abbrev pub sizes_text : ℕ → ℕ → ℕ → List ℕ
 sizes_text unit log device = codes " unit " ++ (decimal unit ++ (codes " log " ++ (decimal log ++ (codes " device " ++ decimal device))))
 
--- a file system that was made: its UUID and its sizes
+-- the number of a format: nothing where it is the first
+abbrev pub format_text : ℕ → List ℕ
+format_text format = if format == first_number then [] else codes " format" ++ number format
+
+-- a file system that was made: its UUID, its sizes, and its format where that isn't the first
 abbrev pub made_text : Params → List ℕ
-made_text p = codes "made" ++ uuid_text p.fs ++ sizes_text p.unit p.log_length p.device
+made_text p = codes "made" ++ uuid_text p.fs ++ sizes_text p.unit p.log_length p.device ++ format_text p.format
 
 -- the text of a note without its host's name, with its line feeds
 abbrev pub note_text : List (List ℕ) → Note → List ℕ

@@ -3,7 +3,7 @@
 ghost use Rattle.std.specs.Prelude.{◌≡◌, ◌≤◌, [], IfOk, count_by, map};
 ghost use Rattle.std.specs.List.{range_with_len};
 ghost use Rattle.fam_base.specs.declared.entry.Entry.{Entry};
-ghost use Rattle.fam_format.specs.Layout.{device_units};
+ghost use Rattle.fam_format.specs.Layout.{device_units, geometry};
 ghost use Rattle.fam_format.specs.Params.{SoundParams};
 ghost use Rattle.fam_plain.specs.Survey.{survey_from};
 ghost use Rattle.fam_plain.specs.Told.{survey_of};
@@ -68,7 +68,8 @@ fn count_used(alloc: Global, params: &Params, entries: &[Entry]) -> Result<u64, 
     )
 }
 
-/// What fsck reports of the slots of a log whose superblock and header are sound, with this gate.
+/// What fsck reports of the slots of a log whose superblock and header are sound, with this gate. The slots have 64 words,
+/// as in the first format.
 #[tactic(auto, unfolding(fam_rules::specs::Reports::report_by))]
 pub fn plain_report(
     alloc: Global,
@@ -76,7 +77,8 @@ pub fn plain_report(
     slots: &[[u64; SLOT_WORDS]],
     gate: u64,
 ) -> Result<Report, OutOfMemory>
-    requires { SoundParams params.now }
+    requires sound { SoundParams params.now }
+    requires format { (geometry params.now).words ≡ SLOT_WORDS }
     ensures { IfOk result (λ report.
         report ≡ report_by params.now gate (survey_from params.now gate 0 slots.now no_survey)) }
 {

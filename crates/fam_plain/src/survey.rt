@@ -1,6 +1,7 @@
 //! The slots of a log, looked at one by one.
 
 ghost use Rattle.std.specs.Prelude.{◌≡◌, ◌+◌, ◌-◌, ◌<◌, ◌≤◌, ◌^◌, IfOk, OnOk, Ok};
+ghost use Rattle.fam_format.specs.Layout.{geometry};
 ghost use Rattle.fam_format.specs.Params.{SoundParams};
 ghost use Rattle.fam_format.specs.Tree as tree;
 ghost use Rattle.fam_format.specs.Tree.{replay};
@@ -100,6 +101,7 @@ impl Told {
         gate: u64,
     ) -> Result<(), OutOfMemory>
         requires sound { SoundParams params.now }
+        requires format { (geometry params.now).words ≡ SLOT_WORDS }
         requires few { self.old.past < 2 ^ 64 - 1 }
         ensures slot { OnOk result (survey_of self.new ≡ survey_slot params.now gate number words.now (survey_of self.old)) }
         ensures few { OnOk result (self.new.past ≤ self.old.past + 1) }
@@ -120,7 +122,8 @@ pub(crate) fn look(
     slots: &[[u64; SLOT_WORDS]],
     gate: u64,
 ) -> Result<Told, OutOfMemory>
-    requires { SoundParams params.now }
+    requires sound { SoundParams params.now }
+    requires format { (geometry params.now).words ≡ SLOT_WORDS }
     ensures { IfOk result (λ told. survey_of told ≡ survey_from params.now gate 0 slots.now no_survey) }
 {
     let mut told = Told::nothing(alloc);

@@ -19,11 +19,12 @@ use Rattle.fam_format.specs.Stop.{or_else, stop}
 use Rattle.fam_format.specs.Tree.{exists_fault, parent_fault, replay, join_fault, root_fault, overlap_fault}
 use Rattle.fam_format.specs.Units.{units_in, is_used, first_overlap}
 use Rattle.fam_format.specs.declared.faults.Reason.TheVariants as reason
+use Rattle.fam_format.proofs.Formats.{slots_some}
 use Rattle.fam_format.proofs.UnitPowers.{unit_told}
 use Rattle.fam_format.proofs.EntryLawsProofs.{proper_inside}
 use Rattle.fam_rules.specs.declared.answers.Refused.{Refused}
 use Rattle.fam_rules.specs.declared.answers.Refused.TheVariants as refused
-use Rattle.fam_rules.specs.Decide.{Room, Wish, decide_wish, entry_or, exists_refusal, found_refusal, full_refusal, master_refusal, no_room_needed, parent_refusal, room_by, room_for, room_or, stripe_refusal}
+use Rattle.fam_rules.specs.Decide.{Room, Wish, decide_wish, early_refusal, entry_or, exists_refusal, found_refusal, full_refusal, no_room_needed, parent_refusal, room_by, room_for, room_or, stripe_refusal}
 use Rattle.fam_alloc.specs.Taken.{LieWithin}
 use Rattle.fam_alloc.proofs.OverlapLemmas.{or_false, overlap_same}
 use Rattle.fam_plan.specs.Needs.{NeedsRoom}
@@ -62,13 +63,13 @@ units_alone p e o root found =
 -- Wishes.
 
 -- a log has a slot
-slots_some : (p : Params) → SoundParams p → 0 < p.slots
-slots_some p sound =
+has_slot : (p : Params) → SoundParams p → 0 < p.slots
+has_slot p sound =
     let least = (unit_told p.unit sound.unit).least in
     let some : 0 < p.log_length = grind (arith, nat_tests, sound.log_length) in
     let whole : p.log_length % p.unit ≡ 0 = grind (arith, nat_tests, sound.log_length) in
     let long : p.unit ≤ p.log_length = elim (cases_lt p.log_length p.unit) [ inl below ↦ absurd (omega (arith, mod-eq_of_lt below, whole, some)) | inr past ↦ past ] in
-    omega (arith, sound.slots, long, least)
+    omega (arith, sound.slots, slots_some p.format p.log_length (omega (arith, long, least)))
 
 room_asked : (w : Wish) (k : ℕ) (o : Option Room) → NeedsRoom (entry_or w (room_or k o))
 room_asked w k None = tt
@@ -87,28 +88,28 @@ room_for_asked p w = by_size (w.size == 0)
     by_size false = room_by_asked p w w.size w.stripe
 
 -- what is against a wish, in the order of the tests
-wish_by : (p : Params) (me : List ℕ) (w : Wish) → SoundParams p → master_refusal p me ≡ None → stripe_refusal p w.stripe ≡ None → decide_wish p me [] w ≡ stop (parent_refusal (replay []) (parent_of w.path)) (entry_or w (room_for p [] w))
+wish_by : (p : Params) (me : List ℕ) (w : Wish) → SoundParams p → early_refusal p me w.path ≡ None → stripe_refusal p w.stripe ≡ None → decide_wish p me [] w ≡ stop (parent_refusal (replay []) (parent_of w.path)) (entry_or w (room_for p [] w))
 unfolding decide_wish
-wish_by p me w sound master stripe =
-    let full : full_refusal p [] ≡ None = grind (arith, nat_tests, slots_some p sound) in
+wish_by p me w sound early stripe =
+    let full : full_refusal p [] ≡ None = grind (arith, nat_tests, has_slot p sound) in
     let free : exists_refusal (finmap.get (replay []) w.path) ≡ None = ap exists_refusal (finmap.get-empty path_cmp w.path) in
-    rw (master, stripe, free, full) refl
+    rw (early, stripe, free, full) refl
 
 -- by what is said of its parent
 abbrev IsRootTest : Wish → Result Unit Refused → Type 0
 IsRootTest w r =
     MatchResult r (λ _. parent_refusal (replay []) (parent_of w.path) ≡ None) (λ refused. parent_refusal (replay []) (parent_of w.path) ≡ Some refused)
 
-module _ (p : Params) (me : List ℕ) (w : Wish) (sound : SoundParams p) (master : master_refusal p me ≡ None) (stripe : stripe_refusal p w.stripe ≡ None) where
+module _ (p : Params) (me : List ℕ) (w : Wish) (sound : SoundParams p) (early : early_refusal p me w.path ≡ None) (stripe : stripe_refusal p w.stripe ≡ None) where
   pub wish_refused : (r : Result Unit Refused) → IsRootTest w r → IfErr r (λ refused. decide_wish p me [] w ≡ Err refused)
   wish_refused (Ok x) told = tt
   wish_refused (Err refused) told =
-      wish_by p me w sound master stripe ∙ ap (λ (o : Option Refused). stop o (entry_or w (room_for p [] w))) told
+      wish_by p me w sound early stripe ∙ ap (λ (o : Option Refused). stop o (entry_or w (room_for p [] w))) told
 
   -- with nothing else against it, a wish gives an entry or wants room
   pub wish_asks : (r : Result Unit Refused) → IsRootTest w r → OnOk r (NeedsRoom (decide_wish p me [] w))
   wish_asks (Ok x) told =
-      subst NeedsRoom (sym (wish_by p me w sound master stripe ∙ ap (λ (o : Option Refused). stop o (entry_or w (room_for p [] w))) told)) (room_for_asked p w)
+      subst NeedsRoom (sym (wish_by p me w sound early stripe ∙ ap (λ (o : Option Refused). stop o (entry_or w (room_for p [] w))) told)) (room_for_asked p w)
   wish_asks (Err refused) told = tt
 
 -- Options by their tests.

@@ -2,11 +2,12 @@
 use Rattle.std.specs.Prelude.{⊤, Option, Some, None, Result, Ok, Err}
 use Rattle.fam_base.specs.declared.entry.Entry.{Entry}
 use Rattle.fam_rules.specs.declared.answers.Refused.{Refused}
-use Rattle.fam_rules.specs.declared.answers.Refused.TheVariants.{NotMaster, BadStripe, Exists, NoParent, ParentIsFile, LogFull, NoSpace}
+use Rattle.fam_rules.specs.declared.answers.Refused.TheVariants.{NotMaster, LongPath, BadStripe, Exists, NoParent, ParentIsFile, LogFull, NoSpace}
 
 -- no room was found in the units
 abbrev pub IsNoSpace : Refused → Type 0
 IsNoSpace (NotMaster me master) = ⊥
+IsNoSpace (LongPath limit) = ⊥
 IsNoSpace BadStripe = ⊥
 IsNoSpace (Exists kind) = ⊥
 IsNoSpace NoParent = ⊥

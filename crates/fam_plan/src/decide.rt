@@ -5,7 +5,7 @@ ghost use Rattle.std.specs.FinMap as map;
 ghost use Rattle.fam_base.specs.Paths.{parent_of};
 ghost use Rattle.fam_format.specs.Tree.{replay};
 ghost use Rattle.fam_rules.specs.Decide.{decide, decide_wish, wish_of, is_stripe};
-ghost use Rattle.fam_rules.specs.Decide.{master_refusal, stripe_refusal, exists_refusal, parent_refusal, full_refusal};
+ghost use Rattle.fam_rules.specs.Decide.{early_refusal, length_refusal, master_refusal, stripe_refusal, exists_refusal, parent_refusal, full_refusal};
 ghost use Rattle.fam_base.specs.Commands.{IsSoundCmd};
 ghost use Rattle.fam_plan.specs.State.{MayBeAdded};
 ghost use Rattle.fam_plan.specs.Wishes.{wish_in};
@@ -13,6 +13,7 @@ ghost use Rattle.fam_plan.specs.Wishes.{wish_in};
 use crate::plan::Plan;
 use crate::wish::Wish;
 use fam_base::{Cmd, EXTENT_LIMIT, Entry, Kind, Params, Path, Stripe};
+use fam_format::shape_of;
 use fam_rules::Refused;
 use uuid::Uuid;
 
@@ -20,7 +21,7 @@ use uuid::Uuid;
 const BUCKET_LIMIT: u64 = 64;
 
 /// Whether a host appends to a log.
-pub(crate) fn check_master(params: &Params, me: &Uuid) -> Result<(), Refused>
+fn check_master(params: &Params, me: &Uuid) -> Result<(), Refused>
     ensures { MatchResult result (λ _. master_refusal params.now me.now ≡ None)
         (λ refused. master_refusal params.now me.now ≡ Some refused) }
 {
@@ -32,6 +33,28 @@ pub(crate) fn check_master(params: &Params, me: &Uuid) -> Result<(), Refused>
             master: params.master,
         })
     }
+}
+
+/// Whether a slot of the log's format has room for a path.
+fn check_length(params: &Params, path: &Path) -> Result<(), Refused>
+    ensures { MatchResult result (λ _. length_refusal params.now path.now ≡ None)
+        (λ refused. length_refusal params.now path.now ≡ Some refused) }
+{
+    let limit = shape_of(params.format).path_limit;
+    if path.bytes().len() <= limit {
+        Ok(())
+    } else {
+        Err(Refused::LongPath(limit as u64))
+    }
+}
+
+/// Whether a host appends to a log, and a slot has room for the path: this is known as soon as the superblock is read.
+pub fn check_early(params: &Params, me: &Uuid, path: &Path) -> Result<(), Refused>
+    ensures { MatchResult result (λ _. early_refusal params.now me.now path.now ≡ None)
+        (λ refused. early_refusal params.now me.now path.now ≡ Some refused) }
+{
+    check_master(params, me)?;
+    check_length(params, path)
 }
 
 /// Whether a stripe has a chunk of whole units, and no more strips than a file has extents and the device buckets.
@@ -106,7 +129,7 @@ impl Plan {
     fn decide_wish(&self, wish: &Wish, me: &Uuid) -> Result<Entry, Refused>
         ensures { result ≡ decide_wish self.now.params me.now self.now.entries (wish_in wish.now) }
     {
-        check_master(&self.params, me)?;
+        check_early(&self.params, me, &wish.path)?;
         check_stripe(&self.params, &wish.stripe)?;
         self.check_free(&wish.path)?;
         self.check_parent(&wish.path)?;

@@ -12,7 +12,7 @@ ghost use Rattle.fam_rules.specs.Decide.{decide, decide_wish, parent_refusal, wi
 ghost use Rattle.fam_plan.specs.Needs.{NeedsUnits, NeedsRoom};
 ghost use Rattle.fam_plan.specs.Wishes.{wish_in};
 
-use crate::decide::{check_master, check_stripe};
+use crate::decide::{check_early, check_stripe};
 use crate::wish::Wish;
 use fam_alloc::overlap_behind;
 use fam_base::{Cmd, Entry, Params, Path};
@@ -66,7 +66,7 @@ fn check_wish(params: &Params, wish: &Wish, me: &Uuid) -> Result<(), Refused>
         decide_wish params.now me.now [] (wish_in wish.now) ≡ Err refused) }
     ensures room { OnOk result (NeedsRoom (decide_wish params.now me.now [] (wish_in wish.now))) }
 {
-    check_master(params, me)?;
+    check_early(params, me, &wish.path)?;
     check_stripe(params, &wish.stripe)?;
     check_root(&wish.path)
 }

@@ -19,6 +19,7 @@ mod room;
 mod used;
 mod wish;
 
+pub use decide::check_early;
 pub use fam_rules::Refused;
 pub use fault::AddFault;
 pub use first::{first_entry_fault, first_entry_refusal};

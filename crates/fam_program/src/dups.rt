@@ -1,7 +1,8 @@
 //! A file system copied onto another image, and what is put of that.
 
-ghost use Rattle.std.specs.Prelude.{◌≡◌, ◌≤◌, [], IfOk, List, Some, ℕ};
+ghost use Rattle.std.specs.Prelude.{◌≡◌, ◌≤◌, [], IfOk, IsTrue, List, Some, ℕ};
 ghost use Rattle.fam_dup.specs.Findings.{class_of};
+ghost use Rattle.fam_format.specs.Params.{is_format};
 ghost use Rattle.fam_format.specs.declared.faults.SuperFault.TheVariants as super;
 ghost use Rattle.fam_format.specs.declared.faults.LogFault.TheVariants as log;
 ghost use Rattle.fam_journal.specs.Names.{NamesCause};
@@ -42,6 +43,12 @@ fn stopped_line(alloc: Global, seq: u64, refusal: DupRefusal) -> Result<Vec<u8>,
     ensures { IfOk result (λ bytes. bytes.items ≡ dups.stopped_line seq refusal) }
 {
     match refusal {
+        DupRefusal::LongPath(limit) => {
+            line_of(
+                alloc,
+                format!(in alloc; "dup stopped {seq} path too long {limit}"),
+            )
+        }
         DupRefusal::LogFull(slots) => {
             line_of(
                 alloc,
@@ -192,6 +199,7 @@ pub fn copy_file_system<M: Media, N: Media, K: Sink>(
     to: &mut N,
     out: &mut K,
 ) -> Status
+    requires { IsTrue (is_format request.format) }
     ensures ends { DupTop (Some (copy_asked me request)) (copy_outside (M.size from.old) (N.size to.old) (change M.state from.old from.new)
         (change N.state to.old to.new) (change K.state out.old out.new)) result }
     ensures steady_from { IsSteady M.size M.state from.old from.new }

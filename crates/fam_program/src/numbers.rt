@@ -55,6 +55,7 @@ fn answer_number(answer: &Answer) -> Option<NumberLine>
         Answer::BadLog { .. } => None,
         Answer::BadEntry { .. } => None,
         Answer::NotMaster { .. } => None,
+        Answer::LongPath(_) => None,
         Answer::BadStripe => None,
         Answer::Exists(_) => None,
         Answer::NoParent => None,

@@ -4,7 +4,7 @@ ghost use Rattle.std.specs.Prelude.{◌≡◌, ◌++◌, ◌∷◌, [], IfOk, On
 ghost use Rattle.fam_journal.specs.declared.event.Event.TheVariants as event;
 ghost use Rattle.fam_outcomes.specs.Programs.{MakesParents, shot_events};
 
-use fam_base::{Attr, Cmd, HostName, OutOfMemory, Path};
+use fam_base::{Attr, Boxed, Cmd, HostName, OutOfMemory, Path};
 use fam_journal::{Ask, Event};
 use fam_script::prefixes;
 use std::alloc::Global;
@@ -38,7 +38,8 @@ pub(crate) fn parent_events(
             path: directory,
             attr,
         };
-        add(Event::Run(name, Ask::Plain(making)), &mut events)?;
+        let asked = Boxed::new(alloc, Ask::Plain(making))?;
+        add(Event::Run(name, asked), &mut events)?;
     }
     Ok(events)
 }

@@ -13,7 +13,7 @@ ghost use Rattle.fam_program.specs.Shadows.{ShadowTop, fault_text, no_files, sha
 
 use crate::no_files::NoFiles;
 use crate::puts::{put_line, put_memory};
-use crate::shots::{own_name, put_end, two_events};
+use crate::shots::{own_name, put_end, run_events};
 use crate::unprinted::run_until_stop;
 use fam_base::{Cmd, OutOfMemory};
 use fam_events::EventFault;
@@ -46,6 +46,7 @@ fn answered_tree(answer: &Answer) -> Option<(u64, &Tree)>
         Answer::BadLog { .. } => None,
         Answer::BadEntry { .. } => None,
         Answer::NotMaster { .. } => None,
+        Answer::LongPath(_) => None,
         Answer::BadStripe => None,
         Answer::Exists(_) => None,
         Answer::NoParent => None,
@@ -182,7 +183,7 @@ pub fn write_shadow<M: Media, D: Shade, K: Sink>(
 {
     let name = own_name();
     let ask = Ask::Plain(Cmd::Logplay);
-    let Ok(events) = two_events(alloc, name, me, Event::Run(name, ask)) else {
+    let Ok(events) = run_events(alloc, name, me, ask) else {
         return put_memory(out);
     };
     let mut world = World::new(alloc);

@@ -1,7 +1,8 @@
 //! Commands of their own: one host is declared and does what is asked of it, and the last note is put.
 
-ghost use Rattle.std.specs.Prelude.{◌≡◌, ◌≤◌, ◌∷◌, [], IfOk, None, Some};
+ghost use Rattle.std.specs.Prelude.{◌≡◌, ◌≤◌, ◌∷◌, [], IfOk, IsTrue, None, Some};
 ghost use Rattle.fam_base.specs.Commands.{mode_limit};
+ghost use Rattle.fam_format.specs.Params.{is_format};
 ghost use Rattle.fam_grammar.specs.Scripts.{script_events};
 ghost use Rattle.fam_grammar.specs.Sound.{IsSoundAsk};
 ghost use Rattle.fam_journal.specs.declared.event.Event.TheVariants as event;
@@ -17,7 +18,7 @@ use crate::numbers::{last_number, put_number};
 use crate::parents::parent_events;
 use crate::puts::{put_line, put_memory, put_source_end};
 use crate::unprinted::run_until_stop;
-use fam_base::{Attr, HostName, OutOfMemory, Path};
+use fam_base::{Attr, Boxed, HostName, OutOfMemory, Path};
 use fam_events::EventFault;
 use fam_journal::{Ask, Event};
 use fam_machine::MkfsRequest;
@@ -53,6 +54,19 @@ pub(crate) fn two_events(
         return Err(OutOfMemory);
     }
     Ok(events)
+}
+
+/// A host is declared, and runs what it is asked for.
+pub(crate) fn run_events(
+    alloc: Global,
+    name: HostName,
+    me: Uuid,
+    ask: Ask,
+) -> Result<Vec<Event>, OutOfMemory>
+    ensures { IfOk result (λ events. events.items ≡ event.Host name me ∷ event.Run name ask ∷ []) }
+{
+    let asked = Boxed::new(alloc, ask)?;
+    two_events(alloc, name, me, Event::Run(name, asked))
 }
 
 /// Puts the last note of a run, without its host's name, and gives the status; or that no memory is left for it. That an
@@ -113,7 +127,7 @@ pub fn run_command<M: Media, S: Shelf, K: Sink>(
     ensures later { (K.state out.old).faults ≤ (K.state out.new).faults }
 {
     let name = own_name();
-    let Ok(events) = two_events(alloc, name, me, Event::Run(name, ask)) else {
+    let Ok(events) = run_events(alloc, name, me, ask) else {
         return put_memory(out);
     };
     let mut world = World::new(alloc);
@@ -135,7 +149,8 @@ pub fn make_file_system<M: Media, S: Shelf, K: Sink>(
     shelf: &mut S,
     out: &mut K,
 ) -> Status
-    requires { request.halt ≡ None }
+    requires format { IsTrue (is_format request.format) }
+    requires whole { request.halt ≡ None }
     ensures ends { TopEnds script_events storm (Some (Single me (Makes request))) (outside_of M.size M.state
         media.old media.new (change S.state shelf.old shelf.new)
         (change K.state out.old out.new)) result }
@@ -149,6 +164,7 @@ pub fn make_file_system<M: Media, S: Shelf, K: Sink>(
         fs: request.fs,
         unit: request.unit,
         log: request.log,
+        format: request.format,
         force: request.force,
         halt: request.halt,
     };

@@ -16,7 +16,8 @@ use Rattle.fam_rules.specs.declared.answers.LogState.{LogState}
 use Rattle.fam_rules.specs.declared.answers.LogState.TheVariants as log
 use Rattle.fam_rules.specs.Asks.{File, entries_of, ask}
 use Rattle.fam_rules.specs.Content.{fill}
-use Rattle.fam_rules.specs.Decide.{decide}
+use Rattle.fam_rules.specs.Decide.{Wish, wish_of, decide}
+use Rattle.fam_rules.specs.DecideLaws.{IsTooLong}
 use Rattle.fam_rules.specs.Reply.{Reply, Appended, NotAppended, Played, Mounted, Same, Differs, Length, Bytes, NotFound, IsDirectory, Checks, Reports, NoSuperblock, BadHeader, BadSlot}
 use Rattle.fam_rules.specs.ReportLaws.{IsSoundReport}
 use Rattle.fam_protocol.specs.SharedState.{SharedState}
@@ -168,9 +169,17 @@ pub record IsClient (p : Params) (t : Task) (me master : List ℕ) : Type 0 wher
   pub master_is : master ≡ p.master
   pub other : me ≢ master
 
--- the causes of which an append may be refused: its host is a client, or the decision on the whole history
+-- the host is the master, and what it wants to append has a path for which a slot has no room
+pub record NamesLongPath (p : Params) (t : Task) (limit : ℕ) : Type 0 where
+  pub wish : Wish
+  pub wished : wish_of t.cmd ≡ Some wish
+  pub is : IsTooLong p t.me wish limit
+
+-- the causes of which an append may be refused: its host is a client, its path is too long, or the decision on the whole
+-- history
 abbrev pub MayRefuse : Refused → System → Task → List File → ℕ → Type 0
 MayRefuse (refused.NotMaster me master) sys t all settled = IsClient sys.params t me master
+MayRefuse (refused.LongPath limit) sys t all settled = NamesLongPath sys.params t limit
 MayRefuse refused.BadStripe sys t all settled = RefusesWhole sys.params t all settled refused.BadStripe
 MayRefuse (refused.Exists kind) sys t all settled = RefusesWhole sys.params t all settled (refused.Exists kind)
 MayRefuse refused.NoParent sys t all settled = RefusesWhole sys.params t all settled refused.NoParent

@@ -18,7 +18,7 @@ use Rattle.fam_machine.specs.OneLine.{IsDirty}
 use Rattle.fam_commands.specs.Kept.{used}
 use Rattle.fam_commands.specs.Task.{Task, part_count, part_line}
 use Rattle.fam_commands.specs.Turns.{Turn, Goes, Marks, Finds, Writes, Ends, slots_read}
-use Rattle.fam_rules.specs.declared.answers.Refused.TheVariants.{NotMaster, BadStripe, Exists, NoParent, ParentIsFile, LogFull, NoSpace}
+use Rattle.fam_rules.specs.declared.answers.Refused.TheVariants.{NotMaster, LongPath, BadStripe, Exists, NoParent, ParentIsFile, LogFull, NoSpace}
 use Rattle.fam_rules.specs.Decide.{Wish, wish_of}
 use Rattle.fam_rules.specs.Place.{line_bytes}
 use Rattle.fam_rules.specs.Reply.{Reply, NotAppended, Reports, Appended, Played, Mounted, Same, Differs, Length, Bytes, NotFound, IsDirectory, Checks}
@@ -27,6 +27,7 @@ use Rattle.fam_rules.specs.Reports.{no_survey, report_of, report_by, survey_slot
 use Rattle.fam_protocol.specs.SharedState.{SharedState}
 use Rattle.fam_protocol.specs.Lines.{Fresh}
 use Rattle.fam_protocol.specs.Core.{IsWide}
+use Rattle.fam_protocol.specs.After.{NamesLongPath}
 use Rattle.fam_protocol.specs.Tasks.{HasLoaded, part_words}
 use Rattle.fam_format.specs.Line.{line_words}
 use Rattle.fam_commands.specs.Classes.{Class, class_of, Replays, Appends, Compares, Reads, Surveys}
@@ -129,9 +130,16 @@ pub record IsBadClient (image : Lines) (have : ℕ) (t : Task) (me master : List
   pub master_is : master ≡ params.master
   pub other : me ≢ master
 
--- the refusal of another host than the master
+-- the superblock reads, and names the host, whose path is too long
+pub record NamesBadLongPath (image : Lines) (have : ℕ) (t : Task) (limit : ℕ) : Type 0 where
+  pub params : Params
+  pub super : super_in image have ≡ Ok params
+  pub is : NamesLongPath params t limit
+
+-- the refusal of another host than the master, or of the master's path
 abbrev pub MayRefuseBad : Refused → Lines → ℕ → Task → Type 0
 MayRefuseBad (NotMaster me master) image have t = IsBadClient image have t me master
+MayRefuseBad (LongPath limit) image have t = NamesBadLongPath image have t limit
 MayRefuseBad BadStripe image have t = ⊥
 MayRefuseBad (Exists kind) image have t = ⊥
 MayRefuseBad NoParent image have t = ⊥
@@ -139,7 +147,7 @@ MayRefuseBad ParentIsFile image have t = ⊥
 MayRefuseBad (LogFull slots) image have t = ⊥
 MayRefuseBad (NoSpace units) image have t = ⊥
 
--- the image's own fault, or its report, or the refusal of another host than the master
+-- the image's own fault, or its report, or a refusal that comes when the superblock is read
 abbrev pub MayReplyBad : Reply → Lines → ℕ → Task → Type 0
 MayReplyBad (NotAppended why) image have t = MayRefuseBad why image have t
 MayReplyBad (Reports report) image have t = report ≡ report_of image have

@@ -11,7 +11,7 @@ use Rattle.fam_commands.specs.declared.phase.Phase.{Phase}
 use Rattle.fam_commands.specs.declared.phase.Phase.TheVariants as at
 use Rattle.fam_commands.specs.Task.{Task, first_line}
 use Rattle.fam_rules.specs.declared.answers.Refused.{Refused}
-use Rattle.fam_rules.specs.declared.answers.Refused.TheVariants.{NotMaster, BadStripe, Exists, NoParent, ParentIsFile, LogFull, NoSpace}
+use Rattle.fam_rules.specs.declared.answers.Refused.TheVariants.{NotMaster, LongPath, BadStripe, Exists, NoParent, ParentIsFile, LogFull, NoSpace}
 use Rattle.fam_rules.specs.Asks.{File, file_at}
 use Rattle.fam_rules.specs.Place.{line_bytes}
 use Rattle.fam_rules.specs.Reply.{Reply}
@@ -137,9 +137,10 @@ IsOfFaultIn (Reporting report) = ⊥
 abbrev pub IsOfFault : Reply → Type 0
 IsOfFault given = IsOfFaultIn (reply_class given)
 
--- a refusal for another cause than the host
+-- a refusal for another cause than the host or the length of the path
 abbrev pub IsOfDecision : Refused → Type 0
 IsOfDecision (NotMaster me master) = ⊥
+IsOfDecision (LongPath limit) = ⊥
 IsOfDecision BadStripe = ⊤
 IsOfDecision (Exists kind) = ⊤
 IsOfDecision NoParent = ⊤

@@ -12,8 +12,8 @@ ghost use Rattle.fam_commands.specs.Task.{Task};
 ghost use Rattle.fam_commands.specs.Turns.{Ends, Finds, Writes, gate_loaded};
 ghost use Rattle.fam_commands.specs.declared.phase.Part.{Part};
 ghost use Rattle.fam_commands.specs.declared.phase.Phase.{Phase};
-ghost use Rattle.fam_protocol.specs.After.{HasNamed, AppendsNamed, AnswersPrefix, RefusesWhole, ReportsPrefix, IsClient};
-ghost use Rattle.fam_protocol.specs.Bad.{FindsBad, IsBadClient, Still, fault_of};
+ghost use Rattle.fam_protocol.specs.After.{HasNamed, AppendsNamed, AnswersPrefix, RefusesWhole, ReportsPrefix, IsClient, NamesLongPath};
+ghost use Rattle.fam_protocol.specs.Bad.{FindsBad, IsBadClient, NamesBadLongPath, Still, fault_of};
 ghost use Rattle.fam_protocol.specs.Findings.{
   DamagedStep,
   HasLoadedGate,
@@ -93,7 +93,7 @@ pub fn an_answer_is_of_a_settled_prefix()
         → AppendsNamed step.run all seq }
 
     // A refusal is the one that the rules decide of the whole history, with nothing pending; or the host is another
-    // one than the master.
+    // one than the master; or it is the master, and a slot has no room for its path.
     ensures refused { (p : Params) (all : List File) (settled : ℕ) (refused : Refused)
         (step : SoundStep p all settled)
         → turn_given step.run.task step.word ≡ Ends (NotAppended refused)
@@ -102,6 +102,9 @@ pub fn an_answer_is_of_a_settled_prefix()
         (step : SoundStep p all settled)
         → turn_given step.run.task step.word ≡ Ends (NotAppended (Refused.NotMaster me master))
         → IsClient p step.run.task me master }
+    ensures long { (p : Params) (all : List File) (settled limit : ℕ) (step : SoundStep p all settled)
+        → turn_given step.run.task step.word ≡ Ends (NotAppended (Refused.LongPath limit))
+        → NamesLongPath p step.run.task limit }
 
     // No task names a fault.
     ensures no_fault { (p : Params) (all : List File) (settled : ℕ) (reply : Reply)
@@ -122,7 +125,7 @@ pub fn a_damaged_image_names_its_fault()
         → report ≡ report_of image (line_bytes * lines) }
 
     // There is no answer made of entries, and nothing is appended. A refusal is that of another host than the one
-    // that the superblock names.
+    // that the superblock names, or of this one's path, for which a slot has no room.
     ensures no_entries { (image : Lines) (lines : ℕ) (reply : Reply) (step : DamagedStep image lines)
         → turn_given step.run.task step.word ≡ Ends reply → ¬ (IsOfEntries reply) }
     ensures not_appended { (image : Lines) (lines seq : ℕ) (step : DamagedStep image lines)
@@ -132,6 +135,9 @@ pub fn a_damaged_image_names_its_fault()
     ensures client { (image : Lines) (lines : ℕ) (me master : List ℕ) (step : DamagedStep image lines)
         → turn_given step.run.task step.word ≡ Ends (NotAppended (Refused.NotMaster me master))
         → IsBadClient image (line_bytes * lines) step.run.task me master }
+    ensures long { (image : Lines) (lines limit : ℕ) (step : DamagedStep image lines)
+        → turn_given step.run.task step.word ≡ Ends (NotAppended (Refused.LongPath limit))
+        → NamesBadLongPath image (line_bytes * lines) step.run.task limit }
 
     // Memory stays what it was, and nobody has anything to send.
     ensures same { (image : Lines) (lines : ℕ) (step : DamagedStep image lines)

@@ -1,5 +1,5 @@
 -- The master's append in a scene, as its task does it: what the protocol keeps holds up to its answer.
-use Rattle.std.proofs.Common.{ℕ, zero, suc, ◌≡◌, ◌≢◌, ◌⊎◌, inl, inr, ◌+◌, ◌*◌, ◌<◌, ◌==◌, if◌then◌else◌, Bool, true, false, List, [], ◌∷◌, ◌++◌, length, take, Option, Some, None, Ok, refl, sym, ap, subst, ◌∙◌, arith}
+use Rattle.std.proofs.Common.{ℕ, zero, suc, ◌≡◌, ◌≢◌, ◌⊎◌, inl, inr, ◌+◌, ◌-◌, ◌*◌, ◌<◌, ◌==◌, if◌then◌else◌, Bool, true, false, List, [], ◌∷◌, ◌++◌, length, take, Option, Some, None, Ok, refl, sym, ap, subst, ◌∙◌, arith}
 use Rattle.std.specs.Prelude.{⊤, flat_map, nat_lt, option_map, slice_index}
 use Rattle.std.specs.List.{range_with_len}
 use Rattle.std.proofs.lemmas.Bool.{eq-eqb, ne_eqb}
@@ -10,6 +10,7 @@ use Rattle.fam_base.specs.declared.cmd.Cmd.TheVariants.{Logplay, Mount, Mkdir, C
 use Rattle.fam_base.specs.Image.{line_at}
 use Rattle.fam_format.specs.Layout.{geometry, slot_line}
 use Rattle.fam_format.specs.Slot.{spelling}
+use Rattle.fam_format.proofs.Formats.{shape}
 use Rattle.fam_machine.specs.declared.cell.Cell.TheVariants.{Absent}
 use Rattle.fam_machine.specs.declared.op.Op.{Op}
 use Rattle.fam_machine.specs.declared.op.Op.TheVariants.{Load, Store, WriteBack, Fence, Invalidate, Digest}
@@ -165,10 +166,20 @@ module _ (c : Scene) where
       (steps (stored_word j 5 (omega arith)) (λ word. refl)
       (steps (stored_word j 6 (omega arith)) (λ word. refl) (steps (stored_word j 7 (omega arith)) (λ word. refl) (steps refl (λ word. refl) stays))))))))
 
+  -- the lines from line j on
+  along_slot_from : (count j : ℕ) → j + suc count ≡ (geometry c.params).lines → Along (flat_map slot_line_ops (range_with_len j (suc count))) (at.StoreSlot j 0) at.FenceSlot
+  along_slot_from zero j is =
+      let last : nat_lt (j + 1) (geometry c.params).lines ≡ false = grind (arith, nat_tests, is) in
+      along_on (subst (λ (q : Phase). Along (slot_line_ops j) (at.StoreSlot j 0) q) (ap (λ (b : Bool). if b then at.StoreSlot (j + 1) 0 else at.FenceSlot) last) (along_line j)) stays
+  along_slot_from (suc count) j is =
+      let more : nat_lt (j + 1) (geometry c.params).lines ≡ true = grind (arith, nat_tests, is) in
+      along_on (subst (λ (q : Phase). Along (slot_line_ops j) (at.StoreSlot j 0) q) (ap (λ (b : Bool). if b then at.StoreSlot (j + 1) 0 else at.FenceSlot) more) (along_line j)) (along_slot_from count (j + 1) (omega (arith, is)))
+
   -- and all of them
   along_slot : Along (writes_slot c) (at.StoreSlot 0 0) at.FenceSlot
   along_slot =
-      along_on (along_line 0) (along_on (along_line 1) (along_on (along_line 2) (along_on (along_line 3) (along_on (along_line 4) (along_on (along_line 5) (along_on (along_line 6) (along_on (along_line 7) stays)))))))
+      let some : suc ((geometry c.params).lines - 1) ≡ (geometry c.params).lines = omega (arith, (shape c.params).lines) in
+      subst (λ (count : ℕ). Along (flat_map slot_line_ops (range_with_len 0 count)) (at.StoreSlot 0 0) at.FenceSlot) some (along_slot_from ((geometry c.params).lines - 1) 0 (omega (arith, some)))
 
   -- a line of the file
   abbrev data_line_ops : ℕ → List Op

@@ -4,7 +4,8 @@ use Rattle.std.specs.Prelude.{⊤, filter, flat_map}
 use Rattle.std.proofs.Math.Nat.{mul-suc}
 use Rattle.std.specs.List.{range_with_len}
 use Rattle.fam_base.specs.declared.entry.Params.{Params}
-use Rattle.fam_format.specs.Layout.{gate_line, slot_line}
+use Rattle.fam_format.specs.Layout.{geometry, gate_line, slot_line}
+use Rattle.fam_format.proofs.Formats.{shape}
 use Rattle.std.proofs.lemmas.Bool.{false≢true}
 use Rattle.fam_machine.specs.declared.cell.Cell.{Cell}
 use Rattle.fam_machine.specs.declared.cell.Cell.TheVariants.{Absent, Clean, Dirty}
@@ -66,10 +67,10 @@ pub data Which : Type 0 where
   Slot : (j : ℕ) → Which
   Gate : Which
 
--- a slot has eight lines
-abbrev pub IsThere : Which → Type 0
-IsThere (Slot j) = j < 8
-IsThere Gate = ⊤
+-- a line of a slot
+abbrev pub IsThere : Params → Which → Type 0
+IsThere p (Slot j) = j < (geometry p).lines
+IsThere p Gate = ⊤
 
 -- what memory and the caches have of them
 pub record View : Type 0 where
@@ -138,16 +139,16 @@ abbrev pub then_all : List Phase → View → View
 then_all [] v = v
 then_all (phase ∷ more) v = then_all more (then phase v)
 
--- the words that it gives
-abbrev pub words_of : Phase → View → List ℕ
-words_of (AtSlot h steps) v = flat_map (λ j. give_all (steps j) (shared_by v h (Slot j))) (range_with_len 0 8)
-words_of (AtGate h steps) v = give_all steps (shared_by v h Gate)
-words_of (Elsewhere h ops) v = []
-words_of (Sending h) v = []
+-- the words that it gives, where a slot has so many lines
+abbrev pub words_of : ℕ → Phase → View → List ℕ
+words_of lines (AtSlot h steps) v = flat_map (λ j. give_all (steps j) (shared_by v h (Slot j))) (range_with_len 0 lines)
+words_of lines (AtGate h steps) v = give_all steps (shared_by v h Gate)
+words_of lines (Elsewhere h ops) v = []
+words_of lines (Sending h) v = []
 
-abbrev pub words_of_all : List Phase → View → List ℕ
-words_of_all [] v = []
-words_of_all (phase ∷ more) v = words_of phase v ++ words_of_all more (then phase v)
+abbrev pub words_of_all : ℕ → List Phase → View → List ℕ
+words_of_all lines [] v = []
+words_of_all lines (phase ∷ more) v = words_of lines phase v ++ words_of_all lines more (then phase v)
 
 -- how many words operations load
 abbrev pub loads_in : List Op → ℕ
@@ -181,11 +182,11 @@ module _ (p : Params) (n : ℕ) where
 
   -- the gate's line is none of the slot
   not_slot : (j : ℕ) → gate_line ≢ slot_line p n j
-  not_slot j e = absurd (omega (arith, e))
+  not_slot j e = absurd (omega (arith, e, (shape p).lines))
 
   -- an operation that loads nothing and asks for nothing to be sent, at no line of the slot and not at the gate's
   abbrev pub IsApart : ℕ → Type 0
-  IsApart l = (w : Which) → IsThere w → line w ≢ l
+  IsApart l = (w : Which) → IsThere p w → line w ≢ l
 
   abbrev pub IsElsewhere : Op → Type 0
   IsElsewhere (Load l k) = ⊥
@@ -251,57 +252,57 @@ module _ (p : Params) (n : ℕ) where
       both_elsewhere (f from) (flat_map f (range_with_len (from + 1) count)) (are from (omega arith) (omega arith)) (all_elsewhere f (from + 1) count (λ j low high. are j (omega (arith, low)) (omega (arith, high))))
 
   module _ (host : Who → ℕ) (two : host Master ≢ host Reader) where
-    -- the steps of a phase
-    abbrev pub steps_of : Phase → List Step
-    steps_of (AtSlot h steps) = flat_map (λ j. map (placed (host h) (slot_line p n j)) (steps j)) (range_with_len 0 8)
-    steps_of (AtGate h steps) = map (placed (host h) gate_line) steps
-    steps_of (Elsewhere h ops) = all_by (host h) ops
-    steps_of (Sending h) = Does (host h) Fence ∷ []
+    -- the steps of a phase, where a slot has so many lines
+    abbrev pub steps_of : ℕ → Phase → List Step
+    steps_of lines (AtSlot h steps) = flat_map (λ j. map (placed (host h) (slot_line p n j)) (steps j)) (range_with_len 0 lines)
+    steps_of lines (AtGate h steps) = map (placed (host h) gate_line) steps
+    steps_of lines (Elsewhere h ops) = all_by (host h) ops
+    steps_of lines (Sending h) = Does (host h) Fence ∷ []
 
-    abbrev pub steps_of_all : List Phase → List Step
-    steps_of_all [] = []
-    steps_of_all (phase ∷ more) = steps_of phase ++ steps_of_all more
+    abbrev pub steps_of_all : ℕ → List Phase → List Step
+    steps_of_all lines [] = []
+    steps_of_all lines (phase ∷ more) = steps_of lines phase ++ steps_of_all lines more
 
     pub record Shown (s : SharedState) (v : View) : Type 0 where
-      pub words : (w : Which) → IsThere w → s.memory (line w) ≡ v.words w
-      pub cell : (h : Who) (w : Which) → IsThere w → s.copy (host h) (line w) ≡ v.cell h w
+      pub words : (w : Which) → IsThere p w → s.memory (line w) ≡ v.words w
+      pub cell : (h : Who) (w : Which) → IsThere p w → s.copy (host h) (line w) ≡ v.cell h w
       -- no other line is asked for
       pub unasked : (h : Who) (l : ℕ) → IsApart l → IsAsked (s.copy (host h) l) → ⊥
 
     -- a phase is a run, and shows what is computed
     record Passed (phase : Phase) (s : SharedState) (v : View) : Type 0 where
       after : SharedState
-      ran : RanSteps (steps_of phase) (words_of phase v) s after
+      ran : RanSteps (steps_of (geometry p).lines phase) (words_of (geometry p).lines phase v) s after
       shown : Shown after (then phase v)
 
     module _ (s : SharedState) (v : View) (shown : Shown s v) where
-      here_shown : (h : Who) (w : Which) → IsThere w → Shows s (host h) (line w) (shared_by v h w)
+      here_shown : (h : Who) (w : Which) → IsThere p w → Shows s (host h) (line w) (shared_by v h w)
       here_shown h w there = record { words = shown.words w there; cell = shown.cell h w there }
 
       -- at the slot
-      module _ (h : Who) (steps : ℕ → List Step) (did : DidAll p n (host h) steps (λ j. shared_by v h (Slot j)) 0 8 s) where
-        slot_words : (w : Which) → IsThere w → did.after.memory (line w) ≡ (then (AtSlot h steps) v).words w
-        slot_words (Slot j) there = (did.inside j (omega arith) there).words
+      module _ (h : Who) (steps : ℕ → List Step) (did : DidAll p n (host h) steps (λ j. shared_by v h (Slot j)) 0 (geometry p).lines s) where
+        slot_words : (w : Which) → IsThere p w → did.after.memory (line w) ≡ (then (AtSlot h steps) v).words w
+        slot_words (Slot j) there = (did.inside j (omega arith) (omega (arith, there))).words
         slot_words Gate there = did.memory gate_line (λ j low high. not_slot j) ∙ shown.words Gate there
 
-      slot_cells : (h k : Who) (steps : ℕ → List Step) (w : Which) (did : DidAll p n (host h) steps (λ j. shared_by v h (Slot j)) 0 8 s) → IsThere w → did.after.copy (host k) (line w) ≡ (then (AtSlot h steps) v).cell k w
-      slot_cells Master Master steps (Slot j) did there = (did.inside j (omega arith) there).cell
-      slot_cells Reader Reader steps (Slot j) did there = (did.inside j (omega arith) there).cell
+      slot_cells : (h k : Who) (steps : ℕ → List Step) (w : Which) (did : DidAll p n (host h) steps (λ j. shared_by v h (Slot j)) 0 (geometry p).lines s) → IsThere p w → did.after.copy (host k) (line w) ≡ (then (AtSlot h steps) v).cell k w
+      slot_cells Master Master steps (Slot j) did there = (did.inside j (omega arith) (omega (arith, there))).cell
+      slot_cells Reader Reader steps (Slot j) did there = (did.inside j (omega arith) (omega (arith, there))).cell
       slot_cells Master Reader steps (Slot j) did there = did.hosts (host Reader) (slot_line p n j) (λ e. two (sym e)) ∙ shown.cell Reader (Slot j) there
       slot_cells Reader Master steps (Slot j) did there = did.hosts (host Master) (slot_line p n j) two ∙ shown.cell Master (Slot j) there
       slot_cells h k steps Gate did there = did.copies (host k) gate_line (λ j low high. not_slot j) ∙ shown.cell k Gate there
 
       pass_slot : (h : Who) (steps : ℕ → List Step) → ((j : ℕ) → are_here (steps j) ≡ true) → Passed (AtSlot h steps) s v
       pass_slot h steps are =
-          let did = at_all p n (host h) steps (λ j. shared_by v h (Slot j)) 0 8 s are (λ j low high. here_shown h (Slot j) high) in
-          record { after = did.after; ran = did.ran; shown = record { words = slot_words h steps did; cell = λ k w there. slot_cells h k steps w did there; unasked = λ k l apart asked. shown.unasked k l apart (subst IsAsked (did.copies (host k) l (λ j low high e. apart (Slot j) high (sym e))) asked) } }
+          let did = at_all p n (host h) steps (λ j. shared_by v h (Slot j)) 0 (geometry p).lines s are (λ j low high. here_shown h (Slot j) (omega (arith, high))) in
+          record { after = did.after; ran = did.ran; shown = record { words = slot_words h steps did; cell = λ k w there. slot_cells h k steps w did there; unasked = λ k l apart asked. shown.unasked k l apart (subst IsAsked (did.copies (host k) l (λ j low high e. apart (Slot j) (omega (arith, high)) (sym e))) asked) } }
 
       -- at the gate
-      gate_words : (h : Who) (steps : List Step) (did : Did (host h) gate_line steps (shared_by v h Gate) s) (w : Which) → IsThere w → did.after.memory (line w) ≡ (then (AtGate h steps) v).words w
+      gate_words : (h : Who) (steps : List Step) (did : Did (host h) gate_line steps (shared_by v h Gate) s) (w : Which) → IsThere p w → did.after.memory (line w) ≡ (then (AtGate h steps) v).words w
       gate_words h steps did (Slot j) there = did.only.memory (slot_line p n j) (λ e. not_slot j (sym e)) ∙ shown.words (Slot j) there
       gate_words h steps did Gate there = did.shows.words
 
-      gate_cells : (h k : Who) (steps : List Step) (did : Did (host h) gate_line steps (shared_by v h Gate) s) (w : Which) → IsThere w → did.after.copy (host k) (line w) ≡ (then (AtGate h steps) v).cell k w
+      gate_cells : (h k : Who) (steps : List Step) (did : Did (host h) gate_line steps (shared_by v h Gate) s) (w : Which) → IsThere p w → did.after.copy (host k) (line w) ≡ (then (AtGate h steps) v).cell k w
       gate_cells h k steps did (Slot j) there = did.only.lines (host k) (slot_line p n j) (λ e. not_slot j (sym e)) ∙ shown.cell k (Slot j) there
       gate_cells Master Master steps did Gate there = did.shows.cell
       gate_cells Reader Reader steps did Gate there = did.shows.cell
@@ -391,49 +392,49 @@ module _ (p : Params) (n : ℕ) where
     among_gate from zero = inl refl
     among_gate from (suc count) = inr (among_gate (from + 1) count)
 
-    among_line : (w : Which) → IsThere w → IsAmong (line w) (sent_lines 0 8)
-    among_line (Slot j) there = among_slot 0 8 j (omega arith) there
-    among_line Gate there = among_gate 0 8
+    among_line : (w : Which) → IsThere p w → IsAmong (line w) (sent_lines 0 (geometry p).lines)
+    among_line (Slot j) there = among_slot 0 (geometry p).lines j (omega arith) (omega (arith, there))
+    among_line Gate there = among_gate 0 (geometry p).lines
 
     pass_sending : (h : Who) (s : SharedState) (v : View) → Shown s v → Passed (Sending h) s v
     pass_sending h s v shown =
-        let next = sent_all (host h) (sent_lines 0 8) s in
+        let next = sent_all (host h) (sent_lines 0 (geometry p).lines) s in
         record {
           after = next;
-          ran = goes 0 record { lines = sent_lines 0 8; sends = all_sends (host h) (sent_lines 0 8) s; none_asked = none_asked } ends;
+          ran = goes 0 record { lines = sent_lines 0 (geometry p).lines; sends = all_sends (host h) (sent_lines 0 (geometry p).lines) s; none_asked = none_asked } ends;
           shown = record { words = words; cell = λ k w there. cell h k w there refl; unasked = λ k l apart asked. shown.unasked k l apart (subst IsAsked (away k l apart) asked) };
         }
       where
-        out : (l : ℕ) → IsApart l → (from count : ℕ) → from + count ≤ 8 → IsAmong l (sent_lines from count) → ⊥
+        out : (l : ℕ) → IsApart l → (from count : ℕ) → from + count ≤ (geometry p).lines → IsAmong l (sent_lines from count) → ⊥
         out l apart from zero most among = elim among [ inl e ↦ apart Gate tt (sym e) | inr none ↦ absurd none ]
         out l apart from (suc count) most among =
             elim among [ inl e ↦ apart (Slot from) (omega (arith, most)) (sym e) | inr later ↦ out l apart (from + 1) count (omega (arith, most)) later ]
 
-        away : (k : Who) (l : ℕ) → IsApart l → (sent_all (host h) (sent_lines 0 8) s).copy (host k) l ≡ s.copy (host k) l
-        away k l apart = (sent_away (host h) (host k) l (sent_lines 0 8) s (out l apart 0 8 (omega arith))).1
+        away : (k : Who) (l : ℕ) → IsApart l → (sent_all (host h) (sent_lines 0 (geometry p).lines) s).copy (host k) l ≡ s.copy (host k) l
+        away k l apart = (sent_away (host h) (host k) l (sent_lines 0 (geometry p).lines) s (out l apart 0 (geometry p).lines (omega arith))).1
 
         -- a line that is none of them is as before
-        none_asked : (l : ℕ) → IsAsked ((sent_all (host h) (sent_lines 0 8) s).copy (host h) l) → ⊥
+        none_asked : (l : ℕ) → IsAsked ((sent_all (host h) (sent_lines 0 (geometry p).lines) s).copy (host h) l) → ⊥
         none_asked l asked =
-            elim (among_or_not l (sent_lines 0 8)) [
-              | inl among ↦ clean_unasked (s.copy (host h) l) (subst IsAsked (sent_there (host h) l (sent_lines 0 8) s among).cell asked)
+            elim (among_or_not l (sent_lines 0 (geometry p).lines)) [
+              | inl among ↦ clean_unasked (s.copy (host h) l) (subst IsAsked (sent_there (host h) l (sent_lines 0 (geometry p).lines) s among).cell asked)
               | inr other ↦
-                  let apart : IsApart l = λ w there e. other (subst (λ (i : ℕ). IsAmong i (sent_lines 0 8)) e (among_line w there)) in
+                  let apart : IsApart l = λ w there e. other (subst (λ (i : ℕ). IsAmong i (sent_lines 0 (geometry p).lines)) e (among_line w there)) in
                   shown.unasked h l apart (subst IsAsked (away h l apart) asked)
             ]
 
-        words : (w : Which) → IsThere w → (sent_all (host h) (sent_lines 0 8) s).memory (line w) ≡ sent (v.words w) (v.cell h w)
-        words w there = (sent_there (host h) (line w) (sent_lines 0 8) s (among_line w there)).words ∙ ap₂ sent (shown.words w there) (shown.cell h w there)
+        words : (w : Which) → IsThere p w → (sent_all (host h) (sent_lines 0 (geometry p).lines) s).memory (line w) ≡ sent (v.words w) (v.cell h w)
+        words w there = (sent_there (host h) (line w) (sent_lines 0 (geometry p).lines) s (among_line w there)).words ∙ ap₂ sent (shown.words w there) (shown.cell h w there)
 
-        own : (w : Which) → IsThere w → (sent_all (host h) (sent_lines 0 8) s).copy (host h) (line w) ≡ cleaned (v.cell h w)
-        own w there = (sent_there (host h) (line w) (sent_lines 0 8) s (among_line w there)).cell ∙ ap cleaned (shown.cell h w there)
+        own : (w : Which) → IsThere p w → (sent_all (host h) (sent_lines 0 (geometry p).lines) s).copy (host h) (line w) ≡ cleaned (v.cell h w)
+        own w there = (sent_there (host h) (line w) (sent_lines 0 (geometry p).lines) s (among_line w there)).cell ∙ ap cleaned (shown.cell h w there)
 
-        other : (k : Who) (w : Which) → IsThere w → host k ≢ host h → (sent_all (host h) (sent_lines 0 8) s).copy (host k) (line w) ≡ v.cell k w
-        other k w there ne = sent_hosts (host h) (host k) (line w) (sent_lines 0 8) s ne ∙ shown.cell k w there
+        other : (k : Who) (w : Which) → IsThere p w → host k ≢ host h → (sent_all (host h) (sent_lines 0 (geometry p).lines) s).copy (host k) (line w) ≡ v.cell k w
+        other k w there ne = sent_hosts (host h) (host k) (line w) (sent_lines 0 (geometry p).lines) s ne ∙ shown.cell k w there
 
-        cell : (g k : Who) (w : Which) → IsThere w → h ≡ g → (sent_all (host h) (sent_lines 0 8) s).copy (host k) (line w) ≡ at_host g k (cleaned (v.cell g w)) (v.cell k w)
-        cell Master Master w there is = subst (λ (g : Who). (sent_all (host h) (sent_lines 0 8) s).copy (host g) (line w) ≡ cleaned (v.cell g w)) is (own w there)
-        cell Reader Reader w there is = subst (λ (g : Who). (sent_all (host h) (sent_lines 0 8) s).copy (host g) (line w) ≡ cleaned (v.cell g w)) is (own w there)
+        cell : (g k : Who) (w : Which) → IsThere p w → h ≡ g → (sent_all (host h) (sent_lines 0 (geometry p).lines) s).copy (host k) (line w) ≡ at_host g k (cleaned (v.cell g w)) (v.cell k w)
+        cell Master Master w there is = subst (λ (g : Who). (sent_all (host h) (sent_lines 0 (geometry p).lines) s).copy (host g) (line w) ≡ cleaned (v.cell g w)) is (own w there)
+        cell Reader Reader w there is = subst (λ (g : Who). (sent_all (host h) (sent_lines 0 (geometry p).lines) s).copy (host g) (line w) ≡ cleaned (v.cell g w)) is (own w there)
         cell Master Reader w there is = other Reader w there (λ e. two (sym (e ∙ ap host is)))
         cell Reader Master w there is = other Master w there (λ e. two (e ∙ ap host is))
 
@@ -446,7 +447,7 @@ module _ (p : Params) (n : ℕ) where
     -- phases are a run, and show what is computed
     pub record PassedAll (phases : List Phase) (s : SharedState) (v : View) : Type 0 where
       pub after : SharedState
-      pub ran : RanSteps (steps_of_all phases) (words_of_all phases v) s after
+      pub ran : RanSteps (steps_of_all (geometry p).lines phases) (words_of_all (geometry p).lines phases v) s after
       pub shown : Shown after (then_all phases v)
 
     pub pass_all : (phases : List Phase) (s : SharedState) (v : View) → Shown s v → ArePhases phases → PassedAll phases s v

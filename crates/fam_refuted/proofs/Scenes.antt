@@ -1,12 +1,11 @@
 -- The scenes of the protocols that are refused: what holds in each, and that there are some.
-use Rattle.std.proofs.Common.{ℕ, zero, suc, ◌≡◌, ◌≢◌, inl, inr, ◌*◌, ◌/◌, ◌%◌, ◌^◌, ◌<◌, ◌≤◌, true, false, List, [], ◌∷◌, length, Option, Some, None, Ok, refl, sym, ap, subst, ◌∙◌, arith}
+use Rattle.std.proofs.Common.{ℕ, zero, suc, ◌≡◌, ◌≢◌, inl, inr, ◌-◌, ◌*◌, ◌/◌, ◌%◌, ◌^◌, ◌<◌, ◌≤◌, false, List, [], ◌∷◌, length, Option, Some, None, Ok, refl, sym, ap, subst, ◌∙◌, arith}
 use Rattle.std.specs.Prelude.{nat_lt, nat_le, option_map, replicate, slice_index, slice_index_or}
 use Rattle.std.specs.FinMap as finmap
-use Rattle.std.specs.Cmp.Lexicographic.{pointwise_decides}
 use Rattle.std.specs.Int.{div_ceil}
 use Rattle.std.proofs.Math.Nat.{mod-eq_of_lt}
 use Rattle.std.proofs.lemmas.Bool.{cases_lt}
-use Rattle.std.proofs.lemmas.Bool.Decides.{nat_tests, Decides-eqb}
+use Rattle.std.proofs.lemmas.Bool.Decides.{nat_tests}
 use Rattle.std.proofs.lemmas.List.{get_or_past, length-replicate}
 use Rattle.std.proofs.lemmas.List.FromFn.{get_or-map-range_with_len, length-map-range_with_len}
 use Rattle.fam_base.specs.declared.cmd.Attr.{Attr}
@@ -15,8 +14,8 @@ use Rattle.fam_base.specs.declared.entry.Params.{Params}
 use Rattle.fam_base.specs.declared.entry.Entry.{Entry}
 use Rattle.fam_base.specs.Image.{Image, line_at}
 use Rattle.fam_base.specs.Paths.{is_path}
-use Rattle.fam_base.specs.PathOrder.{path_cmp, path_eq}
-use Rattle.fam_format.specs.Layout.{device_limit, geometry, least_lines, slot_line}
+use Rattle.fam_base.specs.PathOrder.{path_cmp}
+use Rattle.fam_format.specs.Layout.{Geometry, device_limit, geometry, least_lines, slot_line}
 use Rattle.fam_format.specs.Params.{SoundParams}
 use Rattle.fam_format.specs.Reading.{slot_in, slot_word, slot_words}
 use Rattle.fam_format.specs.ReadingLaws.{HasWords}
@@ -25,18 +24,20 @@ use Rattle.fam_format.specs.Tree.{join_fault, replay}
 use Rattle.fam_format.proofs.EntryLawsProofs.{read_spelled}
 use Rattle.fam_format.proofs.SuperLawsProofs.{no_stop}
 use Rattle.fam_format.proofs.UnitPowers.{unit_told}
+use Rattle.fam_format.proofs.Formats.{shape, either, slot_allows}
 use Rattle.fam_commands.specs.Table.{Answer, append_rows, rows}
 use Rattle.fam_commands.specs.Task.{content_of}
 use Rattle.fam_rules.specs.Reply.{Appended}
 use Rattle.fam_base.specs.declared.entry.Kind.TheVariants as kind
 use Rattle.fam_base.specs.Units.{least_unit}
 use Rattle.fam_rules.specs.Content.{fill}
-use Rattle.fam_rules.specs.Decide.{Wish, decide, decide_wish, entry_for, no_room_needed, room_for, wish_of}
+use Rattle.fam_rules.specs.Decide.{Wish, decide, decide_wish, early_refusal, entry_for, no_room_needed, room_for, wish_of}
 use Rattle.fam_rules.specs.DecideLaws.{IsSoundWish, MayAppend}
 use Rattle.fam_rules.specs.Place.{line_bytes}
 use Rattle.fam_rules.specs.Written.{formatted, zero_line}
 use Rattle.fam_rules.proofs.DecideProofs.{may_append}
 use Rattle.fam_rules.proofs.FormattedProofs.{formatted_reads, lines_formatted}
+use Rattle.fam_rules.proofs.RefusalTests.{none_early}
 use Rattle.fam_protocol.specs.Core.{IsHistory}
 use Rattle.fam_protocol.specs.Tasks.{IsCommand}
 use Rattle.fam_protocol.specs.Invariant.{Known, Invariant, solo, no_hosts, settled_at_first}
@@ -160,7 +161,9 @@ module _ (p : Params) (sound : SoundParams p) (master reader : ℕ) (hosts : mas
   log_is = elim (cases_lt p.log_length p.unit) [ inl below ↦ absurd (omega (arith, mod-eq_of_lt below, log_whole, log_some)) | inr past ↦ past ]
 
   some_slots : 0 < p.slots
-  some_slots = omega (arith, sound.slots, log_is, unit_is)
+  some_slots =
+      let some : 0 < p.log_length / (geometry p).bytes - 1 = either (λ (g : Geometry). 0 < p.log_length / g.bytes - 1) (omega (arith, log_is, unit_is)) (omega (arith, log_is, unit_is)) p in
+      omega (arith, sound.slots, some)
 
   lines : length (zeros p) ≡ div_ceil p.device line_bytes
   unfolding zeros
@@ -182,10 +185,10 @@ module _ (p : Params) (sound : SoundParams p) (master reader : ℕ) (hosts : mas
   decided : decide p p.master [] (Mkdir (97 ∷ []) attr) ≡ Some (Ok (entry_for wish no_room_needed))
   unfolding decide_wish room_for
   decided =
-      let master : path_eq p.master p.master ≡ true = (pointwise_decides Decides-eqb p.master p.master).1 refl in
+      let early : early_refusal p p.master (97 ∷ []) ≡ None = none_early p p.master (97 ∷ []) refl (omega (arith, slot_allows p)) in
       let left : nat_le p.slots 0 ≡ false = grind (arith, nat_tests, some_slots) in
       let absent : finmap.get (replay []) (97 ∷ []) ≡ None = finmap.get-empty path_cmp (97 ∷ []) in
-      rw (master, left, absent) refl
+      rw (early, left, absent) refl
 
   -- the command is within its limits
   command : IsCommand (Mkdir (97 ∷ []) attr)
@@ -202,7 +205,9 @@ module _ (p : Params) (sound : SoundParams p) (master reader : ℕ) (hosts : mas
   no_kind_yet : slice_index (slot_words (line_at scene.image) p 0) 1 ≡ 0
   unfolding slot_words zeros
   no_kind_yet =
-      ap (λ (words : List ℕ). slice_index words 1) ((lines_formatted (zeros p) p enough_lines).others (slot_line p 0 0) (omega arith) (omega arith) (omega arith) (omega arith) (omega arith))
+      let least : 8 ≤ (geometry p).lines = (shape p).lines in
+      get_or-map-range_with_len (slot_word (line_at scene.image) p 0) 0 (geometry p).words 1 1 0 (omega (arith, least, (shape p).words)) refl
+      ∙ ap (λ (words : List ℕ). slice_index words 1) ((lines_formatted (zeros p) p enough_lines).others (slot_line p 0 0) (omega (arith, least)) (omega (arith, least)) (omega (arith, least)) (omega (arith, least)) (omega (arith, least)))
       ∙ zero_word (div_ceil p.device line_bytes) (slot_line p 0 0)
 
   -- so it is a scene

@@ -2,7 +2,7 @@
 use Rattle.std.proofs.Common.{◌≡◌, ℕ, ◌+◌, ◌<◌, ◌≤◌, List, [], ◌∷◌, ◌++◌, length, take, get_or, Option, Some, None, Result, Ok, Err, sym, ap, subst, ◌∙◌, arith}
 use Rattle.std.specs.Prelude.{IfOk}
 use Rattle.std.specs.List.{slice_get}
-use Rattle.std.proofs.lemmas.List.{length-take, length-take-le, take_all, take_more}
+use Rattle.std.proofs.lemmas.List.{get_or-take, length-take, length-take-le, take_all, take_more}
 use Rattle.std.proofs.lemmas.Option.{slice_get_within, get_or_from_slice_get, slice_get-get_or}
 use Rattle.fam_base.specs.declared.entry.Entry.{Entry}
 use Rattle.fam_base.specs.declared.entry.Params.{Params}
@@ -10,7 +10,7 @@ use Rattle.fam_format.specs.declared.faults.Reason.{Reason}
 use Rattle.fam_format.specs.Slot.{entry_of}
 use Rattle.fam_format.specs.Tree.{join_fault}
 use Rattle.fam_plan.specs.State.{PlanState, IsHistory}
-use Rattle.fam_replay.specs.Replica.{IsReplica, FindsNext, ReplicaState}
+use Rattle.fam_replay.specs.Replica.{AreRead, IsReplica, FindsNext, ReplicaState}
 use Rattle.fam_replay.specs.Replay.{entries_in, HasFoundAll, IsAgainst, IsReplayOf, Joins, ReadsNext, Refused}
 
 -- The next entry is one that is kept.
@@ -36,6 +36,20 @@ module _ (s : PlanState) (slots : List (List ℕ)) (found : ℕ) (words : List �
         joins = (history.added found e entry_there.1).joins;
         added = take_more s.entries found e below ∙ ap (λ (x : Entry). take found s.entries ++ x ∷ []) (get_or_from_slice_get s.entries found e e entry_there.1);
       }
+
+-- what stands among the first of a list stands in it
+in_front : {A : Type 0} (xs : List A) (n i : ℕ) (x : A) → slice_get (take n xs) i ≡ Some x → slice_get xs i ≡ Some x
+in_front xs n i x is =
+    let within : i < length (take n xs) = slice_get_within (take n xs) i x is in
+    slice_get-get_or xs i x (omega (arith, within, length-take n xs))
+    ∙ ap (λ y. Some y) (sym (get_or-take n xs i x (omega (arith, within, length-take n xs))) ∙ get_or_from_slice_get (take n xs) i x x is)
+
+-- the words of the first slots tell the first entries
+pub read_first : (p : Params) (slots : List (List ℕ)) (entries : List Entry) (n : ℕ) → AreRead p slots entries → AreRead p (take n slots) (take n entries)
+read_first p slots entries n are = record {
+  few = omega (arith, are.few, length-take n slots, length-take n entries);
+  read = λ i words e kept there. are.read i words e (in_front slots n i words kept) (in_front entries n i e there);
+}
 
 -- where all entries were found, those that were found are all
 pub whole : (entries : List Entry) (found : ℕ) → length entries ≤ found → take found entries ≡ entries

@@ -9,7 +9,7 @@ ghost use Rattle.fam_entry.specs.Tests.{NamesFault};
 
 use fam_base::{Line, LineNo, Params};
 use fam_entry::{LogFault, read_log};
-use fam_format::{LOG_LINE, LogField, SLOT_LINES, SuperFault};
+use fam_format::{LOG_LINE, LogField, SuperFault, shape_of};
 use fam_super::{MAGIC, read_super};
 
 /// The parameters that lines 1 and 2 tell behind a magic that was seen, or the first fault. `have` is the image's bytes.
@@ -49,6 +49,6 @@ pub fn line_of_slot(params: &Params, slot: u64, line: u64) -> LineNo
     requires { slot + line < 2 ^ 32 }
     ensures { result.0 ≡ slot_line params.now slot line }
 {
-    let _ = params;
-    LineNo(LOG_LINE + SLOT_LINES + SLOT_LINES * slot + line)
+    let lines = shape_of(params.format).lines;
+    LineNo(LOG_LINE + lines + lines * slot + line)
 }

@@ -7,6 +7,7 @@
 #![tactic(auto)]
 
 mod head;
+mod kept_slot;
 mod replay;
 mod replica;
 mod same;

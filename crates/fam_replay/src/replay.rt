@@ -5,6 +5,7 @@ ghost use Rattle.std.specs.Prelude.{◌≡◌, ◌≤◌, ◌<◌, ℕ, [], fals
 ghost use Rattle.std.specs.FinMap as map;
 ghost use Rattle.fam_base.specs.Commands.{IsSoundCmd};
 ghost use Rattle.fam_base.specs.declared.entry.Params.{Params};
+ghost use Rattle.fam_format.specs.Layout.{geometry};
 ghost use Rattle.fam_format.specs.Params.{SoundParams};
 ghost use Rattle.fam_format.specs.Slot.{entry_of, Proper};
 ghost use Rattle.fam_format.specs.Tree.{join_fault, replay};
@@ -16,7 +17,7 @@ ghost use Rattle.fam_replay.specs.Replay.{entries_in, HasFoundAll, IsAgainst, Is
 use crate::replica::{Replica, reason_or_memory};
 use fam_base::{Cmd, Entry, OutOfMemory, PATH_LIMIT, Params, Path};
 use fam_entry::{check_entry, checked_entry};
-use fam_format::{Reason, SLOT_WORDS};
+use fam_format::Reason;
 use fam_plan::{Plan, first_entry_fault, first_entry_refusal};
 use fam_rules::Refused;
 use fam_tree::Tree;
@@ -108,7 +109,8 @@ fn fault_behind(plan: &Plan, entry: &Entry) -> Result<Reason, OutOfMemory>
 
 /// Why the words of the slot behind the entries of a plan add none to them. It takes no memory, and says out of memory
 /// where nothing is against them.
-pub fn reason_behind(plan: &Plan, words: &[u64; SLOT_WORDS]) -> Result<Reason, OutOfMemory>
+pub fn reason_behind(plan: &Plan, words: &[u64]) -> Result<Reason, OutOfMemory>
+    requires { length words.now ≡ (geometry plan.now.params).words }
     ensures against { IfOk result (IsAgainst plan.now.params words.now plan.now.entries) }
     ensures want { OnErr result (JoinsNext plan.now.params words.now plan.now.entries) }
 {
@@ -189,7 +191,7 @@ impl Replay {
 
     /// Whether the words of the next slot are those that are kept of it. Then its entry joins those that were found.
     #[inline(always)]
-    fn find(&mut self, params: &Params, gate: u64, words: &[u64; SLOT_WORDS]) -> bool
+    fn find(&mut self, params: &Params, gate: u64, words: &[u64]) -> bool
         requires { IsReplayOf params.now gate self.old }
         ensures found { result ≡ true → FindsNext params.now words.now (entries_in self.old) (entries_in self.new) }
         ensures other { result ≡ false → entries_in self.new ≡ entries_in self.old }
@@ -238,7 +240,7 @@ impl Replay {
         &mut self,
         params: &Params,
         gate: u64,
-        words: &[u64; SLOT_WORDS],
+        words: &[u64],
         entry: &Entry,
     ) -> Result<Option<Reason>, OutOfMemory>
         requires sound { SoundParams params.now }
@@ -267,9 +269,10 @@ impl Replay {
         &mut self,
         params: &Params,
         gate: u64,
-        words: &[u64; SLOT_WORDS],
+        words: &[u64],
     ) -> Result<Option<Reason>, OutOfMemory>
         requires sound { SoundParams params.now }
+        requires count { length words.now ≡ (geometry params.now).words }
         requires fits { IsReplayOf params.now gate self.old }
         requires gate { gate ≤ params.now.slots }
         requires left { length (entries_in self.old) < gate }
@@ -295,9 +298,10 @@ impl Replay {
         &mut self,
         params: &Params,
         gate: u64,
-        words: &[u64; SLOT_WORDS],
+        words: &[u64],
     ) -> Result<Option<Reason>, OutOfMemory>
         requires sound { SoundParams params.now }
+        requires count { length words.now ≡ (geometry params.now).words }
         requires fits { IsReplayOf params.now gate self.old }
         requires gate { gate ≤ params.now.slots }
         requires left { length (entries_in self.old) < gate }

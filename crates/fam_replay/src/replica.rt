@@ -12,9 +12,10 @@ ghost use Rattle.fam_plan.specs.Faults.{reason_of};
 ghost use Rattle.fam_replay.specs.Replica.{AreRead, FindsNext, AreAllFound, KeepsWords, all_of, found_in};
 ghost use Rattle.fam_replay.specs.Replay.{IsReplayOf, IsRoomFor, Joins};
 
+use crate::kept_slot::KeptSlot;
 use crate::same::same_slot;
 use fam_base::{Cmd, Entry, OutOfMemory, Params, Path};
-use fam_format::{Reason, SLOT_WORDS};
+use fam_format::Reason;
 use fam_plan::{AddFault, Plan};
 use fam_rules::Refused;
 use fam_tree::Tree;
@@ -28,7 +29,7 @@ use uuid::Uuid;
 pub struct Replica {
     plan: Plan,
     /// The words of the first slots, where they are kept.
-    slots: Vec<[u64; SLOT_WORDS]>,
+    slots: Vec<KeptSlot>,
     /// How many of the plan's entries the reading has found.
     found: u64,
     /// Whether the words of further slots are kept.
@@ -53,7 +54,7 @@ impl Model for Replica {
 fn forget(
     alloc: Global,
     plan: &mut Plan,
-    slots: &mut Vec<[u64; SLOT_WORDS]>,
+    slots: &mut Vec<KeptSlot>,
     found: u64,
 ) -> Result<(), OutOfMemory>
     requires read { AreRead plan.old.params slots.old.items plan.old.entries }
@@ -74,7 +75,7 @@ fn forget(
 fn forget_some(
     alloc: Global,
     plan: &mut Plan,
-    slots: &mut Vec<[u64; SLOT_WORDS]>,
+    slots: &mut Vec<KeptSlot>,
     found: u64,
 ) -> Result<(), OutOfMemory>
     requires read { AreRead plan.old.params slots.old.items plan.old.entries }
@@ -116,29 +117,31 @@ fn reason_against(fault: AddFault) -> Option<Reason>
 
 /// Keeps the words of a slot, if they are wanted and those of all slots before it are kept. Where memory lacks they are
 /// not.
-fn keep(slots: &mut Vec<[u64; SLOT_WORDS]>, wanted: bool, slot: u64, words: &[u64; SLOT_WORDS])
+fn keep(alloc: Global, slots: &mut Vec<KeptSlot>, wanted: bool, slot: u64, words: &[u64])
     ensures { KeepsWords slot words.now slots.old.items slots.new.items }
 {
     if wanted && slots.len() as u64 == slot {
-        let _ = slots.push(*words);
+        if let Ok(kept) = KeptSlot::new(alloc, words) {
+            let _ = slots.push(kept);
+        }
     }
 }
 
-/// The words that are kept of a slot.
+/// What is kept of a slot.
 #[inline(always)]
-fn kept_at(slots: &[[u64; SLOT_WORDS]], slot: u64) -> Option<&[u64; SLOT_WORDS]>
-    ensures { option_map (λ words. words.now) result ≡ slice_get slots.now slot }
+fn kept_at(slots: &[KeptSlot], slot: u64) -> Option<&KeptSlot>
+    ensures { option_map (λ kept. kept.now) result ≡ slice_get slots.now slot }
 {
     slots.get(slot as usize)
 }
 
 /// Whether these are the words that are kept of a slot.
 #[inline(always)]
-fn is_kept(slots: &[[u64; SLOT_WORDS]], slot: u64, words: &[u64; SLOT_WORDS]) -> bool
+fn is_kept(slots: &[KeptSlot], slot: u64, words: &[u64]) -> bool
     ensures { result ≡ true → slice_get slots.now slot ≡ Some words.now }
 {
     match kept_at(slots, slot) {
-        Some(kept) => same_slot(kept, words),
+        Some(kept) => same_slot(kept.words(), words),
         None => false,
     }
 }
@@ -187,7 +190,7 @@ impl Replica {
 
     /// Whether the next slot has the words that are kept of it. Then its entry is found: it joins those before it.
     #[inline(always)]
-    pub(crate) fn find(&mut self, words: &[u64; SLOT_WORDS]) -> bool
+    pub(crate) fn find(&mut self, words: &[u64]) -> bool
         ensures found { result ≡ true
             → FindsNext self.old.params words.now (found_in self.old) (found_in self.new) }
         ensures other { result ≡ false → self.new ≡ self.old }
@@ -207,7 +210,7 @@ impl Replica {
     pub(crate) fn add(
         &mut self,
         alloc: Global,
-        words: &[u64; SLOT_WORDS],
+        words: &[u64],
         entry: &Entry,
     ) -> Result<Option<Reason>, OutOfMemory>
         requires proper { Proper self.old.params entry.now }
@@ -227,7 +230,7 @@ impl Replica {
         }
         match self.plan.add(entry) {
             Ok(()) => {
-                keep(&mut self.slots, self.keeps, self.found, words);
+                keep(alloc, &mut self.slots, self.keeps, self.found, words);
                 self.found = self.plan.count();
                 Ok(None)
             }

@@ -2,7 +2,7 @@
 
 ghost use Rattle.std.specs.Prelude.{◌≡◌, true};
 
-use fam_format::{LINE_WORDS, SLOT_LINES, SLOT_WORDS};
+use fam_format::LINE_WORDS;
 
 /// Whether these are the same eight words. No test waits for the one before it, so that they are made together.
 #[inline(always)]
@@ -27,16 +27,13 @@ fn same_eight(left: &[u64], right: &[u64]) -> bool
     }
 }
 
-/// Whether two slots have the same words.
-pub(crate) fn same_slot(left: &[u64; SLOT_WORDS], right: &[u64; SLOT_WORDS]) -> bool
+/// Whether two slots, which are whole lines, have the same words.
+pub(crate) fn same_slot(left: &[u64], right: &[u64]) -> bool
     ensures { result ≡ true → left.now ≡ right.now }
 {
-    let mut left_words: &[u64] = left;
-    let mut right_words: &[u64] = right;
-    'lines: for _line in 0..SLOT_LINES {
-        if left_words.len() < LINE_WORDS || right_words.len() < LINE_WORDS {
-            return false;
-        }
+    let mut left_words = left;
+    let mut right_words = right;
+    'lines: while left_words.len() >= LINE_WORDS && right_words.len() >= LINE_WORDS {
         let (left_line, left_rest) = left_words.split_at(LINE_WORDS);
         let (right_line, right_rest) = right_words.split_at(LINE_WORDS);
         if !same_eight(left_line, right_line) {

@@ -10,6 +10,7 @@ use Rattle.fam_base.proofs.ImageLemmas.{line_at-with_line, line_at-with_line_oth
 use Rattle.fam_format.specs.Layout.{geometry, gate_line, slot_line}
 use Rattle.fam_format.specs.Slot.{spelling}
 use Rattle.fam_format.proofs.EntryLawsProofs.{spelling_count}
+use Rattle.fam_format.proofs.Formats.{shape}
 use Rattle.fam_rules.specs.Content.{file_words}
 use Rattle.fam_rules.specs.Place.{line_bytes}
 use Rattle.fam_rules.specs.Written.{put_lines, lines_of, file_line, file_puts, slot_part, slot_puts, with_gate, written}
@@ -39,7 +40,7 @@ eight_of_eight words count = ext_get_or 0 (eight words) words (sym count) (λ i 
 eight_part : (p : Params) (e : Entry) (seq j : ℕ) → j < (geometry p).lines → eight (slot_part (spelling (geometry p) e seq) j) ≡ slot_part (spelling (geometry p) e seq) j
 eight_part p e seq j below =
     eight_of_eight (slot_part (spelling (geometry p) e seq) j)
-    (let count = length-between (spelling (geometry p) e seq) (8 * j) (8 * j + 8) in omega (arith, count, spelling_count p e seq))
+    (let count = length-between (spelling (geometry p) e seq) (8 * j) (8 * j + 8) in omega (arith, count, spelling_count p e seq, (shape p).words))
 
 -- The lines of the file, in an image.
 
@@ -88,7 +89,7 @@ module _ (p : Params) (seq : ℕ) (e : Entry) (bytes : List ℕ) (image : Image)
 
   -- the gate's line is off both
   gate_kept : line_at after_slot gate_line ≡ line_at image gate_line
-  gate_kept = off_slot gate_line (λ j below same. omega arith)
+  gate_kept = off_slot gate_line (λ j below same. omega (arith, (shape p).lines))
       ∙ off_file gate_line (λ j below same. file_off_gate p seq e (length image) j has below (sym same))
 
   -- word 0 alone is another
@@ -110,7 +111,7 @@ module _ (p : Params) (seq : ℕ) (e : Entry) (bytes : List ℕ) (image : Image)
         off_gate (file_line e j) (file_off_gate p seq e (length image) j has below)
         ∙ off_slot (file_line e j) (λ i line same. file_off_slot p seq e (length image) j i has below line same)
         ∙ file_put j below;
-    slot = λ j below. off_gate (slot_line p seq j) (λ same. omega arith) ∙ slot_put j below;
+    slot = λ j below. off_gate (slot_line p seq j) (λ same. omega (arith, (shape p).lines)) ∙ slot_put j below;
     gate = gate_set;
     others = λ l gate slot file. off_gate l gate ∙ off_slot l slot ∙ off_file l file;
   }

@@ -19,6 +19,7 @@ use Rattle.fam_format.specs.Slot.{Proper, spelling}
 use Rattle.fam_format.specs.Super.{super_of}
 use Rattle.fam_format.specs.Tree.{join_fault}
 use Rattle.fam_format.proofs.EntryLawsProofs.{spelling_count}
+use Rattle.fam_format.proofs.Formats.{shape, piece_ends}
 use Rattle.fam_format.proofs.JoinLaws.{joins_from}
 use Rattle.fam_format.proofs.ReadingLawsProofs.{sound_holds, holds_sound}
 use Rattle.fam_rules.specs.Place.{line_bytes}
@@ -38,7 +39,7 @@ module _ (p : Params) (seq : ℕ) (e : Entry) (bytes : List ℕ) (before after :
   -- a line before the slot is as before, but for the gate's
   low_line : (l : ℕ) → l ≢ gate_line → l < slot_line p seq 0 → line_at after l ≡ line_at before l
   low_line l off low = is.others l off (λ j line same. omega arith)
-      (λ j below same. omega (arith, same, slot_before p seq 0 has.sound has.slot (omega arith), file_behind p e j has.sound has.proper below))
+      (λ j below same. omega (arith, same, slot_before p seq 0 has.sound has.slot (omega (arith, (shape p).lines)), file_behind p e j has.sound has.proper below))
 
   -- the gate counts the entry
   gate_after : gate_in (line_at after) ≡ seq + 1
@@ -49,7 +50,7 @@ module _ (p : Params) (seq : ℕ) (e : Entry) (bytes : List ℕ) (before after :
   unfolding slot_words
   earlier_slot i less =
       map_range_same (slot_word (line_at after) p i) (slot_word (line_at before) p i) 0 (geometry p).words (λ k from below.
-      ap (λ (words : List ℕ). slice_index words (k % 8)) (low_line (slot_line p i (k / 8)) (λ same. omega arith) (omega arith)))
+      ap (λ (words : List ℕ). slice_index words (k % 8)) (low_line (slot_line p i (k / 8)) (λ same. omega (arith, (shape p).lines)) (omega (arith, (shape p).words, piece_ends (geometry p).lines i seq less))))
 
   -- its own slot has its spelling
   own_slot : slot_words (line_at after) p seq ≡ spelling (geometry p) e seq
@@ -60,17 +61,17 @@ module _ (p : Params) (seq : ℕ) (e : Entry) (bytes : List ℕ) (before after :
       (λ k below.
       let short : k < (geometry p).words = omega (arith, length-map-range_with_len (slot_word (line_at after) p seq) 0 (geometry p).words) in
       get_or-map-range_with_len (slot_word (line_at after) p seq) 0 (geometry p).words k k 0 short (omega arith)
-      ∙ ap (λ (words : List ℕ). slice_index words (k % 8)) (is.slot (k / 8) (omega arith))
+      ∙ ap (λ (words : List ℕ). slice_index words (k % 8)) (is.slot (k / 8) (omega (arith, (shape p).words)))
       ∙ part_word p e seq k)
 
   -- superblock and header are as before
   head_after : (have : ℕ) → HasHead (line_at before) have p → HasHead (line_at after) have p
   head_after have head = record {
     super = ap₂ (λ (word : ℕ) (words : List ℕ). super_of word words have)
-        (ap (λ (words : List ℕ). slice_index words 0) (low_line 0 (λ same. omega arith) (omega arith)))
+        (ap (λ (words : List ℕ). slice_index words 0) (low_line 0 (λ same. omega arith) (omega (arith, (shape p).lines))))
         (ap₂ (λ (xs ys : List ℕ). xs ++ ys) (low_line 1 (λ same. omega arith) (omega arith)) (low_line 2 (λ same. omega arith) (omega arith)))
         ∙ head.super;
-    header = ap (λ (words : List ℕ). log_fault words p) (low_line log_line (λ same. omega arith) (omega arith)) ∙ head.header;
+    header = ap (λ (words : List ℕ). log_fault words p) (low_line log_line (λ same. omega arith) (omega (arith, (shape p).lines))) ∙ head.header;
     gate = omega (arith, gate_after, has.slot);
   }
 

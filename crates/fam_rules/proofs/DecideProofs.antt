@@ -18,7 +18,6 @@ use Rattle.fam_base.specs.declared.extents.Extent.{Extent}
 use Rattle.fam_base.specs.ExtentLists.{extent_limit}
 use Rattle.fam_base.specs.Paths.{parent_of}
 use Rattle.fam_base.specs.Units.{strip_bytes}
-use Rattle.fam_base.proofs.PathLemmas.{parts_of_path}
 use Rattle.fam_format.specs.Layout.{device_units}
 use Rattle.fam_format.specs.Params.{SoundParams}
 use Rattle.fam_format.specs.Slot.{Proper, is_map, fits_map, has_extents, adds_up, is_striped, is_placed}
@@ -29,12 +28,12 @@ use Rattle.fam_format.specs.ReadingLaws.{AreFree, HasParent}
 use Rattle.fam_format.proofs.JoinLaws.{joins_back}
 use Rattle.fam_rules.specs.declared.answers.Refused.{Refused}
 use Rattle.fam_rules.specs.declared.answers.Refused.TheVariants.{LogFull}
-use Rattle.fam_rules.specs.Decide.{Wish, Room, extent_from, one_extent, strip_extents, no_room_needed, room_or, strip_length, master_refusal, stripe_refusal, exists_refusal, parent_refusal, full_refusal, room_by, room_for, entry_for, entry_or, decide_wish}
-use Rattle.fam_rules.specs.DecideLaws.{IsGoodStripe, HasGoodStripe, IsStripeOfWords, IsSoundWish, IsAsWished, MayAppend}
+use Rattle.fam_rules.specs.Decide.{Wish, Room, extent_from, one_extent, strip_extents, no_room_needed, room_or, strip_length, early_refusal, stripe_refusal, exists_refusal, parent_refusal, full_refusal, room_by, room_for, entry_for, entry_or, decide_wish}
+use Rattle.fam_rules.specs.DecideLaws.{IsGoodStripe, HasGoodStripe, FitsSlot, IsStripeOfWords, IsSoundWish, IsAsWished, MayAppend}
 use Rattle.fam_rules.specs.Room.{IsRoom, IsStrips, room, strips}
 use Rattle.fam_rules.proofs.FilePlaces.{unit_some}
 use Rattle.fam_rules.proofs.RoomLaws.{room_least, strips_first}
-use Rattle.fam_rules.proofs.RefusalTests.{master_none, stripe_none, parent_none}
+use Rattle.fam_rules.proofs.RefusalTests.{early_none, stripe_none, parent_none}
 use Rattle.fam_rules.proofs.RoomMaps.{IsStripCount, all_placed, extents_pass, units_some, strip_count}
 use Rattle.fam_rules.proofs.Spans.{AreRuns, units_of_starts, runs_free, runs_of_room, runs_of_strips}
 
@@ -221,6 +220,7 @@ in_room w (Ok r) e h = record { room = r; given = refl; entry = cc }
 -- all that a decided entry is
 record Decided (p : Params) (me : List ℕ) (list : List Entry) (w : Wish) (e : Entry) : Type 0 where
   master : me ≡ p.master
+  short : FitsSlot p w.path
   left : length list < p.slots
   absent : finmap.get (replay list) w.path ≡ None
   parent : HasParent (replay list) (parent_of w.path)
@@ -232,14 +232,16 @@ record Decided (p : Params) (me : List ℕ) (list : List Entry) (w : Wish) (e : 
 decided : (p : Params) (me : List ℕ) (list : List Entry) (w : Wish) (e : Entry) → SoundParams p → IsSoundWish w → decide_wish p me list w ≡ Ok e → Decided p me list w e
 unfolding decide_wish
 decided p me list w e sound wish h =
-    let master = unrefused (master_refusal p me) _ e h in
-    let stripe = unrefused (stripe_refusal p w.stripe) _ e master.rest in
+    let early = unrefused (early_refusal p me w.path) _ e h in
+    let stripe = unrefused (stripe_refusal p w.stripe) _ e early.rest in
     let exists = unrefused (exists_refusal (finmap.get (replay list) w.path)) _ e stripe.rest in
     let parent = unrefused (parent_refusal (replay list) (parent_of w.path)) _ e exists.rest in
     let full = unrefused (full_refusal p list) (entry_or w (room_for p list w)) e parent.rest in
     let stands = in_room w (room_for p list w) e full.rest in
+    let asked = early_none p me w.path early.none in
     record {
-      master = master_none p me master.none;
+      master = asked.0;
+      short = asked.1;
       left = slot_left p list full.none;
       absent = is_absent (finmap.get (replay list) w.path) exists.none;
       parent = parent_none (replay list) (parent_of w.path) parent.none;
@@ -249,10 +251,10 @@ decided p me list w e sound wish h =
     }
 
 -- the entry in its room is proper
-proper_in : (p : Params) (w : Wish) (r : Room) → IsSoundWish w → is_map p (entry_for w r) ≡ true → Proper p (entry_for w r)
-proper_in p w r wish map = record {
+proper_in : (p : Params) (w : Wish) (r : Room) → IsSoundWish w → FitsSlot p w.path → is_map p (entry_for w r) ≡ true → Proper p (entry_for w r)
+proper_in p w r wish short map = record {
   path = wish.path;
-  short = (parts_of_path w.path wish.path).fits;
+  short = short;
   mode = wish.attr.mode;
   uid = wish.attr.uid;
   gid = wish.attr.gid;
@@ -272,6 +274,6 @@ may_append p me list w e sound wish h =
     subst (MayAppend p me list) d.entry (record {
       master = d.master;
       left = d.left;
-      proper = proper_in p w d.room wish d.suits.map;
+      proper = proper_in p w d.room wish d.short d.suits.map;
       joins = joins_back p list (entry_for w d.room) (record { absent = d.absent; parent = d.parent; units = d.suits.units });
     })

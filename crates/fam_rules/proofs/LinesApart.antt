@@ -6,6 +6,7 @@ use Rattle.fam_base.specs.declared.entry.Entry.{Entry}
 use Rattle.fam_format.specs.Layout.{geometry, gate_line, log_end, slot_line}
 use Rattle.fam_format.specs.Params.{SoundParams}
 use Rattle.fam_format.specs.Slot.{Proper}
+use Rattle.fam_format.proofs.Formats.{shape, slot_ends}
 use Rattle.fam_rules.specs.Place.{line_bytes, place}
 use Rattle.fam_rules.specs.Written.{file_line}
 use Rattle.fam_rules.specs.WrittenLaws.{HasPhase}
@@ -13,7 +14,7 @@ use Rattle.fam_rules.proofs.FilePlaces.{place_behind, place_before, place_once, 
 
 -- a slot's lines end with the log, or before
 pub slot_before : (p : Params) (seq j : ℕ) → SoundParams p → seq < p.slots → j < (geometry p).lines → line_bytes * slot_line p seq j + line_bytes ≤ log_end p
-slot_before p seq j sound below line = omega (arith, sound.slots)
+slot_before p seq j sound below line = omega (arith, slot_ends p.format p.log_length seq (omega (arith, sound.slots)))
 
 -- a file's lines are behind it
 pub file_behind : (p : Params) (e : Entry) (j : ℕ) → SoundParams p → Proper p e → line_bytes * j < e.size → log_end p < line_bytes * file_line e j + line_bytes
@@ -48,8 +49,8 @@ file_off_slot p seq e lines i j has below line same = omega (arith, slot_before 
 
 -- nor the gate's
 pub file_off_gate : (p : Params) (seq : ℕ) (e : Entry) (lines i : ℕ) → HasPhase p seq e lines → line_bytes * i < e.size → file_line e i ≡ gate_line → ⊥
-file_off_gate p seq e lines i has below same = omega (arith, slot_before p seq 0 has.sound has.slot (omega arith), file_behind p e i has.sound has.proper below)
+file_off_gate p seq e lines i has below same = omega (arith, (shape p).lines, slot_before p seq 0 has.sound has.slot (omega (arith, (shape p).lines)), file_behind p e i has.sound has.proper below)
 
 -- the gate's line is in the image
 pub gate_within : (p : Params) (seq : ℕ) (e : Entry) (lines : ℕ) → HasPhase p seq e lines → gate_line < lines
-gate_within p seq e lines has = omega (arith, slot_within p seq 0 lines has.sound has.slot (omega arith) has.device)
+gate_within p seq e lines has = omega (arith, (shape p).lines, slot_within p seq 0 lines has.sound has.slot (omega (arith, (shape p).lines)) has.device)

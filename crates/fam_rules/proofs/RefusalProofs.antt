@@ -3,26 +3,23 @@ use Rattle.std.proofs.Common.{◌≡◌, ℕ, ◌/◌, ◌<◌, List, length, Op
 use Rattle.std.specs.FinMap as finmap
 use Rattle.std.specs.Int.{div_ceil}
 use Rattle.std.specs.Option.{option_map}
-use Rattle.std.specs.Cmp.Lexicographic.{pointwise_decides}
-use Rattle.std.proofs.lemmas.Bool.{cases_Bool, cases_eq, eq-eqb, ne_eqb, le-leb, lt-leb, cases_lt, false≢true}
-use Rattle.std.proofs.lemmas.Bool.Decides.{Decides-eqb}
+use Rattle.std.proofs.lemmas.Bool.{cases_eq, eq-eqb, ne_eqb, le-leb, lt-leb, cases_lt}
 use Rattle.fam_base.specs.declared.cmd.Stripe.{Stripe}
 use Rattle.fam_base.specs.declared.entry.Params.{Params}
 use Rattle.fam_base.specs.declared.entry.Entry.{Entry}
 use Rattle.fam_base.specs.declared.entry.Kind.{Kind}
 use Rattle.fam_base.specs.Paths.{parent_of}
-use Rattle.fam_base.specs.PathOrder.{path_eq}
-use Rattle.fam_format.specs.Layout.{device_units}
+use Rattle.fam_format.specs.Layout.{device_units, geometry}
 use Rattle.fam_format.specs.Stop.{stop}
 use Rattle.fam_format.specs.Tree.{replay}
 use Rattle.fam_format.specs.Units.{is_used}
 use Rattle.fam_rules.specs.declared.answers.Refused.{Refused}
-use Rattle.fam_rules.specs.declared.answers.Refused.TheVariants.{NotMaster, BadStripe, Exists, NoParent, ParentIsFile, LogFull, NoSpace}
-use Rattle.fam_rules.specs.Decide.{Wish, Room, one_extent, strip_extents, no_room_needed, room_or, strip_length, master_refusal, stripe_refusal, exists_refusal, file_refusal, found_refusal, parent_refusal, full_refusal, room_by, room_for, entry_for, entry_or, decide_wish}
-use Rattle.fam_rules.specs.DecideLaws.{IsGoodRequest, IsNew, HasFolder, HasFreeSlot, LacksRoom, IsFirstRefusal}
+use Rattle.fam_rules.specs.declared.answers.Refused.TheVariants.{NotMaster, LongPath, BadStripe, Exists, NoParent, ParentIsFile, LogFull, NoSpace}
+use Rattle.fam_rules.specs.Decide.{Wish, Room, one_extent, strip_extents, no_room_needed, room_or, strip_length, early_refusal, stripe_refusal, exists_refusal, file_refusal, found_refusal, parent_refusal, full_refusal, room_by, room_for, entry_for, entry_or, decide_wish}
+use Rattle.fam_rules.specs.DecideLaws.{FitsSlot, IsGoodRequest, IsNew, HasFolder, HasFreeSlot, LacksRoom, IsFirstRefusal}
 use Rattle.fam_rules.specs.Room.{Fits, IsRoom, IsStrips, room, strips, buckets_with_room}
 use Rattle.fam_rules.proofs.RoomLaws.{room_least, room_only, strips_first, strips_only}
-use Rattle.fam_rules.proofs.RefusalTests.{none_master, some_master, none_stripe, some_stripe, StripeCases, good, bad, stripe_cases, ParentCases, stands, missing, is_file, parent_cases, parent_passes}
+use Rattle.fam_rules.proofs.RefusalTests.{none_early, early_master, early_limit, EarlyCases, may_ask, another, too_long, early_cases, none_stripe, some_stripe, StripeCases, good, bad, stripe_cases, ParentCases, stands, missing, is_file, parent_cases, parent_passes}
 
 -- How far a decision goes.
 
@@ -55,19 +52,19 @@ module _ (p : Params) (me : List ℕ) (list : List Entry) (w : Wish) where
   by_stripe : Result Entry Refused
   by_stripe = stop (stripe_refusal p w.stripe) by_path
 
-  -- in this order, behind the test for the master
-  from_master : decide_wish p me list w ≡ stop (master_refusal p me) by_stripe
+  -- in this order, behind the tests for the master and the length of its path
+  from_early : decide_wish p me list w ≡ stop (early_refusal p me w.path) by_stripe
   unfolding decide_wish by_stripe by_path by_parent by_slots in_room
-  from_master = refl
+  from_early = refl
 
-  -- the master goes on to the stripe
-  master_goes : me ≡ p.master → decide_wish p me list w ≡ by_stripe
-  master_goes same = from_master ∙ passes (master_refusal p me) by_stripe (none_master p me same)
+  -- the master with a path that fits goes on to the stripe
+  early_goes : me ≡ p.master → FitsSlot p w.path → decide_wish p me list w ≡ by_stripe
+  early_goes same short = from_early ∙ passes (early_refusal p me w.path) by_stripe (none_early p me w.path same short)
 
   -- with a good one to the path
   asked_goes : IsGoodRequest p me w → decide_wish p me list w ≡ by_path
   unfolding by_stripe
-  asked_goes asked = master_goes asked.master ∙ passes (stripe_refusal p w.stripe) by_path (none_stripe p w.stripe asked.stripe)
+  asked_goes asked = early_goes asked.master asked.short ∙ passes (stripe_refusal p w.stripe) by_path (none_stripe p w.stripe asked.stripe)
 
   -- with a new one to the parent
   new_goes : IsNew p me list w → decide_wish p me list w ≡ by_parent
@@ -156,9 +153,10 @@ lacks_by p list size (Some s) k (is, few) =
 pub refused_there : (p : Params) (me : List ℕ) (list : List Entry) (w : Wish) (r : Refused) → IsFirstRefusal p me list w r → decide_wish p me list w ≡ Err r
 unfolding by_stripe by_path by_parent by_slots in_room
 refused_there p me list w (NotMaster host master) (is_me, is_master, other) =
-    from_master p me list w ∙ refuses (master_refusal p me) _ (NotMaster me p.master) (some_master p me other)
+    from_early p me list w ∙ refuses (early_refusal p me w.path) _ (NotMaster me p.master) (early_master p me w.path other)
     ∙ ap₂ (λ (x y : List ℕ). Err (NotMaster x y)) (sym is_me) (sym is_master)
-refused_there p me list w BadStripe (same, out) = master_goes p me list w same ∙ refuses (stripe_refusal p w.stripe) _ BadStripe (some_stripe p w.stripe out)
+refused_there p me list w (LongPath limit) is = from_early p me list w ∙ refuses (early_refusal p me w.path) _ (LongPath limit) (early_limit p me w limit is)
+refused_there p me list w BadStripe (same, short, out) = early_goes p me list w same short ∙ refuses (stripe_refusal p w.stripe) _ BadStripe (some_stripe p w.stripe out)
 refused_there p me list w (Exists kind) (asked, (old, at, is)) =
     asked_goes p me list w asked ∙ refuses (exists_refusal (finmap.get (replay list) w.path)) _ (Exists old.kind) (ap exists_refusal at) ∙ ap (λ (k : Kind). Err (Exists k)) is
 refused_there p me list w NoParent (new, (parent, is, none)) =
@@ -202,17 +200,20 @@ module _ (p : Params) (me : List ℕ) (list : List Entry) (w : Wish) where
   path_outcome asked None at = parent_outcome (record { asked = asked; absent = at }) (parent_cases (replay list) (parent_of w.path))
   path_outcome asked (Some old) at = refused (Exists old.kind) (asked, (old, at, refl))
 
-  -- for the master by the stripe
-  stripe_outcome : me ≡ p.master → StripeCases p w.stripe → Outcome p me list w
-  stripe_outcome same (good is) = path_outcome (record { master = same; stripe = is }) (finmap.get (replay list) w.path) refl
-  stripe_outcome same (bad out) = refused BadStripe (same, out)
+  -- for the master with a path that fits by the stripe
+  stripe_outcome : me ≡ p.master → FitsSlot p w.path → StripeCases p w.stripe → Outcome p me list w
+  stripe_outcome same short (good is) = path_outcome (record { master = same; short = short; stripe = is }) (finmap.get (replay list) w.path) refl
+  stripe_outcome same short (bad out) = refused BadStripe (same, short, out)
+
+  -- by the host and its path
+  early_outcome : EarlyCases p me w.path → Outcome p me list w
+  early_outcome (may_ask same short passed) = stripe_outcome same short (stripe_cases p w.stripe)
+  early_outcome (another other refusal) = refused (NotMaster me p.master) (refl, refl, other)
+  early_outcome (too_long same long refusal) = refused (LongPath (geometry p).path_limit) (record { master = same; limit_is = refl; long = long })
 
   -- so each wish has its outcome
   outcome : Outcome p me list w
-  outcome = elim (cases_Bool (path_eq me p.master)) [
-    | inl pass ↦ stripe_outcome ((pointwise_decides Decides-eqb me p.master).0 pass) (stripe_cases p w.stripe)
-    | inr fail ↦ refused (NotMaster me p.master) (refl, refl, λ same. false≢true (sym fail ∙ (pointwise_decides Decides-eqb me p.master).1 same))
-  ]
+  outcome = early_outcome (early_cases p me w.path)
 
 -- a refusal that came has its cause
 cause_of : (p : Params) (me : List ℕ) (list : List Entry) (w : Wish) (r : Refused) → decide_wish p me list w ≡ Err r → Outcome p me list w → IsFirstRefusal p me list w r

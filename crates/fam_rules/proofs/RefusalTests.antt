@@ -1,9 +1,9 @@
 -- The tests of a decision and their causes.
-use Rattle.std.proofs.Common.{◌≡◌, ℕ, ◌%◌, ◌==◌, ◌&&◌, true, nat_le, List, Option, Some, None, refl, sym, ap, ◌∙◌, inl, inr}
+use Rattle.std.proofs.Common.{◌≡◌, ℕ, ◌%◌, ◌<◌, ◌==◌, ◌&&◌, true, nat_le, List, length, Option, Some, None, refl, sym, ap, ◌∙◌, inl, inr, arith}
 use Rattle.std.specs.FinMap as finmap
 use Rattle.std.specs.Prelude.{◌≢◌}
 use Rattle.std.specs.Cmp.Lexicographic.{pointwise_decides}
-use Rattle.std.proofs.lemmas.Bool.{cases_Bool, and_parts, eqb-true, eq-eqb, leb-true, le-leb, false≢true}
+use Rattle.std.proofs.lemmas.Bool.{cases_Bool, cases_lt, and_parts, eqb-true, eq-eqb, leb-true, le-leb, lt-leb, false≢true}
 use Rattle.std.proofs.lemmas.Bool.Decides.{Decides-eqb}
 use Rattle.fam_base.specs.declared.cmd.Stripe.{Stripe}
 use Rattle.fam_base.specs.declared.entry.Params.{Params}
@@ -12,11 +12,13 @@ use Rattle.fam_base.specs.declared.entry.Kind.{Kind}
 use Rattle.fam_base.specs.declared.entry.Kind.TheVariants.{File, Directory}
 use Rattle.fam_base.specs.ExtentLists.{extent_limit}
 use Rattle.fam_base.specs.PathOrder.{path_eq}
+use Rattle.fam_format.specs.Layout.{geometry}
 use Rattle.fam_format.specs.ReadingLaws.{HasParent}
 use Rattle.fam_format.specs.Tree.{Tree}
-use Rattle.fam_rules.specs.declared.answers.Refused.TheVariants.{NotMaster, BadStripe, NoParent, ParentIsFile}
-use Rattle.fam_rules.specs.Decide.{is_stripe, master_refusal, stripe_refusal, file_refusal, found_refusal, parent_refusal, bucket_limit}
-use Rattle.fam_rules.specs.DecideLaws.{IsGoodStripe, HasGoodStripe}
+use Rattle.fam_rules.specs.declared.answers.Refused.{Refused}
+use Rattle.fam_rules.specs.declared.answers.Refused.TheVariants.{NotMaster, LongPath, BadStripe, NoParent, ParentIsFile}
+use Rattle.fam_rules.specs.Decide.{Wish, is_stripe, master_refusal, length_refusal, first_refusal, early_refusal, stripe_refusal, file_refusal, found_refusal, parent_refusal, bucket_limit}
+use Rattle.fam_rules.specs.DecideLaws.{IsGoodStripe, HasGoodStripe, FitsSlot, IsTooLong}
 
 -- Tests and their causes.
 
@@ -58,6 +60,68 @@ pub some_master : (p : Params) (me : List ℕ) → me ≢ p.master → master_re
 some_master p me other = elim (cases_Bool (path_eq me p.master)) [
   | inl pass ↦ absurd (other ((pointwise_decides Decides-eqb me p.master).0 pass))
   | inr fail ↦ rw fail refl
+]
+
+-- a path that isn't refused fits a slot
+pub length_none : (p : Params) (path : List ℕ) → length_refusal p path ≡ None → FitsSlot p path
+length_none p path h = elim (cases_Bool (nat_le (length path) (geometry p).path_limit)) [
+  | inl pass ↦ leb-true (length path) (geometry p).path_limit pass
+  | inr fail ↦ absurd (let e : length_refusal p path ≡ Some (LongPath (geometry p).path_limit) = rw fail refl in cc)
+]
+
+-- one that fits isn't refused
+pub none_length : (p : Params) (path : List ℕ) → FitsSlot p path → length_refusal p path ≡ None
+none_length p path fits = rw (le-leb (length path) (geometry p).path_limit fits) refl
+
+-- a longer one is
+pub some_length : (p : Params) (path : List ℕ) → (geometry p).path_limit < length path → length_refusal p path ≡ Some (LongPath (geometry p).path_limit)
+some_length p path long = rw (lt-leb (length path) (geometry p).path_limit long) refl
+
+-- where the first of two refusals doesn't come, neither does
+neither : (one other : Option Refused) → first_refusal one other ≡ None → (one ≡ None) × (other ≡ None)
+neither None other h = (refl, h)
+neither (Some refused) other h = absurd (cc)
+
+-- what isn't refused early is asked by the master, with a path that fits
+pub early_none : (p : Params) (me path : List ℕ) → early_refusal p me path ≡ None → (me ≡ p.master) × FitsSlot p path
+early_none p me path h =
+    let none = neither (master_refusal p me) (length_refusal p path) h in
+    (master_none p me none.0, length_none p path none.1)
+
+-- and that isn't refused
+pub none_early : (p : Params) (me path : List ℕ) → me ≡ p.master → FitsSlot p path → early_refusal p me path ≡ None
+none_early p me path same fits = ap (λ (o : Option Refused). first_refusal o (length_refusal p path)) (none_master p me same) ∙ none_length p path fits
+
+-- another host is refused, whatever its path
+pub early_master : (p : Params) (me path : List ℕ) → me ≢ p.master → early_refusal p me path ≡ Some (NotMaster me p.master)
+early_master p me path other = ap (λ (o : Option Refused). first_refusal o (length_refusal p path)) (some_master p me other)
+
+-- and the master with a path that is too long
+pub early_long : (p : Params) (me path : List ℕ) → me ≡ p.master → (geometry p).path_limit < length path → early_refusal p me path ≡ Some (LongPath (geometry p).path_limit)
+early_long p me path same long = ap (λ (o : Option Refused). first_refusal o (length_refusal p path)) (none_master p me same) ∙ some_length p path long
+
+-- with the limit that it has
+pub early_limit : (p : Params) (me : List ℕ) (w : Wish) (limit : ℕ) → IsTooLong p me w limit → early_refusal p me w.path ≡ Some (LongPath limit)
+early_limit p me w limit is = early_long p me w.path is.master (omega (arith, is.long, is.limit_is)) ∙ ap (λ (n : ℕ). Some (LongPath n)) (sym is.limit_is)
+
+-- the master asks with a path that fits, or another host asks, or the path is too long
+pub data EarlyCases (p : Params) (me path : List ℕ) : Type 0 where
+  may_ask : me ≡ p.master → FitsSlot p path → early_refusal p me path ≡ None → EarlyCases p me path
+  another : me ≢ p.master → early_refusal p me path ≡ Some (NotMaster me p.master) → EarlyCases p me path
+  too_long : me ≡ p.master → (geometry p).path_limit < length path → early_refusal p me path ≡ Some (LongPath (geometry p).path_limit) → EarlyCases p me path
+
+-- one of these it is
+pub early_cases : (p : Params) (me path : List ℕ) → EarlyCases p me path
+early_cases p me path = elim (cases_Bool (path_eq me p.master)) [
+  | inl pass ↦
+      let same : me ≡ p.master = (pointwise_decides Decides-eqb me p.master).0 pass in
+      elim (cases_lt (geometry p).path_limit (length path)) [
+        | inl long ↦ too_long same long (early_long p me path same long)
+        | inr fits ↦ may_ask same fits (none_early p me path same fits)
+      ]
+  | inr fail ↦
+      let other : me ≢ p.master = λ same. false≢true (sym fail ∙ (pointwise_decides Decides-eqb me p.master).1 same) in
+      another other (early_master p me path other)
 ]
 
 -- a stripe that isn't refused is good

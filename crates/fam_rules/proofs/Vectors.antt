@@ -14,11 +14,12 @@ use Rattle.fam_base.specs.declared.entry.Kind.TheVariants as kind
 use Rattle.fam_base.specs.declared.entry.MapKind.{MapKind}
 use Rattle.fam_base.specs.declared.entry.MapKind.TheVariants as mapped
 use Rattle.fam_base.specs.declared.extents.Extent.{Extent}
-use Rattle.fam_rules.specs.declared.answers.Refused.TheVariants.{NotMaster, BadStripe, Exists, NoParent, NoSpace}
+use Rattle.fam_format.specs.Layout.{shape_of}
+use Rattle.fam_rules.specs.declared.answers.Refused.TheVariants.{NotMaster, LongPath, BadStripe, Exists, NoParent, NoSpace}
 use Rattle.fam_rules.specs.Asks.{verified, file_bytes_from}
 use Rattle.fam_rules.specs.Reply.{Same, Differs, Length}
 use Rattle.fam_rules.specs.Reports.{Survey, overlap_of, report_by}
-use Rattle.fam_rules.specs.Decide.{Wish, decide, decide_wish, room_for}
+use Rattle.fam_rules.specs.Decide.{Wish, early_refusal, decide, decide_wish, room_for}
 use Rattle.fam_rules.specs.Room.{room, offer, strips}
 
 -- On small numbers: units 0 to 2 and unit 5 are used.
@@ -63,7 +64,7 @@ uuid_of last = replicate 15 0 ++ last ∷ []
 
 -- a device of so many bytes
 abbrev params_of : ℕ → Params
-params_of device = record { log_length = 65536; slots = 127; unit = 4096; device = device; fs = replicate 16 17; master = uuid_of 1 }
+params_of device = record { format = 1; log_length = 65536; slots = 127; unit = 4096; device = device; fs = replicate 16 17; master = uuid_of 1 }
 
 abbrev attr : Attr
 attr = record { mode = 420; uid = 0; gid = 0 }
@@ -146,31 +147,51 @@ other_host : decide (params_of 4194304) (uuid_of 2) none (creat e_path 0 (Some (
 unfolding decide_wish
 other_host = refl
 
+-- a path of a byte more than a slot of the first format has room for, even with a bad stripe
+long_path : decide (params_of 4194304) (uuid_of 1) none (creat (replicate 169 101) 0 (Some (record { nstrips = 0; nbuckets = 0; chunk = 0 }))) ≡ Some (Err (LongPath 168))
+unfolding decide_wish shape_of
+long_path = refl
+
+-- the same host's path of 168 bytes
+fitting_path : early_refusal (params_of 4194304) (uuid_of 1) (replicate 168 101) ≡ None
+unfolding shape_of
+fitting_path = refl
+
+-- in the second format 512 bytes fit
+longer_path : early_refusal (record (params_of 4194304) { format = 2 }) (uuid_of 1) (replicate 512 101) ≡ None
+unfolding shape_of
+longer_path = refl
+
+-- and one more doesn't
+longest_path : early_refusal (record (params_of 4194304) { format = 2 }) (uuid_of 1) (replicate 513 101) ≡ Some (LongPath 512)
+unfolding shape_of
+longest_path = refl
+
 -- more strips than buckets, also for no bytes
 more_strips_than_buckets : decide (params_of 4194304) (uuid_of 1) none (creat e_path 0 (Some (record { nstrips = 3; nbuckets = 2; chunk = 8192 }))) ≡ Some (Err BadStripe)
-unfolding decide_wish
+unfolding decide_wish shape_of
 more_strips_than_buckets = refl
 
 -- a chunk that is no multiple of the unit
 uneven_chunk : decide (params_of 4194304) (uuid_of 1) none (creat e_path 40000 (Some (record { nstrips = 3; nbuckets = 4; chunk = 5000 }))) ≡ Some (Err BadStripe)
-unfolding decide_wish
+unfolding decide_wish shape_of
 uneven_chunk = refl
 
 -- Decisions that look into the tree.
 
 -- the entry of an empty file
 decided_file : decide (params_of 4194304) (uuid_of 1) none (creat e_path 0 None) ≡ Some (Ok (file e_path 0 mapped.Empty []))
-unfolding decide_wish room_for
+unfolding decide_wish room_for shape_of
 decided_file = rw (finmap.get-empty {X = Entry} path_cmp e_path) refl
 
 -- its parent is missing
 no_parent : decide (params_of 4194304) (uuid_of 1) none (creat (101 ∷ 47 ∷ 113 ∷ []) 0 None) ≡ Some (Err NoParent)
-unfolding decide_wish room_for
+unfolding decide_wish room_for shape_of
 no_parent = rw (finmap.get-empty {X = Entry} path_cmp (101 ∷ 47 ∷ 113 ∷ []), finmap.get-empty {X = Entry} path_cmp e_path) refl
 
 -- it stands already
 stands_already : decide (params_of 4194304) (uuid_of 1) (big ∷ []) (Mkdir p_path attr) ≡ Some (Err (Exists kind.File))
-unfolding decide_wish
+unfolding decide_wish shape_of
 stands_already = rw (finmap.get-insert nat_list_cmp_total (finmap.empty {X = Entry}) p_path big p_path) refl
 
 -- Reports.

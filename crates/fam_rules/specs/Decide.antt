@@ -17,12 +17,12 @@ use Rattle.fam_base.specs.ExtentLists.{extent_limit}
 use Rattle.fam_base.specs.Paths.{parent_of}
 use Rattle.fam_base.specs.PathOrder.{path_eq}
 use Rattle.fam_base.specs.Units.{strip_bytes}
-use Rattle.fam_format.specs.Layout.{device_units}
+use Rattle.fam_format.specs.Layout.{device_units, geometry}
 use Rattle.fam_format.specs.Stop.{stop}
 use Rattle.fam_format.specs.Tree.{Tree, replay}
 use Rattle.fam_format.specs.Units.{is_used}
 use Rattle.fam_rules.specs.declared.answers.Refused.{Refused}
-use Rattle.fam_rules.specs.declared.answers.Refused.TheVariants.{NotMaster, BadStripe, Exists, NoParent, ParentIsFile, LogFull, NoSpace}
+use Rattle.fam_rules.specs.declared.answers.Refused.TheVariants.{NotMaster, LongPath, BadStripe, Exists, NoParent, ParentIsFile, LogFull, NoSpace}
 use Rattle.fam_rules.specs.Room.{room, strips}
 
 -- what a command wants to append: a directory has no bytes
@@ -48,6 +48,19 @@ wish_of Fsck = None
 -- another host appends
 abbrev pub master_refusal : Params → List ℕ → Option Refused
 master_refusal p me = if path_eq me p.master then None else Some (NotMaster me p.master)
+
+-- the path is longer than a slot has room for
+abbrev pub length_refusal : Params → List ℕ → Option Refused
+length_refusal p path = if nat_le (length path) (geometry p).path_limit then None else Some (LongPath (geometry p).path_limit)
+
+-- the first of two refusals
+abbrev pub first_refusal : Option Refused → Option Refused → Option Refused
+first_refusal (Some refused) behind = Some refused
+first_refusal None behind = behind
+
+-- what is refused as soon as the superblock is read: another host appends, or the path is too long
+abbrev pub early_refusal : Params → List ℕ → List ℕ → Option Refused
+early_refusal p me path = first_refusal (master_refusal p me) (length_refusal p path)
 
 -- the most buckets of a stripe
 abbrev pub bucket_limit : ℕ
@@ -149,7 +162,7 @@ entry_or w (Err refused) = Err refused
 -- the first refusal in this order, or the entry
 unfoldable pub decide_wish : Params → List ℕ → List Entry → Wish → Result Entry Refused
 decide_wish p me list w =
-    stop (master_refusal p me) (stop (stripe_refusal p w.stripe) (stop (exists_refusal (finmap.get (replay list) w.path)) (stop (parent_refusal (replay list) (parent_of w.path)) (stop (full_refusal p list) (entry_or w (room_for p list w))))))
+    stop (early_refusal p me w.path) (stop (stripe_refusal p w.stripe) (stop (exists_refusal (finmap.get (replay list) w.path)) (stop (parent_refusal (replay list) (parent_of w.path)) (stop (full_refusal p list) (entry_or w (room_for p list w))))))
 
 -- what a host's command appends behind the entries of a list, or why nothing. None: the command doesn't append
 abbrev pub decide : Params → List ℕ → List Entry → Cmd → Option (Result Entry Refused)

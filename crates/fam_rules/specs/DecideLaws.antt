@@ -11,13 +11,13 @@ use Rattle.fam_base.specs.declared.entry.Kind.TheVariants.{File, Directory}
 use Rattle.fam_base.specs.Commands.{mode_limit}
 use Rattle.fam_base.specs.ExtentLists.{extent_limit}
 use Rattle.fam_base.specs.Paths.{is_path, parent_of}
-use Rattle.fam_format.specs.Layout.{device_units}
+use Rattle.fam_format.specs.Layout.{device_units, geometry}
 use Rattle.fam_format.specs.ReadingLaws.{HasParent}
 use Rattle.fam_format.specs.Slot.{Proper}
 use Rattle.fam_format.specs.Tree.{replay, join_fault}
 use Rattle.fam_format.specs.Units.{is_used}
 use Rattle.fam_rules.specs.declared.answers.Refused.{Refused}
-use Rattle.fam_rules.specs.declared.answers.Refused.TheVariants.{NotMaster, BadStripe, Exists, NoParent, ParentIsFile, LogFull, NoSpace}
+use Rattle.fam_rules.specs.declared.answers.Refused.TheVariants.{NotMaster, LongPath, BadStripe, Exists, NoParent, ParentIsFile, LogFull, NoSpace}
 use Rattle.fam_rules.specs.Decide.{Wish, bucket_limit, strip_length}
 use Rattle.fam_rules.specs.Room.{Fits, buckets_with_room}
 
@@ -72,9 +72,20 @@ abbrev pub HasGoodStripe : Params → Option Stripe → Type 0
 HasGoodStripe p None = ⊤
 HasGoodStripe p (Some s) = IsGoodStripe p s
 
--- the master asks, with a good stripe where there is one
+-- a slot has room for the path
+abbrev pub FitsSlot : Params → List ℕ → Type 0
+FitsSlot p path = length path ≤ (geometry p).path_limit
+
+-- the master asks, with a path for which a slot has no room
+pub record IsTooLong (p : Params) (me : List ℕ) (w : Wish) (limit : ℕ) : Type 0 where
+  pub master : me ≡ p.master
+  pub limit_is : limit ≡ (geometry p).path_limit
+  pub long : limit < length w.path
+
+-- the master asks, with a path that fits and a good stripe where there is one
 pub record IsGoodRequest (p : Params) (me : List ℕ) (w : Wish) : Type 0 where
   pub master : me ≡ p.master
+  pub short : FitsSlot p w.path
   pub stripe : HasGoodStripe p w.stripe
 
 -- and nothing stands at the path
@@ -114,7 +125,8 @@ LacksRoom p list size (Some s) k =
 -- exactly where each refusal comes: the first cause in this order
 abbrev pub IsFirstRefusal : Params → List ℕ → List Entry → Wish → Refused → Type 0
 IsFirstRefusal p me list w (NotMaster host master) = (host ≡ me) × (master ≡ p.master) × (me ≢ p.master)
-IsFirstRefusal p me list w BadStripe = (me ≡ p.master) × (HasGoodStripe p w.stripe → ⊥)
+IsFirstRefusal p me list w (LongPath limit) = IsTooLong p me w limit
+IsFirstRefusal p me list w BadStripe = (me ≡ p.master) × FitsSlot p w.path × (HasGoodStripe p w.stripe → ⊥)
 IsFirstRefusal p me list w (Exists kind) = IsGoodRequest p me w × StandsThere list w.path kind
 IsFirstRefusal p me list w NoParent = IsNew p me list w × LacksParent list w.path
 IsFirstRefusal p me list w ParentIsFile = IsNew p me list w × HasFileAsParent list w.path

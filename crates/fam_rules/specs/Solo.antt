@@ -14,7 +14,7 @@ use Rattle.fam_format.specs.Reading.{Lines, Reading, NoSuperblock, BadHeader, Ba
 use Rattle.fam_rules.specs.declared.answers.Refused.{Refused}
 use Rattle.fam_rules.specs.Asks.{File, ask}
 use Rattle.fam_rules.specs.Content.{byte_in, fill}
-use Rattle.fam_rules.specs.Decide.{Wish, wish_of, master_refusal, decide}
+use Rattle.fam_rules.specs.Decide.{Wish, wish_of, early_refusal, decide}
 use Rattle.fam_rules.specs.Place.{line_bytes, place}
 use Rattle.fam_rules.specs.Reply as reply
 use Rattle.fam_rules.specs.Reply.{Reply}
@@ -38,11 +38,11 @@ content_of (Read path offset count) = content.Zero
 content_of (Check listing) = content.Zero
 content_of Fsck = content.Zero
 
--- a command that appends, of another host than the one that the superblock names
-abbrev pub client_refusal : Option Wish → Result Params SuperFault → List ℕ → Option Refused
-client_refusal None super me = None
-client_refusal (Some w) (Err fault) me = None
-client_refusal (Some w) (Ok p) me = master_refusal p me
+-- a command that appends, of another host than the one that the superblock names, or of a path that is too long
+abbrev pub head_refusal : Option Wish → Result Params SuperFault → List ℕ → Option Refused
+head_refusal None super me = None
+head_refusal (Some w) (Err fault) me = None
+head_refusal (Some w) (Ok p) me = early_refusal p me w.path
 
 -- an entry is appended, or none
 abbrev pub appended : ℕ → Result Entry Refused → Reply
@@ -61,14 +61,14 @@ reading_reply memory have me cmd (BadHeader fault) = reply.BadHeader fault
 reading_reply memory have me cmd (BadSlot i reason) = reply.BadSlot i reason
 reading_reply memory have me cmd (Sound p entries) = sound_reply memory have entries cmd (decide p me entries cmd)
 
--- a client_refusal is refused when the superblock is read; nothing behind it is looked at
+-- what is refused is refused when the superblock is read; nothing behind it is looked at
 abbrev pub reply_unless : Option Refused → Reply → Reply
 reply_unless (Some refused) other = reply.NotAppended refused
 reply_unless None other = other
 
 -- of a command other than a check of the whole file system
 abbrev pub reply_to : Lines → ℕ → List ℕ → Cmd → Reply
-reply_to memory have me cmd = reply_unless (client_refusal (wish_of cmd) (super_in memory have) me) (reading_reply memory have me cmd (reading_of memory have))
+reply_to memory have me cmd = reply_unless (head_refusal (wish_of cmd) (super_in memory have) me) (reading_reply memory have me cmd (reading_of memory have))
 
 -- a check of the whole file system reports, whatever the image says
 abbrev pub reply_in : Lines → ℕ → List ℕ → Cmd → Reply
@@ -99,6 +99,6 @@ reading_image image me cmd (NoSuperblock fault) = image
 reading_image image me cmd (BadHeader fault) = image
 reading_image image me cmd (BadSlot i reason) = image
 
--- a client_refusal's image is as before: its decision is a refusal too
+-- the image of such a refusal is as before: the decision is a refusal too
 unfoldable pub solo_image : Image → List ℕ → Cmd → Image
 solo_image image me cmd = reading_image image me cmd (reading_of (line_at image) (line_bytes * length image))

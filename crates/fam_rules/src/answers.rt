@@ -9,6 +9,8 @@ use uuid::Uuid;
 pub enum Refused {
     /// The host is not the one that the superblock names.
     NotMaster { me: Uuid, master: Uuid },
+    /// The path has more bytes than so many, for which a slot of the log's format has room.
+    LongPath(u64),
     /// The chunk is no positive multiple of the unit, or the strips are none, more than 16 or more than the
     /// buckets, or the buckets are more than 64.
     BadStripe,

@@ -1,5 +1,5 @@
 -- A task whose first store comes next has nothing to do on copies alone.
-use Rattle.std.proofs.Common.{ℕ, ◌≡◌, ◌⊎◌, ◌+◌, ◌<◌, ◌≤◌, ◌==◌, Bool, true, false, cond, List, inl, inr}
+use Rattle.std.proofs.Common.{ℕ, ◌≡◌, ◌⊎◌, ◌==◌, Bool, true, false, cond, List, inl, inr}
 use Rattle.fam_base.specs.declared.line.LineNo.{LineNo}
 use Rattle.fam_commands.specs.declared.phase.Part.{Part}
 use Rattle.fam_commands.specs.declared.phase.Phase.{Phase}

@@ -1,5 +1,6 @@
 -- A task that goes on comes nearer to its end.
 use Rattle.std.proofs.Common.{ℕ, ◌≡◌, ◌+◌, ◌-◌, ◌*◌, ◌^◌, ◌<◌, ◌≤◌, Bool, true, false, cond, [], ◌∷◌, ◌++◌, Option, Some, None, Result, Ok, Err, refl, ap, subst, ◌∙◌, arith}
+use Rattle.std.proofs.Math.Nat.{mul-le-mul_left, mul-le-mul_right}
 use Rattle.std.specs.Prelude.{⊤, length, nat_le, nat_lt, ◌==◌}
 use Rattle.std.specs.FinMap as finmap
 use Rattle.std.proofs.lemmas.Grind.{div_ceil_times}
@@ -34,8 +35,9 @@ use Rattle.fam_commands.specs.Kept.{first_slot}
 use Rattle.fam_commands.specs.Task.{Task, first_line, size_of, wanted_end, wanted_lines, wanted_start}
 use Rattle.fam_commands.specs.Turns.{Turn, Goes, Marks, Finds, Writes, Ends, turn_at, magic_turn, super_turn, host_turn, host_refusal, header_turn, gate_turn, finds_or_goes, gate_loaded, slot_or_decide, check_turn, slot_turn, survey_turn, join_turn, decide_turn, wish_turn, append_turn, read_file, verify_lines, verify_turn, bytes_turn, kind_turn, found_turn, compare_turn, file_turn, line_difference, line_turn, word_turn, with_word, data_or_slot, slot_or_fence}
 use Rattle.fam_commands.specs.Classes.{LooksAtFile}
-use Rattle.fam_format.specs.Layout.{geometry}
+use Rattle.fam_format.specs.Layout.{geometry, second_format}
 use Rattle.fam_format.specs.Line.{line_words}
+use Rattle.fam_format.proofs.Formats.{shape, times}
 use Rattle.fam_tasks.specs.Commands.{slots_told}
 use Rattle.fam_tasks.specs.Sound.{HasSuper, HasValidGate, IsLine, IsProperFor, IsSoundAt, IsWantedLine}
 use Rattle.fam_tasks.proofs.Found.{size_fits}
@@ -44,11 +46,19 @@ use Rattle.fam_tasks.proofs.FileLines.{end_within}
 
 -- how many operations may still come behind a decision, at most: a size is below 2 ^ 64
 abbrev pub behind_decision : ℕ
-behind_decision = line_steps * 2 ^ 58 + 100
+behind_decision = line_steps * 2 ^ 58 + 200
 
--- behind the loads of superblock and header: the log has no more slots than the image has lines
+-- behind the loads of the header: the log has no more slots than the image has lines
 abbrev pub behind_head : Task → ℕ
 behind_head t = slot_steps (geometry t.params) * t.lines + behind_decision + 4
+
+-- behind the superblock's loads: which shape the slots have is not known before
+abbrev pub behind_super : Task → ℕ
+behind_super t = slot_steps second_format * t.lines + behind_decision + 4
+
+-- behind the lines of a new file: those of the slot, and what is behind it
+abbrev pub behind_file : Task → ℕ
+behind_file t = line_steps * (geometry t.params).lines + 5
 
 -- of the slots from i on, and what is behind the decision
 abbrev pub from_slot : Task → ℕ → ℕ
@@ -56,23 +66,23 @@ from_slot t i = slot_steps (geometry t.params) * (slots_told t.cmd t.params t.ga
 
 -- with line j of a part still to be read from its word k on
 abbrev pub reading : Part → ℕ → ℕ → Task → ℕ
-reading part.Superblock j k t = behind_head t + line_steps * (2 - j) + (line_words - k) + line_steps
+reading part.Superblock j k t = behind_super t + line_steps * (2 - j) + (line_words - k) + line_steps
 reading part.Header j k t = behind_head t + (line_words - k)
 reading (part.Slot i) j k t = from_slot t (i + 1) + line_steps * ((geometry t.params).lines - 1 - j) + (line_words - k)
 reading part.File j k t = line_steps * (wanted_lines t.cmd (size_of t.entry) - 1 - j) + (line_words - k)
 
 -- in a phase
 abbrev pub left_at : Phase → Task → ℕ
-left_at at.DropMagic t = behind_head t + 38
-left_at at.Magic t = behind_head t + 37
+left_at at.DropMagic t = behind_super t + 38
+left_at at.Magic t = behind_super t + 37
 left_at (at.Drop part j) t = reading part j 0 t + 1
 left_at (at.Word part j k) t = reading part j k t
 left_at at.DropGate t = behind_head t
 left_at at.Gate t = slot_steps (geometry t.params) * t.lines + behind_decision + 3
 left_at (at.Check i) t = from_slot t (i + 1)
 left_at at.Decide t = behind_decision
-left_at (at.StoreData j k) t = line_steps * (lines_of (size_of t.entry) - 1 - j) + (line_words - k) + 77
-left_at (at.SendData j) t = line_steps * (lines_of (size_of t.entry) - 1 - j) + 77
+left_at (at.StoreData j k) t = line_steps * (lines_of (size_of t.entry) - 1 - j) + (line_words - k) + behind_file t
+left_at (at.SendData j) t = line_steps * (lines_of (size_of t.entry) - 1 - j) + behind_file t
 left_at (at.StoreSlot j k) t = line_steps * ((geometry t.params).lines - 1 - j) + (line_words - k) + 5
 left_at (at.SendSlot j) t = line_steps * ((geometry t.params).lines - 1 - j) + 5
 left_at at.FenceSlot t = 4
@@ -102,9 +112,15 @@ magic_keeps : (t : Task) (fault : Option SuperFault) → Keeps (left_at at.Magic
 magic_keeps t (Some fault) = tt
 magic_keeps t None = record { lines = refl; falls = λ _. omega arith }
 
+-- the longer slots take no fewer operations
+few_steps : (p : Params) (n : ℕ) → slot_steps (geometry p) * n ≤ slot_steps second_format * n
+few_steps p n =
+    let few : slot_steps (geometry p) ≤ slot_steps second_format = omega (arith, (shape p).most) in
+    mul-le-mul_right n few
+
 host_keeps : (t : Task) (p : Params) (j k : ℕ) (refused : Option Refused) → k < 8 → Keeps (reading part.Superblock j k t) t (host_turn t p refused)
 host_keeps t p j k (Some refused) small = tt
-host_keeps t p j k None small = record { lines = refl; falls = λ _. omega arith }
+host_keeps t p j k None small = record { lines = refl; falls = λ _. omega (arith, few_steps p t.lines) }
 
 super_keeps : (t : Task) (j k : ℕ) (r : Result Params SuperFault) → k < 8 → Keeps (reading part.Superblock j k t) t (super_turn t r)
 super_keeps t j k (Err fault) small = tt
@@ -159,7 +175,7 @@ line_keeps part.Superblock t j k is small =
     (super_keeps t j k (super_body_of t.words (line_bytes * t.lines)) small)
 line_keeps part.Header t j k is small = header_keeps t j k (log_fault t.words t.params) small
 line_keeps (part.Slot i) t j k is small =
-    either (reading (part.Slot i) j k t) t (nat_lt (j + 1) 8) _ _
+    either (reading (part.Slot i) j k t) t (nat_lt (j + 1) (geometry t.params).lines) _ _
     (record { lines = refl; falls = λ h. let below = h.0.line.2 in omega (arith, below) })
     (record { lines = refl; falls = λ _. omega arith })
 line_keeps part.File t j k is small = file_keeps t.cmd t j k is.looks small
@@ -223,24 +239,36 @@ first_word part.File t j = record { lines = refl; falls = λ _. omega arith }
 
 -- the slots that are read are no more than the lines
 few_slots : (t : Task) → HasValidGate t → slots_told t.cmd t.params t.gate ≤ t.lines
-few_slots t gate = omega (arith, slots_within t.cmd t.params t.gate gate.gate, gate.super.slots)
+few_slots t gate =
+    omega (arith, slots_within t.cmd t.params t.gate gate.gate, gate.super.slots, times t.params (t.params.slots + 1))
+
+-- of pieces of so many each, the first one that is left, and the others
+pieces_left : (m i n : ℕ) → i < n → m * (n - i) ≡ m * (n - (i + 1)) + m
+pieces_left m i n below = let same : m * (n - i) ≡ m * (n - (i + 1) + 1) = ap (λ (k : ℕ). m * k) (omega arith) in omega (arith, same)
 
 -- the next slot or the decision, whichever it is
 slot_falls : (next : Task) (i n : ℕ) (b : Bool) → (slots_told next.cmd next.params next.gate ≤ next.lines → from_slot next i ≤ n) → behind_decision < n → IsSoundAt (cond b (at.Drop (part.Slot i) 0) at.Decide) next → left_at (cond b (at.Drop (part.Slot i) 0) at.Decide) next < n
 slot_falls next i n true below more h =
     let line : IsLine (part.Slot i) 0 next = h.0.line in
-    omega (arith, below (few_slots next line.0), line.1)
+    let steps : ℕ = slot_steps (geometry next.params) in
+    omega (arith, below (few_slots next line.0), line.1, (shape next.params).lines, pieces_left steps i (slots_told next.cmd next.params next.gate) line.1)
 slot_falls next i n false below more h = more
 
 finds_keeps : (n : ℕ) (t : Task) (m : ℕ) (next : Task) (w : Option Wish) → Kept n t next → Keeps n t (finds_or_goes w m next)
 finds_keeps n t m next None k = k
 finds_keeps n t m next (Some w) k = k
 
+-- at the gate all slots are left, of which there are no more than the image has lines
+gate_left : (t : Task) (m : ℕ) → slots_told t.cmd t.params m ≤ t.lines → from_slot (gate_loaded t m) (first_slot t.kept t.cmd t.params m) ≤ left_at at.Gate t
+gate_left t m few =
+    let left : ℕ = slots_told t.cmd t.params m - first_slot t.kept t.cmd t.params m in
+    omega (arith, mul-le-mul_left {m = left} {n = t.lines} (slot_steps (geometry t.params)) (omega (arith, few)))
+
 gate_keeps : (t : Task) (m : ℕ) (fault : Option LogFault) → Keeps (left_at at.Gate t) t (gate_turn t m fault)
 gate_keeps t m (Some fault) = tt
 gate_keeps t m None =
     finds_keeps (left_at at.Gate t) t m (gate_loaded t m) (wish_of t.cmd)
-    (record { lines = refl; falls = slot_falls (gate_loaded t m) (first_slot t.kept t.cmd t.params m) (left_at at.Gate t) _ (λ h. omega (arith, h)) (omega arith) })
+    (record { lines = refl; falls = slot_falls (gate_loaded t m) (first_slot t.kept t.cmd t.params m) (left_at at.Gate t) _ (λ h. gate_left t m h) (omega arith) })
 
 join_keeps : (t : Task) (i : ℕ) (e : Entry) (fault : Option Reason) → Keeps (from_slot t (i + 1)) t (join_turn t i e fault)
 join_keeps t i e (Some reason) = tt
@@ -279,9 +307,9 @@ proper_size None t sound is = absurd is
 proper_size (Some e) t sound is = size_fits t.params e sound is
 
 first_falls : (next : Task) (b : Bool) → IsSoundAt (cond b (at.StoreSlot 0 0) (at.StoreData 0 0)) next → left_at (cond b (at.StoreSlot 0 0) (at.StoreData 0 0)) next < behind_decision
-first_falls next true h = omega arith
+first_falls next true h = omega (arith, (shape next.params).most)
 first_falls next false h =
-    omega (arith, few_lines (size_of next.entry) (proper_size next.entry next h.0.found.super.sound h.1.proper))
+    omega (arith, (shape next.params).most, few_lines (size_of next.entry) (proper_size next.entry next h.0.found.super.sound h.1.proper))
 
 append_keeps : (t : Task) (r : Result Entry Refused) → Keeps behind_decision t (append_turn t r)
 append_keeps t (Err refused) = tt
@@ -339,9 +367,9 @@ decide_keeps (Read path offset count) t is = found_keeps t (finmap.get (replay t
 decide_keeps (Check listing) t is = tt
 decide_keeps Fsck t is = tt
 
-data_falls : (t next : Task) (j k : ℕ) (b : Bool) → next.entry ≡ t.entry → k < 8 → left_at (cond b (at.StoreData j (k + 1)) (at.SendData j)) next < left_at (at.StoreData j k) t
-data_falls t next j k true entry small = omega (arith, ap (λ (e : Option Entry). lines_of (size_of e)) entry)
-data_falls t next j k false entry small = omega (arith, ap (λ (e : Option Entry). lines_of (size_of e)) entry)
+data_falls : (t next : Task) (j k : ℕ) (b : Bool) → next.params ≡ t.params → next.entry ≡ t.entry → k < 8 → left_at (cond b (at.StoreData j (k + 1)) (at.SendData j)) next < left_at (at.StoreData j k) t
+data_falls t next j k true params entry small = omega (arith, ap (λ (p : Params). (geometry p).lines) params, ap (λ (e : Option Entry). lines_of (size_of e)) entry)
+data_falls t next j k false params entry small = omega (arith, ap (λ (p : Params). (geometry p).lines) params, ap (λ (e : Option Entry). lines_of (size_of e)) entry)
 
 -- a line of the file is one of so many
 line_of_file : (size j : ℕ) → 64 * j < size → j < lines_of size
@@ -349,11 +377,11 @@ line_of_file size j below = omega (arith, (div_ceil_times size 64 (omega arith))
 
 sent_falls : (t : Task) (j : ℕ) (b : Bool) → IsSoundAt (cond b (at.StoreData (j + 1) 0) (at.StoreSlot 0 0)) t → left_at (cond b (at.StoreData (j + 1) 0) (at.StoreSlot 0 0)) t < left_at (at.SendData j) t
 sent_falls t j true h = omega (arith, line_of_file (size_of t.entry) (j + 1) h.1.below)
-sent_falls t j false h = omega arith
+sent_falls t j false h = omega (arith, (shape t.params).lines)
 
-store_falls : (t next : Task) (j k : ℕ) (b : Bool) → k < 8 → left_at (cond b (at.StoreSlot j (k + 1)) (at.SendSlot j)) next < left_at (at.StoreSlot j k) t
-store_falls t next j k true small = omega arith
-store_falls t next j k false small = omega arith
+store_falls : (t next : Task) (j k : ℕ) (b : Bool) → next.params ≡ t.params → k < 8 → left_at (cond b (at.StoreSlot j (k + 1)) (at.SendSlot j)) next < left_at (at.StoreSlot j k) t
+store_falls t next j k true params small = omega (arith, ap (λ (p : Params). (geometry p).lines) params)
+store_falls t next j k false params small = omega (arith, ap (λ (p : Params). (geometry p).lines) params)
 
 send_falls : (t : Task) (j : ℕ) (b : Bool) → IsSoundAt (cond b (at.StoreSlot (j + 1) 0) at.FenceSlot) t → left_at (cond b (at.StoreSlot (j + 1) 0) at.FenceSlot) t < left_at (at.SendSlot j) t
 send_falls t j true h = omega (arith, h.1)
@@ -370,12 +398,12 @@ keeps_at at.DropGate t word stands = record { lines = refl; falls = λ _. omega 
 keeps_at at.Gate t word stands = gate_keeps t word (gate_fault word t.params)
 keeps_at (at.Check i) t word stands = check_keeps t.cmd t i
 keeps_at at.Decide t word stands = decide_keeps t.cmd t refl
-keeps_at (at.StoreData j k) t word stands = record { lines = refl; falls = λ _. data_falls t _ j k (nat_lt k 7) refl stands.2 }
+keeps_at (at.StoreData j k) t word stands = record { lines = refl; falls = λ _. data_falls t _ j k (nat_lt k 7) refl refl stands.2 }
 keeps_at (at.SendData j) t word stands =
     record { lines = refl; falls = sent_falls (record t { phase = data_or_slot t j }) j (nat_lt (j + 1) (lines_of (size_of t.entry))) }
-keeps_at (at.StoreSlot j k) t word stands = record { lines = refl; falls = λ _. store_falls t _ j k (nat_lt k 7) stands.2 }
+keeps_at (at.StoreSlot j k) t word stands = record { lines = refl; falls = λ _. store_falls t _ j k (nat_lt k 7) refl stands.2 }
 keeps_at (at.SendSlot j) t word stands =
-    record { lines = refl; falls = send_falls (record t { phase = slot_or_fence t j }) j (nat_lt (j + 1) 8) }
+    record { lines = refl; falls = send_falls (record t { phase = slot_or_fence t j }) j (nat_lt (j + 1) (geometry t.params).lines) }
 keeps_at at.StoreGate t word stands = record { lines = refl; falls = λ _. omega arith }
 keeps_at at.FenceSlot t word stands = record { lines = refl; falls = λ _. omega arith }
 keeps_at at.SendGate t word stands = record { lines = refl; falls = λ _. omega arith }

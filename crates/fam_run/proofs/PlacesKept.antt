@@ -1,5 +1,5 @@
 -- An append that has its places keeps them, and never wants memory.
-use Rattle.std.proofs.Common.{ℕ, ◌≡◌, ◌≢◌, ◌⊎◌, ◌+◌, ◌<◌, ◌≤◌, Bool, true, false, cond, List, Option, None, Result, Ok, Err, refl, sym, subst, inl, inr, arith}
+use Rattle.std.proofs.Common.{ℕ, ◌≡◌, ◌⊎◌, ◌+◌, ◌<◌, ◌≤◌, Bool, true, false, cond, List, Option, None, Result, Ok, Err, refl, sym, subst, inl, inr, arith}
 use Rattle.std.specs.Prelude.{⊤, IfSome, nat_lt, slice_set, unwrap_or}
 use Rattle.std.proofs.lemmas.Bool.{cases_lt}
 use Rattle.fam_base.specs.Image.{Image}
@@ -15,7 +15,7 @@ use Rattle.fam_commands.specs.Task.{Task, line_of, op_at, op_of}
 use Rattle.fam_commands.specs.Stands.{task_after}
 use Rattle.fam_commands.specs.Turns as turns
 use Rattle.fam_commands.specs.Turns.{turn_at, turn_of}
-use Rattle.fam_format.specs.Layout.{slot_line}
+use Rattle.fam_format.specs.Layout.{geometry, slot_line}
 use Rattle.fam_machine.specs.declared.op.Op.{Op}
 use Rattle.fam_machine.specs.declared.op.Op.TheVariants.{Load, Store, WriteBack, Fence, Invalidate, Digest}
 use Rattle.fam_base.specs.declared.line.LineNo.{LineNo}
@@ -30,7 +30,7 @@ use Rattle.fam_tasks.specs.declared.answer.Turn.TheVariants.{Go}
 use Rattle.fam_tasks.specs.Rest as rest
 use Rattle.fam_tasks.specs.Rest.{IsFileLineDue, Stores, StoresFileLine}
 use Rattle.fam_tasks.specs.Tells.{Tells}
-use Rattle.fam_run.specs.Places.{HasPlaces, HasPlacesAt, IsReadyAt, PlacesKept, PlacesMade, ReadyPlacesKept}
+use Rattle.fam_run.specs.Places.{HasPlaces, HasPlacesAt, append_places, slot_places, IsReadyAt, PlacesKept, PlacesMade, ReadyPlacesKept}
 use Rattle.fam_run.specs.Operation.{ended}
 use Rattle.fam_run.specs.Cached as run
 use Rattle.fam_run.specs.Cached.{CachedRun, IsCached, cached_after}
@@ -72,11 +72,11 @@ KeptBy turn after = IfSome (task_after turn) (λ next. HasPlaces next after)
 -- Phase by phase.
 
 module _ (t : Task) (cache after : CacheState) where
-  data_next : (b : Bool) (j k : ℕ) → 10 ≤ after.spare → IsHeld (cell_at after.lines (line_of t.entry j)) → HasPlaces (record t { phase = cond b (at.StoreData j (k + 1)) (at.SendData j) }) after
+  data_next : (b : Bool) (j k : ℕ) → append_places t.params ≤ after.spare → IsHeld (cell_at after.lines (line_of t.entry j)) → HasPlaces (record t { phase = cond b (at.StoreData j (k + 1)) (at.SendData j) }) after
   data_next true j k room held = (room, λ _. held)
   data_next false j k room held = room
 
-  sent_next : (b : Bool) (j : ℕ) → 10 ≤ after.spare → HasPlaces (record t { phase = cond b (at.StoreData (j + 1) 0) (at.StoreSlot 0 0) }) after
+  sent_next : (b : Bool) (j : ℕ) → append_places t.params ≤ after.spare → HasPlaces (record t { phase = cond b (at.StoreData (j + 1) 0) (at.StoreSlot 0 0) }) after
   sent_next true j room = (room, λ some. absurd (omega (arith, some)))
   sent_next false j room = record {
     begun = omega (arith, room);
@@ -84,7 +84,7 @@ module _ (t : Task) (cache after : CacheState) where
     held = λ some. absurd (omega (arith, some));
   }
 
-  slot_next : (b : Bool) (i k : ℕ) → 9 ≤ after.spare + i → IsHeld (cell_at after.lines (slot_line t.params t.gate i)) → HasPlaces (record t { phase = cond b (at.StoreSlot i (k + 1)) (at.SendSlot i) }) after
+  slot_next : (b : Bool) (i k : ℕ) → slot_places t.params ≤ after.spare + i → IsHeld (cell_at after.lines (slot_line t.params t.gate i)) → HasPlaces (record t { phase = cond b (at.StoreSlot i (k + 1)) (at.SendSlot i) }) after
   slot_next true i k room held = record {
     begun = room;
     first = λ none. absurd (omega (arith, none));
@@ -92,7 +92,7 @@ module _ (t : Task) (cache after : CacheState) where
   }
   slot_next false i k room held = room
 
-  gate_next : (b : Bool) (i : ℕ) → i < 8 → 9 ≤ after.spare + i → HasPlaces (record t { phase = cond b (at.StoreSlot (i + 1) 0) at.FenceSlot }) after
+  gate_next : (b : Bool) (i : ℕ) → i < (geometry t.params).lines → slot_places t.params ≤ after.spare + i → HasPlaces (record t { phase = cond b (at.StoreSlot (i + 1) 0) at.FenceSlot }) after
   gate_next true i below room = record {
     begun = omega (arith, room);
     first = λ _. omega (arith, room);
@@ -108,11 +108,11 @@ module _ (t : Task) (cache after : CacheState) where
         | inr none ↦ ready (omega arith)
       ]
 
-  slot_room : (i k : ℕ) → HasPlacesAt (at.StoreSlot i k) t cache → cache.spare ≤ after.spare + 1 → (IsHeld (cell_at cache.lines (slot_line t.params t.gate i)) → cache.spare ≤ after.spare) → 9 ≤ after.spare + i
+  slot_room : (i k : ℕ) → HasPlacesAt (at.StoreSlot i k) t cache → cache.spare ≤ after.spare + 1 → (IsHeld (cell_at cache.lines (slot_line t.params t.gate i)) → cache.spare ≤ after.spare) → slot_places t.params ≤ after.spare + i
   slot_room i k has one none =
       elim (cases_lt 0 k) [
         | inl some ↦ (let kept : cache.spare ≤ after.spare = none (has.held some) in omega (arith, has.begun, kept))
-        | inr first ↦ (let enough : 10 ≤ cache.spare + i = has.first (omega arith) in omega (arith, enough, one))
+        | inr first ↦ (let enough : append_places t.params ≤ cache.spare + i = has.first (omega arith) in omega (arith, enough, one))
       ]
 
   kept_at : (p : Phase) (word : ℕ) → IsSoundAt p t → Takes (op_at t p) cache after → IsReadyAt p t cache → HasPlacesAt p t cache → KeptBy (turn_at p t word) after
@@ -284,15 +284,15 @@ stores_kept line words t next _ lines spare held (rest.stores {mid = mid} {n = n
     (stores_kept line words t mid n lines spare held before has)
 
 module _ (line : LineNo) (words : List ℕ) (t : Task) (cache : CacheState) (due : IsFileLineDue line words t) where
-  ten : HasPlaces t cache → 10 ≤ cache.spare
-  ten has = (let at_line : HasPlacesAt (at.StoreData due.j 0) t cache = subst (λ (p : Phase). HasPlacesAt p t cache) due.phase has in at_line.0)
+  enough : HasPlaces t cache → append_places t.params ≤ cache.spare
+  enough has = (let at_line : HasPlacesAt (at.StoreData due.j 0) t cache = subst (λ (p : Phase). HasPlacesAt p t cache) due.phase has in at_line.0)
 
   pub put_kept : (sent next : Task) (after : CacheState) → IsSound t → IsSound sent → StoresFileLine line words t sent → cache.spare ≤ after.spare → Tells (turn_of sent None) Go next → HasPlaces t cache → HasPlaces next after
   put_kept sent next after sound sound_sent stores le tells has =
       let cell : Cell = Dirty false words in
       let lines : Cache = with_cell line.0 cell cache.lines in
       let held : IsHeld (cell_at lines line.0) = subst IsHeld {x = cell} (sym (cell_at-with_cell_same line.0 cell cache.lines)) refl in
-      let first : HasPlacesAt (at.StoreData due.j 0) t (with_places lines cache.spare) = (ten has, λ some. absurd (omega (arith, some))) in
+      let first : HasPlacesAt (at.StoreData due.j 0) t (with_places lines cache.spare) = (enough has, λ some. absurd (omega (arith, some))) in
       let begun : HasPlaces stores.begun (with_places lines cache.spare) =
       held_step t stores.begun lines lines cache.spare None sound (subst (λ (o : Op). IsCached o lines) (sym stores.op) held) (subst (λ (o : Op). IsHeldBy o lines) (sym stores.op) held) stores.turn
       (subst (λ (p : Phase). HasPlacesAt p t (with_places lines cache.spare)) (sym due.phase) first) in

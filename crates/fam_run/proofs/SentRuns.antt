@@ -1,10 +1,9 @@
 -- Lines of the new file that are stored and sent one behind another, by one write.
-use Rattle.std.proofs.Common.{ℕ, zero, suc, ◌≡◌, ◌≢◌, ◌<◌, ◌≤◌, ◌+◌, false, List, [], length, Option, Some, None, unwrap_or, refl, sym, ap, subst, ◌∙◌, arith, inl, inr}
+use Rattle.std.proofs.Common.{ℕ, zero, suc, ◌≡◌, ◌<◌, ◌≤◌, ◌+◌, false, List, Option, Some, None, unwrap_or, refl, sym, ap, subst, ◌∙◌, arith, inl, inr}
 use Rattle.std.specs.Option.{option_map}
 use Rattle.std.proofs.lemmas.Bool.{cases_eq}
 use Rattle.fam_base.specs.Image.{Image, IsNormal, eight, with_line}
 use Rattle.fam_base.proofs.ImageLemmas.{normal-with_line}
-use Rattle.fam_machine.specs.declared.cell.Cell.{Cell}
 use Rattle.fam_machine.specs.declared.cell.Cell.TheVariants.{Absent, Dirty}
 use Rattle.fam_machine.specs.Caches.{Cache, cell_at, with_cell}
 use Rattle.fam_machine.specs.Operations.{line_no}
@@ -15,7 +14,6 @@ use Rattle.fam_commands.specs.Turns.{Goes, turn_of}
 use Rattle.fam_commands.proofs.TurnTells as told
 use Rattle.fam_commands.proofs.TurnTells.{turn_tells}
 use Rattle.fam_media.specs.Causes.{Rose}
-use Rattle.fam_media.specs.Outside.{IsTorn}
 use Rattle.fam_media.specs.Runs.{IsRunTorn, line_in, run_written, with_run}
 use Rattle.fam_tasks.specs.declared.answer.Turn.TheVariants.{Go}
 use Rattle.fam_base.specs.declared.line.LineNo.{LineNo}
@@ -23,8 +21,8 @@ use Rattle.fam_tasks.specs.Rest as rest
 use Rattle.fam_tasks.specs.Rest.{Stores}
 use Rattle.fam_tasks.specs.Sound.{IsSound}
 use Rattle.fam_tasks.specs.Tells.{Tells}
-use Rattle.fam_run.specs.Led.{HasBrokenOff, HasDone}
-use Rattle.fam_run.specs.Places.{HasPlaces, KeepsPlaces}
+use Rattle.fam_run.specs.Led.{HasDone}
+use Rattle.fam_run.specs.Places.{KeepsPlaces}
 use Rattle.fam_run.specs.Runs.{HasRun, HasRunOff, SendsOne, Sent, StoresNext, StoresRun}
 use Rattle.fam_run.specs.Runs as run
 use Rattle.fam_run.specs.TaskChange.{TaskChange}

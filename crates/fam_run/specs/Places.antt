@@ -1,5 +1,5 @@
--- How many places of its host's cache an append wants behind its first store: one for a line of its file at a time, eight
--- for its slot and one for the gate.
+-- How many places of its host's cache an append wants behind its first store: one for a line of its file at a time, one
+-- for each line of its slot and one for the gate.
 use Rattle.std.specs.Prelude.{ℕ, ⊤, ◌≡◌, ◌⊎◌, ◌+◌, ◌<◌, ◌≤◌, Result, Ok, Err, None}
 use Rattle.fam_cache.specs.declared.fault.OperationFault.{OperationFault}
 use Rattle.fam_cache.specs.declared.fault.OperationFault.TheVariants as fault

@@ -1,5 +1,5 @@
 -- Lines of the new file that are stored and sent one behind another, by one write of the media.
-use Rattle.std.specs.Prelude.{ℕ, zero, suc, ◌+◌, ◌<◌, ◌≡◌, List, Option, None, Result, Ok, Err}
+use Rattle.std.specs.Prelude.{ℕ, suc, ◌+◌, ◌≡◌, List, Option, None, Result, Ok, Err}
 use Rattle.fam_base.specs.Image.{Image}
 use Rattle.fam_base.specs.declared.line.LineNo.{LineNo}
 use Rattle.fam_cache.specs.declared.fault.OperationFault.{OperationFault}

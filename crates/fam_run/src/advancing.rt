@@ -22,9 +22,9 @@ use fam_cache::{HostCache, OperationFault};
 use fam_media::Media;
 use fam_tasks::{Due, Task, Turn};
 
-/// The places that the lines of an append want of its host's cache: one for the line of its file at hand, eight for its
-/// slot, and one for the gate.
-const APPEND_PLACES: u64 = 10;
+/// The places that the lines of an append want of its host's cache beside those of its slot: one for the line of its file
+/// at hand, and one for the gate.
+const OTHER_PLACES: u64 = 2;
 
 /// Makes places in a host's cache for all lines of an append, where its first store comes next.
 #[inline(always)]
@@ -39,7 +39,7 @@ fn make_places(cache: &mut HostCache, task: &Task) -> Result<(), OutOfMemory>
     if !task.stores_first() {
         return Ok(());
     }
-    cache.reserve(APPEND_PLACES)
+    cache.reserve(task.slot_lines() + OTHER_PLACES)
 }
 
 /// As `advance`, of a task for which places are made.

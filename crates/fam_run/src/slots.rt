@@ -2,6 +2,7 @@
 //! operations are such.
 
 ghost use Rattle.std.specs.Prelude.{◌≡◌, ◌+◌, ◌<◌, IfErr, IfOk, IsErrOf, false, true};
+ghost use Rattle.fam_format.specs.Layout.{geometry};
 ghost use Rattle.fam_commands.specs.declared.phase.Part.TheVariants as part;
 ghost use Rattle.fam_commands.specs.declared.phase.Phase.TheVariants as at;
 ghost use Rattle.fam_media.specs.Causes.{IsSteady};
@@ -16,7 +17,6 @@ ghost use Rattle.fam_run.specs.Room.{LacksRoomWhole, WantsRoom};
 
 use crate::operation::operate;
 use fam_cache::{CacheFault, HostCache, OperationFault};
-use fam_format::SLOT_LINES;
 use fam_media::Media;
 use fam_tasks::{SlotDue, Task, Turn};
 
@@ -34,11 +34,13 @@ fn load_line<M: Media>(
 ) -> Result<bool, OperationFault>
     requires lines { task.old.lines ≡ M.size media.old }
     requires due { task.old.phase ≡ at.Drop (part.Slot due.slot) due.line }
+    requires count { due.lines ≡ (geometry task.old.params).lines }
 
     ensures loaded { IfOk result (λ loaded. loaded ≡ true → HasDone
         (task_change M.size M.state task.old task.new cache.old cache.new media.old media.new) Go) }
-    ensures next { IfOk result (λ loaded. loaded ≡ true → due.line + 1 < SLOT_LINES
+    ensures next { IfOk result (λ loaded. loaded ≡ true → due.line + 1 < due.lines
         → task.new.phase ≡ at.Drop (part.Slot due.slot) (due.line + 1)) }
+    ensures params { IfOk result (λ loaded. loaded ≡ true → task.new.params ≡ task.old.params) }
     ensures failed { IfErr result (λ fault. IfMediaFault fault (HasBrokenOff
         (task_change M.size M.state task.old task.new cache.old cache.new media.old media.new))) }
 
@@ -88,7 +90,8 @@ pub(crate) fn load_slot<M: Media>(
     requires lines { task.old.lines ≡ M.size media.old }
     requires asked { SendsWithin (op_of task.old) (M.size media.old) cache.old.lines }
     requires due { task.old.phase ≡ at.Drop (part.Slot due.slot) due.line }
-    requires below { due.line < SLOT_LINES }
+    requires below { due.line < due.lines }
+    requires count { due.lines ≡ (geometry task.old.params).lines }
 
     ensures advanced { Advanced
         (task_change M.size M.state task.old task.new cache.old cache.new media.old media.new) (said_of result turn.new) }
@@ -100,10 +103,11 @@ pub(crate) fn load_slot<M: Media>(
         Ok(false) => return operate(cache, task, media, turn),
         Err(fault) => return Err(fault),
     }
-    'lines: for line in due.line + 1..SLOT_LINES {
+    'lines: for line in due.line + 1..due.lines {
         let next = SlotDue {
             slot: due.slot,
             line,
+            lines: due.lines,
         };
         match load_line(cache, task, media, next) {
             Ok(true) => {}

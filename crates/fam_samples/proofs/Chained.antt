@@ -188,7 +188,7 @@ module _ (start : Image) (files : Files) (w : Wishes) (image : IsImage start) wh
         last = at_session m2.state;
         follows = record {
           count = 1;
-          event = event.Mkfs w.name w.fs 4096 65536 false None;
+          event = event.Mkfs w.name w.fs 4096 65536 1 false None;
           is = refl;
           mid = at_session m1.state;
           whole_notes = m1.notes;
@@ -199,8 +199,8 @@ module _ (start : Image) (files : Files) (w : Wishes) (image : IsImage start) wh
         };
         left = m2.told_is;
         legal = m2.legal;
-        reads = subst (λ (s : State). CutEventReads (event.Mkfs w.name w.fs 4096 65536 false None) (at_session m1.state) s m2.state.memory)
-            (sym (broken_state start (event.Mkfs w.name w.fs 4096 65536 false None) (at_session m1.state) (at_session m2.state) t.declared.journal m2.notes t.cut.world.journal (m2.row, refl) m2.joined)) m2.reads;
+        reads = subst (λ (s : State). CutEventReads (event.Mkfs w.name w.fs 4096 65536 1 false None) (at_session m1.state) s m2.state.memory)
+            (sym (broken_state start (event.Mkfs w.name w.fs 4096 65536 1 false None) (at_session m1.state) (at_session m2.state) t.declared.journal m2.notes t.cut.world.journal (m2.row, refl) m2.joined)) m2.reads;
       }
 
   pub out_of_memory : (t : OutOfMemoryTrace start w) → ComesTo start EndsOutOfMemory files (event.Host w.name w.uuid ∷ event.Finish w.name ∷ []) t.wanting.world t.wanting.told

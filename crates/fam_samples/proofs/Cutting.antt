@@ -54,7 +54,7 @@ module _ (me fs : List ℕ) (is_uuid : IsUuid fs) (image : Image) (enough : need
   lines = length image
 
   abbrev call : Call
-  call = Makes (codes "m") (mkfs_request fs 4096 65536 true None)
+  call = Makes (codes "m") (mkfs_request fs 4096 65536 1 true None)
 
   abbrev old : WorldView
   old = before_mkfs me journal
@@ -86,7 +86,7 @@ module _ (me fs : List ℕ) (is_uuid : IsUuid fs) (image : Image) (enough : need
 
   module _ (start : Image) (state : Machines) (held : Held start state old state.memory) (same : image ≡ state.memory) (lines_are : length state.memory ≡ length start) (stands : WorldStands (length state.memory) state old) (host : HostState) (host_is : slice_get state.hosts 0 ≡ Some host) (mine : HostStands (length state.memory) host (host_m me finmap.empty None)) where
     abbrev p : Params
-    p = asked (mkfs_request fs 4096 65536 true None) host.uuid (length state.memory)
+    p = asked (mkfs_request fs 4096 65536 1 true None) host.uuid (length state.memory)
 
     abbrev behind : Machine
     behind = operated (Invalidate (line_no 0)) (machine_of state host)
@@ -144,7 +144,7 @@ module _ (me fs : List ℕ) (is_uuid : IsUuid fs) (image : Image) (enough : need
       joined = refl;
       stands = new_stands;
       legal = cut_legal start state left old call (fault ∷ []) held row;
-      reads = cut_reads_as start state left old call (fault ∷ []) held is_uuid row;
+      reads = cut_reads_as start state left old call (fault ∷ []) held (record { fs = is_uuid; format = refl }) row;
     }
 
   leaves : (start : Image) → CallBreaks call start (Some image) (Some image) old new

@@ -8,6 +8,7 @@ use Rattle.fam_base.specs.declared.entry.Entry.{Entry}
 use Rattle.fam_base.specs.declared.entry.Kind.TheVariants as kind
 use Rattle.fam_base.specs.declared.entry.Params.{Params}
 use Rattle.fam_base.specs.PathOrder.{path_cmp}
+use Rattle.fam_format.specs.Layout.{shape_of}
 use Rattle.fam_rules.specs.declared.answers.Refused.{Refused}
 use Rattle.fam_rules.specs.declared.answers.Refused.TheVariants as cause
 use Rattle.fam_rules.specs.Asks.{File, entries_of}
@@ -23,11 +24,11 @@ decides p host history decision cmd told d =
 
 -- a directory on no entries, and where it stands already
 pub first : decide params master [] (mkdir x) ≡ Some (Ok (folder x))
-unfolding decide_wish room_for
+unfolding decide_wish room_for shape_of
 first = rw (finmap.get-empty {X = Entry} path_cmp x) refl
 
 pub again : decide params master (folder x ∷ []) (mkdir x) ≡ Some (Err (cause.Exists kind.Directory))
-unfolding decide_wish room_for
+unfolding decide_wish room_for shape_of
 again = rw (finmap.get-insert nat_list_cmp_total (finmap.empty {X = Entry}) x (folder x) x) refl
 
 pub of_client : decide params client [] (mkdir x) ≡ Some (Err (cause.NotMaster client master))

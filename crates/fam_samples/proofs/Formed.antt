@@ -45,7 +45,7 @@ module _ (me : List ℕ) (journal : List Note) (cache now : Cache) (is : IsForme
 
   module _ (fs : List ℕ) (lines : ℕ) (enough : need 65536 4096 ≤ line_bytes * lines) where
     abbrev call : Call
-    call = Makes (codes "m") (mkfs_request fs 4096 65536 true None)
+    call = Makes (codes "m") (mkfs_request fs 4096 65536 1 true None)
 
     not_small : (n : ℕ) → n ≡ lines → nat_lt (line_bytes * n) (need 65536 4096) ≡ false
     not_small n is = grind (arith, nat_tests, is, enough)
@@ -53,13 +53,13 @@ module _ (me : List ℕ) (journal : List Note) (cache now : Cache) (is : IsForme
     free_m : refusal_told call lines (form_m me ∷ []) ≡ None
     free_m = ap (λ (t : Bool). or_else (option_map cause_of (if t then Some (TooSmall (need 65536 4096) (line_bytes * length (shown_forms lines (form_m me ∷ [])).memory)) else None)) None) (not_small (length (shown_forms lines (form_m me ∷ [])).memory) (length-replicate lines []))
 
-    made_one : DoesForm call lines (form_m me ∷ []) (Made 0 (asked (mkfs_request fs 4096 65536 true None) me lines) ∷ [])
+    made_one : DoesForm call lines (form_m me ∷ []) (Made 0 (asked (mkfs_request fs 4096 65536 1 true None) me lines) ∷ [])
     made_one =
-        subst (λ (o : Option Refusal). FormByRefusal (codes "m") o (Made 0 (asked (mkfs_request fs 4096 65536 true None) me lines) ∷ []) (FreeForm call lines (form_m me ∷ []) (Made 0 (asked (mkfs_request fs 4096 65536 true None) me lines) ∷ []))) (sym free_m) (inl (inl refl))
+        subst (λ (o : Option Refusal). FormByRefusal (codes "m") o (Made 0 (asked (mkfs_request fs 4096 65536 1 true None) me lines) ∷ []) (FreeForm call lines (form_m me ∷ []) (Made 0 (asked (mkfs_request fs 4096 65536 1 true None) me lines) ∷ []))) (sym free_m) (inl (inl refl))
 
     -- what it adds, and what it adds where a media fault cuts it
-    pub made_form : CallForm call lines (forms_of journal) (Made 0 (asked (mkfs_request fs 4096 65536 true None) me lines) ∷ [])
-    made_form = inl (subst (λ (z : List HostForm). DoesForm call lines z (Made 0 (asked (mkfs_request fs 4096 65536 true None) me lines) ∷ [])) (sym told_m) made_one)
+    pub made_form : CallForm call lines (forms_of journal) (Made 0 (asked (mkfs_request fs 4096 65536 1 true None) me lines) ∷ [])
+    made_form = inl (subst (λ (z : List HostForm). DoesForm call lines z (Made 0 (asked (mkfs_request fs 4096 65536 1 true None) me lines) ∷ [])) (sym told_m) made_one)
 
     pub cut_form : (line : ℕ) → CallForm call lines (forms_of journal) (Refused (codes "m") (why.MediaFault (record { 0 = line })) ∷ [])
     cut_form line =

@@ -1,4 +1,5 @@
 mod Decided
+mod Longs
 mod Dropped
 pub mod Formed
 pub mod Chained

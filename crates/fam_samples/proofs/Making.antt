@@ -137,7 +137,7 @@ module _ (me fs : List ℕ) (is_uuid : IsUuid fs) (image : Image) (enough : need
   not_small : (n : ℕ) → n ≡ lines → nat_lt (line_bytes * n) (need 65536 4096) ≡ false
   not_small n is = grind (arith, nat_tests, is, enough)
 
-  pub free : refusal_in (Makes (codes "m") (mkfs_request fs 4096 65536 true None)) old lines ≡ None
+  pub free : refusal_in (Makes (codes "m") (mkfs_request fs 4096 65536 1 true None)) old lines ≡ None
   unfolding refusal_of
   free = ap (λ (t : Bool). or_else (option_map cause_of (if t then Some (TooSmall (need 65536 4096) (line_bytes * length (shown_state old lines).memory)) else None)) None) (not_small (length (shown_state old lines).memory) (length-replicate lines []))
 
@@ -151,7 +151,7 @@ module _ (me fs : List ℕ) (is_uuid : IsUuid fs) (image : Image) (enough : need
       }
   fits (suc h) view is = absurd cc
 
-  answers : Answers (Makes (codes "m") (mkfs_request fs 4096 65536 true None)) lines None faults faults old new
+  answers : Answers (Makes (codes "m") (mkfs_request fs 4096 65536 1 true None)) lines None faults faults old new
   answers = record {
     adds = record {
       notes = Made 0 p ∷ [];
@@ -171,10 +171,10 @@ module _ (me fs : List ℕ) (is_uuid : IsUuid fs) (image : Image) (enough : need
 
   module _ (start : Image) (state : Machines) (held : Held start state old state.memory) (same : image ≡ state.memory) (lines_are : length state.memory ≡ length start) (stands : WorldStands (length state.memory) state old) (host : HostState) (host_is : slice_get state.hosts 0 ≡ Some host) (mine : HostStands (length state.memory) host (host_m me finmap.empty None)) where
     abbrev call : Call
-    call = Makes (codes "m") (mkfs_request fs 4096 65536 true None)
+    call = Makes (codes "m") (mkfs_request fs 4096 65536 1 true None)
 
-    params_are : asked (mkfs_request fs 4096 65536 true None) host.uuid (length state.memory) ≡ p
-    params_are = ap₂ (λ (id : List ℕ) (n : ℕ). asked (mkfs_request fs 4096 65536 true None) id n) mine.uuid (sym (ap (λ (x : Image). length x) same))
+    params_are : asked (mkfs_request fs 4096 65536 1 true None) host.uuid (length state.memory) ≡ p
+    params_are = ap₂ (λ (id : List ℕ) (n : ℕ). asked (mkfs_request fs 4096 65536 1 true None) id n) mine.uuid (sym (ap (λ (x : Image). length x) same))
 
     machine_is : machine_of state host ≡ record { image = image; cache = finmap.empty }
     machine_is = ap₂ (λ (x : Image) (c : Cache). record { image = x; cache = c }) (sym same) mine.cache
@@ -191,7 +191,7 @@ module _ (me fs : List ℕ) (is_uuid : IsUuid fs) (image : Image) (enough : need
     none : refusal_of call state ≡ None
     none = refusal_shown (length state.memory) state old call stands ∙ ap (refusal_in call old) (sym (ap (λ (x : Image). length x) same)) ∙ free
 
-    made : MakesFileSystem 0 (asked (mkfs_request fs 4096 65536 true None) host.uuid (length state.memory)) true host state (Made 0 p ∷ []) left
+    made : MakesFileSystem 0 (asked (mkfs_request fs 4096 65536 1 true None) host.uuid (length state.memory)) true host state (Made 0 p ∷ []) left
     made = subst (λ (q : Params). MakesFileSystem 0 q true host state (Made 0 p ∷ []) left) (sym params_are) record { free = refl; notes_are = refl; left = refl }
 
     acts : Acts call state (Made 0 p ∷ []) left
@@ -215,15 +215,15 @@ module _ (me fs : List ℕ) (is_uuid : IsUuid fs) (image : Image) (enough : need
       row = row;
       told_is = ap (λ (z : Machine). Some (operated_all (mkfs_ops p) z).image) (sym machine_is);
       joined = refl;
-      held = kept_on start state left old new call (Made 0 p ∷ []) held is_uuid row new_stands refl;
+      held = kept_on start state left old new call (Made 0 p ∷ []) held (record { fs = is_uuid; format = refl }) row new_stands refl;
     }
 
-  keeps : (start : Image) → CallKeeps (Makes (codes "m") (mkfs_request fs 4096 65536 true None)) start (Some image) (Some done.image) old new
+  keeps : (start : Image) → CallKeeps (Makes (codes "m") (mkfs_request fs 4096 65536 1 true None)) start (Some image) (Some done.image) old new
   keeps start state told held =
       let lines_are : length state.memory ≡ length start = held.kept.held.lines in
       let stands : WorldStands (length state.memory) state old = subst (λ (n : ℕ). WorldStands n state old) (sym lines_are) held.stands in
       let found = find_host (length state.memory) (host_m me finmap.empty None) (slice_get state.hosts 0) (stands 0) in
       moves start state held (same_Some image state.memory told) lines_are stands found.0 found.1 found.2
 
-  pub meets_mkfs : MakeCall (Makes (codes "m") (mkfs_request fs 4096 65536 true None)) lines None (media_change (Some image) faults (Some done.image) faults) old new
+  pub meets_mkfs : MakeCall (Makes (codes "m") (mkfs_request fs 4096 65536 1 true None)) lines None (media_change (Some image) faults (Some done.image) faults) old new
   meets_mkfs = record { answers = answers; leaves = keeps }

@@ -35,7 +35,7 @@ after_step me lines journal =
 
 -- the file system that host m makes, over whatever stands there, and the machine behind it
 abbrev pub params_m : List ℕ → List ℕ → Image → Params
-params_m me fs image = asked (mkfs_request fs 4096 65536 true None) me (length image)
+params_m me fs image = asked (mkfs_request fs 4096 65536 1 true None) me (length image)
 
 -- memory and cache behind a mkfs that was forced, with no cache before
 abbrev pub made_machine : List ℕ → List ℕ → Image → Machine

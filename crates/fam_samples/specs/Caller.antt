@@ -51,7 +51,7 @@ pub record Trace (start : Image) (w : Wishes) : Type 0 where
   pub evicted : Moment
   pub halted : WorldView
   pub host : WorldCall (Declares w.name w.uuid) (length start) None empty_world declared
-  pub mkfs : MakeCall (Makes w.name (mkfs_request w.fs 4096 65536 false None)) (length start) None (media_change (Some start) first made.told made.faults) declared made.world
+  pub mkfs : MakeCall (Makes w.name (mkfs_request w.fs 4096 65536 1 false None)) (length start) None (media_change (Some start) first made.told made.faults) declared made.world
   pub begin : WorldCall (Begins w.name w.cmd) (length start) None made.world begun
   pub step : StepCall w.name (length start) None false (media_change made.told made.faults stepped.told stepped.faults) begun stepped.world
   pub finish : MediaCall (Finishes w.name) (length start) None (media_change stepped.told stepped.faults finished.told finished.faults) stepped.world finished.world
@@ -61,7 +61,7 @@ pub record Trace (start : Image) (w : Wishes) : Type 0 where
 -- the events of a script that these calls run
 abbrev pub events : Wishes → List Event
 events w =
-    event.Host w.name w.uuid ∷ event.Mkfs w.name w.fs 4096 65536 false None ∷ event.Begin w.name (ask.Plain w.cmd) ∷ event.Step w.name 1 ∷ event.Finish w.name ∷ event.Evict w.name w.line ∷ event.Halt w.name ∷ []
+    event.Host w.name w.uuid ∷ event.Mkfs w.name w.fs 4096 65536 1 false None ∷ event.Begin w.name (ask.Plain w.cmd) ∷ event.Step w.name 1 ∷ event.Finish w.name ∷ event.Evict w.name w.line ∷ event.Halt w.name ∷ []
 
 -- a world that is held, at the last state of events with this ending, whose notes are its journal; and the media has its image
 pub record ComesTo (start : Image) (ending : Ending) (files : Files) (events : List Event) (world : WorldView) (told : Option Image) : Type 0 where
@@ -77,7 +77,7 @@ pub record CutTrace (start : Image) (w : Wishes) : Type 0 where
   pub cut : Moment
   pub line : LineNo
   pub host : WorldCall (Declares w.name w.uuid) (length start) None empty_world declared
-  pub mkfs : MakeCall (Makes w.name (mkfs_request w.fs 4096 65536 false None)) (length start) (Some (why.MediaFault line)) (media_change (Some start) first cut.told cut.faults) declared cut.world
+  pub mkfs : MakeCall (Makes w.name (mkfs_request w.fs 4096 65536 1 false None)) (length start) (Some (why.MediaFault line)) (media_change (Some start) first cut.told cut.faults) declared cut.world
 
 -- the journal is legal and follows, up to the mkfs, and the image reads as that mkfs leaves it
 pub record ComesToCut (start : Image) (ending : Ending) (files : Files) (events : List Event) (world : WorldView) (told : Option Image) : Type 0 where

@@ -1,5 +1,5 @@
 -- A small scene for samples: host 0, `m`, is the master of a file system that it made, and host 1, `c`, is a client.
-use Rattle.std.specs.Prelude.{ℕ, false, List, [], ◌∷◌, ◌++◌, codes, Option, Some, None}
+use Rattle.std.specs.Prelude.{ℕ, false, List, [], ◌∷◌, ◌++◌, codes, replicate, Option, Some, None}
 use Rattle.std.specs.FinMap as finmap
 use Rattle.fam_base.specs.declared.cmd.Cmd.{Cmd}
 use Rattle.fam_base.specs.declared.cmd.Cmd.TheVariants.{Mkdir}
@@ -38,7 +38,7 @@ client = uuid 2
 
 -- units of 4 KiB and a log of 64 KiB on 4 MiB: 127 slots
 abbrev pub params : Params
-params = record { log_length = 65536; slots = 127; unit = 4096; device = 4194304; fs = uuid 255; master = master }
+params = record { format = 1; log_length = 65536; slots = 127; unit = 4096; device = 4194304; fs = uuid 255; master = master }
 
 -- a directory of this name is to be made
 abbrev pub mkdir : List ℕ → Cmd
@@ -60,6 +60,10 @@ x = codes "x"
 abbrev pub y : List ℕ
 y = codes "y"
 
+-- a path of so many bytes
+unfoldable pub long : ℕ → List ℕ
+long n = replicate n 97
+
 -- a tree of one directory, and one of none
 abbrev pub tree_of : List ℕ → Tree
 tree_of path = replay (folder path ∷ [])
@@ -73,6 +77,10 @@ no_tree = finmap.empty
 -- two hosts, and a new file system
 abbrev pub made : List Note
 made = Host (codes "m") master ∷ Host (codes "c") client ∷ Made 0 params ∷ []
+
+-- two hosts, and a new file system of the second format
+abbrev pub made_second : List Note
+made_second = Host (codes "m") master ∷ Host (codes "c") client ∷ Made 0 (record params { format = 2; slots = 63 }) ∷ []
 
 -- the master has found no entry, and is about to decide
 abbrev pub found : List Note
@@ -158,8 +166,8 @@ ten_events =
     ∷ event.Finish (codes "m")
     ∷ event.Evict (codes "m") (record { 0 = 0 })
     ∷ event.Halt (codes "m")
-    ∷ event.Mkfs (codes "m") (uuid 255) 5000 8388608 false None
-    ∷ event.Mkfs (codes "m") (uuid 255) 4096 65536 false None ∷ []
+    ∷ event.Mkfs (codes "m") (uuid 255) 5000 8388608 1 false None
+    ∷ event.Mkfs (codes "m") (uuid 255) 4096 65536 1 false None ∷ []
 
 -- the notes that they come to
 abbrev pub ten_notes : List Note

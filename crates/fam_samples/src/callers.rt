@@ -41,8 +41,8 @@ pub fn a_body_meets_what_calls_promise()
         → StepCall (codes "m") lines None false (media_change None faults None faults) (before_step me lines journal) (after_step me lines journal) }
     ensures mkfs { (me fs : List ℕ) (image : Image) (journal : List Note) (faults : ℕ) → IsUuid fs
         → need 65536 4096 ≤ line_bytes * length image
-        → MakeCall (Makes (codes "m") (mkfs_request fs 4096 65536 true None)) (length image) None (media_change (Some image) faults (Some (made_machine me fs image).image) faults) (before_mkfs me journal) (after_mkfs me fs image journal) }
+        → MakeCall (Makes (codes "m") (mkfs_request fs 4096 65536 1 true None)) (length image) None (media_change (Some image) faults (Some (made_machine me fs image).image) faults) (before_mkfs me journal) (after_mkfs me fs image journal) }
     ensures cut { (me fs : List ℕ) (image : Image) (journal : List Note) (faults : ℕ) → IsUuid fs
         → need 65536 4096 ≤ line_bytes * length image
-        → MakeCall (Makes (codes "m") (mkfs_request fs 4096 65536 true None)) (length image) (Some (MediaFault (record { 0 = 0 }))) (media_change (Some image) faults (Some image) (faults + 1)) (before_mkfs me journal) (after_cut me journal) }
+        → MakeCall (Makes (codes "m") (mkfs_request fs 4096 65536 1 true None)) (length image) (Some (MediaFault (record { 0 = 0 }))) (media_change (Some image) faults (Some image) (faults + 1)) (before_mkfs me journal) (after_cut me journal) }
 {}

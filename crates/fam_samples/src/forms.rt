@@ -31,18 +31,18 @@ pub fn forms_of_notes()
     ensures other_number { OperationsForm 0 (running_m (mkdir x)) (Mark 0 ∷ Found 0 0 ∷ Writes 0 1 (folder x) ∷ []) → ⊥ }
 
     // A mkfs makes just what was asked for.
-    ensures made { (lines : ℕ) → ActsForm (Makes (codes "m") (mkfs_request (uuid 255) 4096 65536 false None)) 0 form_m lines idle_m
-        (Made 0 (asked (mkfs_request (uuid 255) 4096 65536 false None) form_m.uuid lines) ∷ []) }
-    ensures made_another { (lines : ℕ) → ActsForm (Makes (codes "m") (mkfs_request (uuid 255) 8192 65536 false None)) 0 form_m lines idle_m
+    ensures made { (lines : ℕ) → ActsForm (Makes (codes "m") (mkfs_request (uuid 255) 4096 65536 1 false None)) 0 form_m lines idle_m
+        (Made 0 (asked (mkfs_request (uuid 255) 4096 65536 1 false None) form_m.uuid lines) ∷ []) }
+    ensures made_another { (lines : ℕ) → ActsForm (Makes (codes "m") (mkfs_request (uuid 255) 8192 65536 1 false None)) 0 form_m lines idle_m
         (Made 0 params ∷ []) → ⊥ }
 
     // A maker that is to halt makes none.
-    ensures cut { (lines : ℕ) → ActsForm (Makes (codes "m") (mkfs_request (uuid 255) 4096 65536 false (Some 36))) 0 form_m lines idle_m
+    ensures cut { (lines : ℕ) → ActsForm (Makes (codes "m") (mkfs_request (uuid 255) 4096 65536 1 false (Some 36))) 0 form_m lines idle_m
         (Cut 0 36 ∷ []) }
-    ensures cut_elsewhere { (lines : ℕ) → ActsForm (Makes (codes "m") (mkfs_request (uuid 255) 4096 65536 false (Some 36))) 0 form_m lines idle_m
+    ensures cut_elsewhere { (lines : ℕ) → ActsForm (Makes (codes "m") (mkfs_request (uuid 255) 4096 65536 1 false (Some 36))) 0 form_m lines idle_m
         (Cut 0 37 ∷ []) → ⊥ }
-    ensures cut_unasked { (lines : ℕ) → ActsForm (Makes (codes "m") (mkfs_request (uuid 255) 4096 65536 false None)) 0 form_m lines idle_m
+    ensures cut_unasked { (lines : ℕ) → ActsForm (Makes (codes "m") (mkfs_request (uuid 255) 4096 65536 1 false None)) 0 form_m lines idle_m
         (Cut 0 36 ∷ []) → ⊥ }
-    ensures cut_and_made { (lines : ℕ) → ActsForm (Makes (codes "m") (mkfs_request (uuid 255) 4096 65536 false (Some 36))) 0 form_m lines idle_m
-        (Made 0 (asked (mkfs_request (uuid 255) 4096 65536 false (Some 36)) form_m.uuid lines) ∷ []) → ⊥ }
+    ensures cut_and_made { (lines : ℕ) → ActsForm (Makes (codes "m") (mkfs_request (uuid 255) 4096 65536 1 false (Some 36))) 0 form_m lines idle_m
+        (Made 0 (asked (mkfs_request (uuid 255) 4096 65536 1 false (Some 36)) form_m.uuid lines) ∷ []) → ⊥ }
 {}

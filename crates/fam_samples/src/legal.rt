@@ -10,7 +10,7 @@ ghost use Rattle.fam_format.specs.declared.faults.SuperFault.TheVariants.{NoSupe
 ghost use Rattle.fam_journal.specs.Legal.{Allowed, cleared_report};
 ghost use Rattle.fam_journal.specs.Notes.{Answered, Found, Mark, MediaFault, Note, Replied, Start, Writes};
 ghost use Rattle.fam_journal.specs.Past.{BadHeader, BadSlot, FewLines, NoSuperblock, Past};
-ghost use Rattle.fam_samples.specs.Scene.{behind, client, cut_off, damaged, done, folder, found, made, master, mkdir, no_tree, report_of_log, tree_of, writing, x, y};
+ghost use Rattle.fam_samples.specs.Scene.{behind, client, cut_off, damaged, done, folder, found, long, made, made_second, master, mkdir, no_tree, report_of_log, tree_of, writing, x, y};
 ghost use Rattle.fam_rules.specs.Reply as reply;
 ghost use Rattle.fam_rules.specs.Reply.{Appended, Mounted, NotAppended, NotFound, Played, Reports};
 ghost use Rattle.fam_rules.specs.declared.answers.LogState.TheVariants as log;
@@ -54,6 +54,16 @@ pub fn answers_of_appends()
     ensures the_master { Allowed (behind (made ++ Start 0 (mkdir x) ∷ [])) (Answered 0 (Replied (NotAppended (cause.NotMaster master master)))) → ⊥ }
     ensures other_uuid { Allowed (behind (made ++ Start 0 (mkdir x) ∷ [])) (Answered 0 (Replied (NotAppended (cause.NotMaster client master)))) → ⊥ }
     ensures no_superblock { Allowed (damaged (NoSuperblock (NoSuper 7)) 0) (Answered 1 (Replied (NotAppended (cause.NotMaster client master)))) → ⊥ }
+
+    // Too long a path: the master's, for which a slot has no room, whatever is found.
+    ensures long { Allowed (behind (made ++ Start 0 (mkdir (long 169)) ∷ [])) (Answered 0 (Replied (NotAppended (cause.LongPath 168)))) }
+    ensures fits { Allowed (behind (made ++ Start 0 (mkdir (long 168)) ∷ [])) (Answered 0 (Replied (NotAppended (cause.LongPath 168)))) → ⊥ }
+    ensures other_limit { Allowed (behind (made ++ Start 0 (mkdir (long 169)) ∷ [])) (Answered 0 (Replied (NotAppended (cause.LongPath 167)))) → ⊥ }
+    ensures long_of_client { Allowed (behind (made ++ Start 1 (mkdir (long 169)) ∷ [])) (Answered 1 (Replied (NotAppended (cause.LongPath 168)))) → ⊥ }
+    ensures long_read { Allowed (behind (made ++ Start 0 Logplay ∷ [])) (Answered 0 (Replied (NotAppended (cause.LongPath 168)))) → ⊥ }
+    ensures long_nowhere { Allowed (damaged (NoSuperblock (NoSuper 7)) 0) (Answered 0 (Replied (NotAppended (cause.LongPath 168)))) → ⊥ }
+    ensures long_second { Allowed (behind (made_second ++ Start 0 (mkdir (long 513)) ∷ [])) (Answered 0 (Replied (NotAppended (cause.LongPath 512)))) }
+    ensures fits_second { Allowed (behind (made_second ++ Start 0 (mkdir (long 169)) ∷ [])) (Answered 0 (Replied (NotAppended (cause.LongPath 168)))) → ⊥ }
 
     // Another refusal: the one that is decided on the history, with nothing pending.
     ensures exists { Allowed (behind (done ++ Start 0 (mkdir x) ∷ Mark 0 ∷ Found 0 1 ∷ [])) (Answered 0 (Replied (NotAppended (cause.Exists Directory)))) }

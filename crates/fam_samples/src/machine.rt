@@ -23,10 +23,10 @@ pub fn refusals_in_order()
     ensures same_name { refusal_of (Declares (codes "m") client) (one_host [] None) ≡ Some (why.SameHost (record { 0 = 0 })) }
     ensures same_uuid { refusal_of (Declares (codes "d") master) (one_host [] None) ≡ Some (why.SameHost (record { 0 = 0 })) }
     ensures another { refusal_of (Declares (codes "c") client) (one_host [] None) ≡ None }
-    ensures no_maker { refusal_of (Makes (codes "c") (mkfs_request (uuid 255) 5000 0 false None)) (one_host [] None) ≡ Some why.NoHost }
-    ensures geometry { refusal_of (Makes (codes "m") (mkfs_request (uuid 255) 5000 8388608 false None)) (one_host [] (Some beginning))
+    ensures no_maker { refusal_of (Makes (codes "c") (mkfs_request (uuid 255) 5000 0 1 false None)) (one_host [] None) ≡ Some why.NoHost }
+    ensures geometry { refusal_of (Makes (codes "m") (mkfs_request (uuid 255) 5000 8388608 1 false None)) (one_host [] (Some beginning))
         ≡ Some (why.BadGeometry 5000 8388608) }
-    ensures small { refusal_of (Makes (codes "m") (mkfs_request (uuid 255) 4096 65536 false None)) (one_host [] (Some beginning))
+    ensures small { refusal_of (Makes (codes "m") (mkfs_request (uuid 255) 4096 65536 1 false None)) (one_host [] (Some beginning))
         ≡ Some (why.TooSmall 2166784 0) }
     ensures no_host { refusal_of (Begins (codes "c") Logplay) (one_host [] None) ≡ Some why.NoHost }
     ensures no_gate { refusal_of (Begins (codes "m") Logplay) (one_host [] (Some beginning)) ≡ Some (why.ImageSmall 0) }

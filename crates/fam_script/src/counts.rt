@@ -158,6 +158,7 @@ fn answered(settled: Settled, answer: &Answer) -> Settled
         Answer::BadLog { .. } => settled,
         Answer::BadEntry { .. } => settled,
         Answer::NotMaster { .. } => settled,
+        Answer::LongPath(_) => settled,
         Answer::BadStripe => settled,
         Answer::Exists(_) => settled,
         Answer::NoParent => settled,

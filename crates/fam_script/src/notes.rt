@@ -11,11 +11,22 @@ use crate::commands::start_line;
 use crate::lines::{line, line_of, line_with};
 use crate::refusals::{host_name, refusal_line};
 use fam_base::{Entry, HostName, OutOfMemory, Params, put_bytes};
+use fam_format::FIRST_FORMAT;
 use fam_notes::Note;
 use fam_tree::print_entry;
 use std::alloc::{AllocError, Global};
 
-/// A file system that was made: its UUID, and its sizes.
+/// The number of a format, where it isn't the first.
+fn format_text(alloc: Global, format: u64) -> Result<String, AllocError>
+    ensures { IfOk result (λ s. string_bytes s ≡ text.format_text format) }
+{
+    if format == FIRST_FORMAT {
+        return Ok(String::new(alloc));
+    }
+    format!(in alloc; " format {format}")
+}
+
+/// A file system that was made: its UUID, its sizes, and its format where that isn't the first.
 fn made_text(alloc: Global, params: &Params) -> Result<String, AllocError>
     ensures { IfOk result (λ s. string_bytes s ≡ text.made_text params.now) }
 {
@@ -23,7 +34,8 @@ fn made_text(alloc: Global, params: &Params) -> Result<String, AllocError>
     let unit = params.unit;
     let log = params.log_length;
     let device = params.device;
-    format!(in alloc; "made {fs} unit {unit} log {log} device {device}")
+    let format = format_text(alloc, params.format)?;
+    format!(in alloc; "made {fs} unit {unit} log {log} device {device}{format}")
 }
 
 /// The line of an entry that goes on to be appended.
@@ -46,10 +58,10 @@ pub fn note_text(alloc: Global, note: &Note, names: &[HostName]) -> Result<Vec<u
         Note::Host { uuid, .. } => line_of(alloc, format!(in alloc; "host {uuid}")),
         Note::Made { params, .. } => line_of(alloc, made_text(alloc, params)),
         Note::Cut { k, .. } => line_of(alloc, format!(in alloc; "mkfs halted {k}")),
-        Note::Start { cmd, .. } => start_line(alloc, cmd),
+        Note::Start { cmd, .. } => start_line(alloc, cmd.get()),
         Note::Mark { .. } => line(alloc, "mark"),
         Note::Found { n, .. } => line_of(alloc, format!(in alloc; "found {n}")),
-        Note::Writes { seq, entry, .. } => writes_line(alloc, *seq, entry),
+        Note::Writes { seq, entry, .. } => writes_line(alloc, *seq, entry.get()),
         Note::Answered { answer, .. } => answer_text(alloc, answer),
         Note::Stop { .. } => line(alloc, "stop"),
         Note::Halt { .. } => line(alloc, "halt"),

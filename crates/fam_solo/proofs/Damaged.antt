@@ -16,10 +16,11 @@ use Rattle.fam_commands.specs.Kept.{IsKept, Kept}
 use Rattle.fam_commands.specs.Solo.{SoloRun, starts, goes, turn_on}
 use Rattle.fam_commands.specs.Stands.{task_after}
 use Rattle.fam_commands.specs.Task.{Task, op_of}
-use Rattle.fam_commands.specs.Turns.{Turn, Goes, Marks, Finds, Writes, Ends}
+use Rattle.fam_commands.specs.Turns.{Turn, Goes, Marks, Finds, Writes, Ends, host_refusal}
 use Rattle.fam_rules.specs.declared.answers.Refused.TheVariants as refused
-use Rattle.fam_rules.specs.Solo.{client_refusal}
+use Rattle.fam_rules.specs.Solo.{head_refusal}
 use Rattle.fam_rules.specs.Decide.{wish_of}
+use Rattle.fam_rules.specs.DecideLaws.{IsTooLong}
 use Rattle.fam_rules.specs.Place.{line_bytes}
 use Rattle.fam_rules.specs.Reply.{Reply, NotAppended, Reports}
 use Rattle.fam_rules.specs.Reply as reply
@@ -30,8 +31,8 @@ use Rattle.fam_protocol.specs.SharedState.{SharedState}
 use Rattle.fam_protocol.specs.Tasks.{IsCommand}
 use Rattle.fam_protocol.specs.Steps.{turn_settles}
 use Rattle.fam_protocol.specs.Invariant.{Damaged, KeepsFront, Settled, Invariant, settled_at_first, settled_by}
-use Rattle.fam_solo.proofs.Machine.{ran_cmd, ran_me, looks_end, word_of}
-use Rattle.fam_solo.proofs.Replies.{Answers, bad_client, faults_header, faults_slot, faults_super, no_client, reports_bad}
+use Rattle.fam_solo.proofs.Machine.{ran_behind, ran_cmd, ran_me, looks_end, word_of}
+use Rattle.fam_solo.proofs.Replies.{Answers, bad_client, bad_long, faults_header, faults_slot, faults_super, not_refused, reports_bad}
 use Rattle.fam_commands.proofs.BeforeWrites.{EndsAt, IsBehindSuper, SaysAt, turn_says}
 use Rattle.fam_solo.proofs.OneHost.{Stepped, first_settled, hosts_of, run_of, shared, stepped, invariant_first}
 
@@ -95,11 +96,12 @@ module _ (kept : Option Kept) (cmd : Cmd) (me : List ℕ) (image : Image) (cache
       by_turn on.floor (turn_on t m) t next (operated (op_of t) m) (stepped kept (Damaged (line_at image)) (length image) me (run_of t on.floor None) m on.invariant inside) (turn_says t.phase t (word_of t m) on.before refl) is
 
   -- what it answers
-  module _ (t : Task) (cmd_is : t.cmd ≡ cmd) (me_is : t.me ≡ me) (p : Phase) (s : SharedState) (phase : AtDamagedPhase p (line_at image) (line_bytes * length image) 0 t s) where
-    known : IsBehindSuper p → client_refusal (wish_of cmd) (super_in (line_at image) (line_bytes * length image)) me ≡ None
+  module _ (t : Task) (cmd_is : t.cmd ≡ cmd) (me_is : t.me ≡ me) (p : Phase) (s : SharedState) (phase : AtDamagedPhase p (line_at image) (line_bytes * length image) 0 t s)
+      (through : IsBehindSuper p → host_refusal (wish_of cmd) t.params me ≡ None) where
+    known : IsBehindSuper p → head_refusal (wish_of cmd) (super_in (line_at image) (line_bytes * length image)) me ≡ None
     known behind =
         let reads : ReadsSuper (line_at image) (line_bytes * length image) t = behind_known p (line_at image) (line_bytes * length image) t s behind phase in
-        no_client image me cmd t.params reads.super (λ w is. sym me_is ∙ reads.master w (ap wish_of cmd_is ∙ is))
+        not_refused image me cmd t.params reads.super (through behind)
 
     answers : (given : Reply) → MayReplyBad given (line_at image) (line_bytes * length image) t → EndsAt p cmd given → Answers image me cmd given image
     answers (NotAppended (refused.NotMaster host master)) may ends =
@@ -108,6 +110,8 @@ module _ (kept : Option Kept) (cmd : Cmd) (me : List ℕ) (image : Image) (cache
         subst (λ (h : List ℕ). Answers image me cmd (NotAppended (refused.NotMaster h master)) image) (sym host_is)
         (subst (λ (x : List ℕ). Answers image me cmd (NotAppended (refused.NotMaster me x)) image) master_is
         (bad_client image me cmd bad ends may.params may.super (λ same. may.other (host_is ∙ same ∙ master_is))))
+    answers (NotAppended (refused.LongPath limit)) may ends =
+        bad_long image me cmd bad may.is.wish (ap wish_of (sym cmd_is) ∙ may.is.wished) may.params may.super limit (subst (λ (h : List ℕ). IsTooLong may.params h may.is.wish limit) me_is may.is.is)
     answers (NotAppended refused.BadStripe) may ends = absurd may
     answers (NotAppended (refused.Exists kind)) may ends = absurd may
     answers (NotAppended refused.NoParent) may ends = absurd may
@@ -137,7 +141,7 @@ module _ (kept : Option Kept) (cmd : Cmd) (me : List ℕ) (image : Image) (cache
       let step = stepped kept (Damaged (line_at image)) (length image) me (run_of t on.floor None) m on.invariant inside in
       let end = looks_end kept cmd me image cache normal clean t words made m ran on.before in (
         subst (λ (x : Image). Answers image me cmd given x) (sym end.0)
-            (answers t cmd_is me_is t.phase (shared m) (on.invariant.stage.tasks 0 (run_of t on.floor None) refl).phase given
+            (answers t cmd_is me_is t.phase (shared m) (on.invariant.stage.tasks 0 (run_of t on.floor None) refl).phase (ran_behind kept cmd me image cache joined t words made m ran) given
             (subst (λ (x : Turn). MaySayBad x (line_at image) (line_bytes * length image) t) is step.says)
             (subst (λ (c : Cmd). EndsAt t.phase c given) cmd_is (subst (SaysAt t.phase t.cmd) is (turn_says t.phase t (word_of t m) on.before refl)))),
         end.1,

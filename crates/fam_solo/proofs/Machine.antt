@@ -24,18 +24,19 @@ use Rattle.fam_commands.specs.Solo.{SoloRun, starts, goes, turn_on}
 use Rattle.fam_commands.specs.Stands.{StandsFor, task_after, turn_given, with_given}
 use Rattle.fam_commands.specs.Stands as stands
 use Rattle.fam_commands.specs.Task.{Task, op_at, op_of, size_of}
-use Rattle.fam_commands.specs.Turns.{Turn, Goes, Marks, Finds, Writes, Ends, turn_at, turn_of}
+use Rattle.fam_commands.specs.Turns.{Turn, Goes, Marks, Finds, Writes, Ends, host_refusal, turn_at, turn_of}
 use Rattle.fam_machine.proofs.Failing.{brought_fails}
 use Rattle.fam_machine.proofs.CacheLemmas.{cell_at-with_cell_same, cell_at-with_cell_other}
 use Rattle.fam_machine.proofs.CleanCaches.{clean_brought, clean_sent, clean_with}
 use Rattle.fam_machine.proofs.OneOperation.{operated_length, operated_normal, same_given}
+use Rattle.fam_commands.proofs.Steps.Behind.{behind_super}
 use Rattle.fam_commands.proofs.Steps.Standing.{standing_tied, steps_at_end}
 use Rattle.fam_rules.specs.Decide.{wish_of}
 use Rattle.fam_rules.specs.Reply.{Reply}
 use Rattle.fam_commands.specs.Appends.{IsBeforeWrites}
 use Rattle.fam_protocol.proofs.Settled.FromMark.{from_mark}
 use Rattle.fam_protocol.specs.Lines.{Fresh}
-use Rattle.fam_commands.proofs.BeforeWrites.{SaysAt, turn_says}
+use Rattle.fam_commands.proofs.BeforeWrites.{IsBehindSuper, SaysAt, turn_says}
 use Rattle.fam_protocol.specs.After.{HasMarked}
 
 -- What the task stands for.
@@ -67,6 +68,10 @@ module _ (kept : Option Kept) (cmd : Cmd) (me : List ℕ) (image : Image) (cache
 
     pub ran_me : (t : Task) (words : List ℕ) (made : ℕ) (m : Machine) → SoloRun kept cmd me image cache t words made m → t.me ≡ me
     ran_me t words made m ran = (standing_tied kept cmd me (length image) t words made joined (ran_stands t words made m ran)).me_is
+
+    -- behind the superblock the host was let through
+    pub ran_behind : (t : Task) (words : List ℕ) (made : ℕ) (m : Machine) → SoloRun kept cmd me image cache t words made m → IsBehindSuper t.phase → host_refusal (wish_of cmd) t.params me ≡ None
+    ran_behind t words made m ran behind = behind_super kept cmd me (length image) t words made joined (ran_stands t words made m ran) behind
 
 -- The form of the image.
 

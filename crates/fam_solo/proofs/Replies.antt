@@ -15,17 +15,19 @@ use Rattle.fam_format.specs.Reading.{Lines, Reading, NoSuperblock, BadHeader, Ba
 use Rattle.fam_format.specs.Stop.{stop}
 use Rattle.fam_format.specs.Tree.{join_fault}
 use Rattle.fam_rules.specs.declared.answers.Refused.{Refused}
-use Rattle.fam_rules.specs.declared.answers.Refused.TheVariants.{NotMaster}
-use Rattle.fam_rules.specs.Solo.{solo_image, solo_reply, appended, decision_image, held_file, reading_image, reading_reply, reply_in, reply_unless, sound_reply, client_refusal}
+use Rattle.fam_rules.specs.declared.answers.Refused.TheVariants.{NotMaster, LongPath}
+use Rattle.fam_rules.specs.Solo.{solo_image, solo_reply, appended, decision_image, held_file, reading_image, reading_reply, reply_in, reply_unless, sound_reply, head_refusal}
 use Rattle.fam_rules.specs.Asks.{ask}
-use Rattle.fam_rules.specs.Decide.{Wish, decide, decide_wish, master_refusal, wish_of}
+use Rattle.fam_rules.specs.Decide.{Wish, decide, decide_wish, early_refusal, wish_of}
+use Rattle.fam_rules.specs.DecideLaws.{IsTooLong}
 use Rattle.fam_rules.specs.Place.{line_bytes}
 use Rattle.fam_rules.specs.Reply.{Reply, NotAppended, Reports}
 use Rattle.fam_rules.specs.Reply as reply
 use Rattle.fam_rules.specs.Reports.{report_of}
 use Rattle.fam_rules.proofs.RefusalProofs.{refused_there}
-use Rattle.fam_rules.proofs.RefusalTests.{none_master, some_master}
+use Rattle.fam_rules.proofs.RefusalTests.{early_limit, early_master}
 use Rattle.fam_commands.specs.Appends.{HasWish}
+use Rattle.fam_commands.specs.Turns.{host_refusal}
 use Rattle.fam_protocol.specs.Bad.{fault_of}
 
 -- A reading behind the superblock names no fault of it.
@@ -79,12 +81,12 @@ module _ (image : Image) (me : List ℕ) (cmd : Cmd) where
 
   -- another command than a check of the whole file system
   reply_of : (cmd ≡ Fsck → ⊥) → (r : Reading) → reading_of (line_at image) (line_bytes * length image) ≡ r
-      → solo_reply image me cmd ≡ reply_unless (client_refusal (wish_of cmd) (super_in (line_at image) (line_bytes * length image)) me) (reading_reply (line_at image) (line_bytes * length image) me cmd r)
+      → solo_reply image me cmd ≡ reply_unless (head_refusal (wish_of cmd) (super_in (line_at image) (line_bytes * length image)) me) (reading_reply (line_at image) (line_bytes * length image) me cmd r)
   unfolding solo_reply
   reply_of other r is =
-      by_cmd cmd other ∙ ap (λ (x : Reading). reply_unless (client_refusal (wish_of cmd) (super_in (line_at image) (line_bytes * length image)) me) (reading_reply (line_at image) (line_bytes * length image) me cmd x)) is
+      by_cmd cmd other ∙ ap (λ (x : Reading). reply_unless (head_refusal (wish_of cmd) (super_in (line_at image) (line_bytes * length image)) me) (reading_reply (line_at image) (line_bytes * length image) me cmd x)) is
     where
-      by_cmd : (c : Cmd) → (c ≡ Fsck → ⊥) → reply_in (line_at image) (line_bytes * length image) me c ≡ reply_unless (client_refusal (wish_of c) (super_in (line_at image) (line_bytes * length image)) me) (reading_reply (line_at image) (line_bytes * length image) me c (reading_of (line_at image) (line_bytes * length image)))
+      by_cmd : (c : Cmd) → (c ≡ Fsck → ⊥) → reply_in (line_at image) (line_bytes * length image) me c ≡ reply_unless (head_refusal (wish_of c) (super_in (line_at image) (line_bytes * length image)) me) (reading_reply (line_at image) (line_bytes * length image) me c (reading_of (line_at image) (line_bytes * length image)))
       by_cmd Fsck other = absurd (other refl)
       by_cmd c other = refl
 
@@ -119,7 +121,7 @@ module _ (image : Image) (me : List ℕ) (cmd : Cmd) where
         let none = asks_none cmd given is in
         record {
           answer = sym (reply_of none.1 (Sound p entries) sound
-              ∙ ap (λ (o : Option Wish). reply_unless (client_refusal o (super_in (line_at image) (line_bytes * length image)) me) (reading_reply (line_at image) (line_bytes * length image) me cmd (Sound p entries))) none.0
+              ∙ ap (λ (o : Option Wish). reply_unless (head_refusal o (super_in (line_at image) (line_bytes * length image)) me) (reading_reply (line_at image) (line_bytes * length image) me cmd (Sound p entries))) none.0
               ∙ ap (sound_reply (line_at image) (line_bytes * length image) entries cmd) (undecided none.0)
               ∙ ap (λ (o : Option Reply). unwrap_or o (Reports (report_of (line_at image) (line_bytes * length image)))) is);
           left_is = undecided_image none.0;
@@ -132,19 +134,19 @@ module _ (image : Image) (me : List ℕ) (cmd : Cmd) where
 
     -- a decision
     module _ (super : super_in (line_at image) (line_bytes * length image) ≡ Ok p) where
-      master_first : (w : Wish) → reply_unless (master_refusal p me) (appended (length entries) (decide_wish p me entries w)) ≡ appended (length entries) (decide_wish p me entries w)
+      early_first : (w : Wish) → reply_unless (early_refusal p me w.path) (appended (length entries) (decide_wish p me entries w)) ≡ appended (length entries) (decide_wish p me entries w)
       unfolding decide_wish
-      master_first w = first_stops (master_refusal p me) (length entries) _
+      early_first w = first_stops (early_refusal p me w.path) (length entries) _
 
       pub decided : (w : Wish) → wish_of cmd ≡ Some w → (d : Result Entry Refused) → decide_wish p me entries w ≡ d → Answers (appended (length entries) d) (decision_image image p entries cmd (Some d))
       decided w is d decision =
           let decides : decide p me entries cmd ≡ Some d = ap (option_map (decide_wish p me entries)) is ∙ ap Some decision in
           record {
             answer = sym (reply_of (λ e. absurd (let none : wish_of cmd ≡ None = ap wish_of e in cc)) (Sound p entries) sound
-                ∙ ap (λ (o : Option Wish). reply_unless (client_refusal o (super_in (line_at image) (line_bytes * length image)) me) (reading_reply (line_at image) (line_bytes * length image) me cmd (Sound p entries))) is
-                ∙ ap (λ (r : Result Params SuperFault). reply_unless (client_refusal (Some w) r me) (reading_reply (line_at image) (line_bytes * length image) me cmd (Sound p entries))) super
-                ∙ ap (λ (o : Option (Result Entry Refused)). reply_unless (master_refusal p me) (sound_reply (line_at image) (line_bytes * length image) entries cmd o)) (ap (option_map (decide_wish p me entries)) is)
-                ∙ master_first w
+                ∙ ap (λ (o : Option Wish). reply_unless (head_refusal o (super_in (line_at image) (line_bytes * length image)) me) (reading_reply (line_at image) (line_bytes * length image) me cmd (Sound p entries))) is
+                ∙ ap (λ (r : Result Params SuperFault). reply_unless (head_refusal (Some w) r me) (reading_reply (line_at image) (line_bytes * length image) me cmd (Sound p entries))) super
+                ∙ ap (λ (o : Option (Result Entry Refused)). reply_unless (early_refusal p me w.path) (sound_reply (line_at image) (line_bytes * length image) entries cmd o)) (ap (option_map (decide_wish p me entries)) is)
+                ∙ early_first w
                 ∙ ap (appended (length entries)) decision);
             left_is = sym (image_of (Sound p entries) sound ∙ ap (decision_image image p entries cmd) decides);
           }
@@ -153,16 +155,21 @@ module _ (image : Image) (me : List ℕ) (cmd : Cmd) where
       pub refused_client : HasWish cmd → me ≢ p.master → Answers (NotAppended (NotMaster me p.master)) image
       refused_client has other = decided has.0 has.1 (Err (NotMaster me p.master)) (refused_there p me entries has.0 (NotMaster me p.master) (refl, refl, other))
 
+      -- the master's path that is too long
+      pub refused_long : (w : Wish) → wish_of cmd ≡ Some w → (limit : ℕ) → IsTooLong p me w limit → Answers (NotAppended (LongPath limit)) image
+      refused_long w is limit long = decided w is (Err (LongPath limit)) (refused_there p me entries w (LongPath limit) long)
+
   -- Damaged images.
 
-  pub no_client : (p : Params) → super_in (line_at image) (line_bytes * length image) ≡ Ok p → ((w : Wish) → wish_of cmd ≡ Some w → me ≡ p.master) → client_refusal (wish_of cmd) (super_in (line_at image) (line_bytes * length image)) me ≡ None
-  no_client p super master = ap (λ (r : Result Params SuperFault). client_refusal (wish_of cmd) r me) super ∙ by_wish (wish_of cmd) refl
+  -- a host that was let through isn't refused
+  pub not_refused : (p : Params) → super_in (line_at image) (line_bytes * length image) ≡ Ok p → host_refusal (wish_of cmd) p me ≡ None → head_refusal (wish_of cmd) (super_in (line_at image) (line_bytes * length image)) me ≡ None
+  not_refused p super through = ap (λ (r : Result Params SuperFault). head_refusal (wish_of cmd) r me) super ∙ by_wish (wish_of cmd) through
     where
-      by_wish : (o : Option Wish) → wish_of cmd ≡ o → client_refusal o (Ok p) me ≡ None
-      by_wish None is = refl
-      by_wish (Some w) is = none_master p me (master w is)
+      by_wish : (o : Option Wish) → host_refusal o p me ≡ None → head_refusal o (Ok p) me ≡ None
+      by_wish None none = refl
+      by_wish (Some w) none = none
 
-  known_reply : (cmd ≡ Fsck → ⊥) → client_refusal (wish_of cmd) (super_in (line_at image) (line_bytes * length image)) me ≡ None → (r : Reading) → reading_of (line_at image) (line_bytes * length image) ≡ r
+  known_reply : (cmd ≡ Fsck → ⊥) → head_refusal (wish_of cmd) (super_in (line_at image) (line_bytes * length image)) me ≡ None → (r : Reading) → reading_of (line_at image) (line_bytes * length image) ≡ r
       → solo_reply image me cmd ≡ reading_reply (line_at image) (line_bytes * length image) me cmd r
   known_reply other known r is = reply_of other r is ∙ ap (λ (o : Option Refused). reply_unless o (reading_reply (line_at image) (line_bytes * length image) me cmd r)) known
 
@@ -189,14 +196,14 @@ module _ (image : Image) (me : List ℕ) (cmd : Cmd) where
     unfolding reading_of
     names_super other fault is = record { answer = sym (known_reply other unread (NoSuperblock fault) is); left_is = bad_image }
       where
-        none : (o : Option Wish) (f : SuperFault) → client_refusal o (Err f) me ≡ None
+        none : (o : Option Wish) (f : SuperFault) → head_refusal o (Err f) me ≡ None
         none None f = refl
         none (Some w) f = refl
 
-        unread : client_refusal (wish_of cmd) (super_in (line_at image) (line_bytes * length image)) me ≡ None
+        unread : head_refusal (wish_of cmd) (super_in (line_at image) (line_bytes * length image)) me ≡ None
         unread =
             let found = no_super (line_at image) (super_in (line_at image) (line_bytes * length image)) fault is in
-            ap (λ (r : Result Params SuperFault). client_refusal (wish_of cmd) r me) found.1 ∙ none (wish_of cmd) found.0
+            ap (λ (r : Result Params SuperFault). head_refusal (wish_of cmd) r me) found.1 ∙ none (wish_of cmd) found.0
 
     -- the fault that the reading names
     pub faults_super : (cmd ≡ Fsck → ⊥) → (fault : SuperFault) (r : Reading) → reading_of (line_at image) (line_bytes * length image) ≡ r → fault_of r ≡ Some (reply.NoSuperblock fault) → Answers (reply.NoSuperblock fault) image
@@ -205,25 +212,33 @@ module _ (image : Image) (me : List ℕ) (cmd : Cmd) where
     faults_super other fault (BadSlot i reason) is e = absurd (cc)
     faults_super other fault (Sound p entries) is e = absurd (cc)
 
-    pub faults_header : (cmd ≡ Fsck → ⊥) → client_refusal (wish_of cmd) (super_in (line_at image) (line_bytes * length image)) me ≡ None → (fault : LogFault) (r : Reading) → reading_of (line_at image) (line_bytes * length image) ≡ r → fault_of r ≡ Some (reply.BadHeader fault) → Answers (reply.BadHeader fault) image
+    pub faults_header : (cmd ≡ Fsck → ⊥) → head_refusal (wish_of cmd) (super_in (line_at image) (line_bytes * length image)) me ≡ None → (fault : LogFault) (r : Reading) → reading_of (line_at image) (line_bytes * length image) ≡ r → fault_of r ≡ Some (reply.BadHeader fault) → Answers (reply.BadHeader fault) image
     faults_header other known fault (BadHeader named) is e = record { answer = let f : named ≡ fault = cc in sym (known_reply other known (BadHeader named) is ∙ ap reply.BadHeader f); left_is = bad_image }
     faults_header other known fault (NoSuperblock named) is e = absurd (cc)
     faults_header other known fault (BadSlot i reason) is e = absurd (cc)
     faults_header other known fault (Sound p entries) is e = absurd (cc)
 
-    pub faults_slot : (cmd ≡ Fsck → ⊥) → client_refusal (wish_of cmd) (super_in (line_at image) (line_bytes * length image)) me ≡ None → (k : ℕ) (why : Reason) (r : Reading) → reading_of (line_at image) (line_bytes * length image) ≡ r → fault_of r ≡ Some (reply.BadSlot k why) → Answers (reply.BadSlot k why) image
+    pub faults_slot : (cmd ≡ Fsck → ⊥) → head_refusal (wish_of cmd) (super_in (line_at image) (line_bytes * length image)) me ≡ None → (k : ℕ) (why : Reason) (r : Reading) → reading_of (line_at image) (line_bytes * length image) ≡ r → fault_of r ≡ Some (reply.BadSlot k why) → Answers (reply.BadSlot k why) image
     faults_slot other known k why (BadSlot i reason) is e =
         record { answer = let f : i ≡ k = cc in let g : reason ≡ why = cc in sym (known_reply other known (BadSlot i reason) is ∙ ap (λ (x : ℕ). reply.BadSlot x reason) f ∙ ap (reply.BadSlot k) g); left_is = bad_image }
     faults_slot other known k why (NoSuperblock named) is e = absurd (cc)
     faults_slot other known k why (BadHeader named) is e = absurd (cc)
     faults_slot other known k why (Sound p entries) is e = absurd (cc)
 
-    -- another host than the one that the superblock names
-    pub bad_client : HasWish cmd → (p : Params) → super_in (line_at image) (line_bytes * length image) ≡ Ok p → me ≢ p.master → Answers (NotAppended (NotMaster me p.master)) image
-    bad_client has p super other = record {
-      answer = sym (reply_of (λ e. absurd (let none : wish_of cmd ≡ None = ap wish_of e in let is = has.1 in cc)) (reading_of (line_at image) (line_bytes * length image)) refl
-          ∙ ap (λ (o : Option Wish). reply_unless (client_refusal o (super_in (line_at image) (line_bytes * length image)) me) (reading_reply (line_at image) (line_bytes * length image) me cmd (reading_of (line_at image) (line_bytes * length image)))) has.1
-          ∙ ap (λ (r : Result Params SuperFault). reply_unless (client_refusal (Some has.0) r me) (reading_reply (line_at image) (line_bytes * length image) me cmd (reading_of (line_at image) (line_bytes * length image)))) super
-          ∙ ap (λ (o : Option Refused). reply_unless o (reading_reply (line_at image) (line_bytes * length image) me cmd (reading_of (line_at image) (line_bytes * length image)))) (some_master p me other));
+    -- what is refused as soon as the superblock is read
+    bad_early : (w : Wish) → wish_of cmd ≡ Some w → (p : Params) → super_in (line_at image) (line_bytes * length image) ≡ Ok p → (r : Refused) → early_refusal p me w.path ≡ Some r → Answers (NotAppended r) image
+    bad_early w wish p super r refusal = record {
+      answer = sym (reply_of (λ e. absurd (let none : wish_of cmd ≡ None = ap wish_of e in cc)) (reading_of (line_at image) (line_bytes * length image)) refl
+          ∙ ap (λ (o : Option Wish). reply_unless (head_refusal o (super_in (line_at image) (line_bytes * length image)) me) (reading_reply (line_at image) (line_bytes * length image) me cmd (reading_of (line_at image) (line_bytes * length image)))) wish
+          ∙ ap (λ (r : Result Params SuperFault). reply_unless (head_refusal (Some w) r me) (reading_reply (line_at image) (line_bytes * length image) me cmd (reading_of (line_at image) (line_bytes * length image)))) super
+          ∙ ap (λ (o : Option Refused). reply_unless o (reading_reply (line_at image) (line_bytes * length image) me cmd (reading_of (line_at image) (line_bytes * length image)))) refusal);
       left_is = bad_image;
     }
+
+    -- another host than the one that the superblock names
+    pub bad_client : HasWish cmd → (p : Params) → super_in (line_at image) (line_bytes * length image) ≡ Ok p → me ≢ p.master → Answers (NotAppended (NotMaster me p.master)) image
+    bad_client has p super other = bad_early has.0 has.1 p super (NotMaster me p.master) (early_master p me has.0.path other)
+
+    -- the path of that host, which is too long
+    pub bad_long : (w : Wish) → wish_of cmd ≡ Some w → (p : Params) → super_in (line_at image) (line_bytes * length image) ≡ Ok p → (limit : ℕ) → IsTooLong p me w limit → Answers (NotAppended (LongPath limit)) image
+    bad_long w wish p super limit long = bad_early w wish p super (LongPath limit) (early_limit p me w limit long)

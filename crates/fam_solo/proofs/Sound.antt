@@ -31,7 +31,7 @@ use Rattle.fam_rules.specs.Asks.{File, ask, entries_of}
 use Rattle.fam_protocol.proofs.Settled.Lists.{entries_count}
 use Rattle.fam_rules.specs.Content.{fill}
 use Rattle.fam_rules.specs.Decide.{Wish, decide, decide_wish, wish_of}
-use Rattle.fam_rules.specs.DecideLaws.{MayAppend}
+use Rattle.fam_rules.specs.DecideLaws.{IsTooLong, MayAppend}
 use Rattle.fam_rules.specs.Place.{line_bytes}
 use Rattle.fam_rules.specs.Reply.{Reply, Appended, NotAppended, Reports, NoSuperblock, BadHeader, BadSlot}
 use Rattle.fam_rules.specs.Reports.{report_of}
@@ -49,7 +49,7 @@ use Rattle.fam_protocol.specs.Tasks.{AtPhase, IsCommand}
 use Rattle.fam_protocol.specs.Invariant.{KeepsFront, Known, Settled, Invariant, settled_at_first, settled_by}
 use Rattle.fam_machine.proofs.OneOperation.{operated_length, operated_normal}
 use Rattle.fam_solo.proofs.Machine.{Looks, ran_cmd, ran_length, ran_looks, ran_me, ran_normal, looks_end, looks_on, word_of}
-use Rattle.fam_solo.proofs.Replies.{Answers, asked, decided, refused_client, reports_sound}
+use Rattle.fam_solo.proofs.Replies.{Answers, asked, decided, refused_client, refused_long, reports_sound}
 use Rattle.fam_commands.proofs.BeforeWrites.{EndsAt, SaysAt, turn_says}
 use Rattle.fam_solo.proofs.OneHost.{Stepped, first_settled, hosts_of, only, rests_alone, run_of, shared, stepped, invariant_first}
 use Rattle.fam_solo.proofs.Writes.{GateAt, Writing, all_sent, all_written, ends_there, writes_on}
@@ -286,6 +286,8 @@ module _ (kept : Option Kept) (cmd : Cmd) (me : List ℕ) (image : Image) (cache
         subst (λ (h : List ℕ). Answers image me cmd (NotAppended (refused.NotMaster h owner)) image) (sym host_is)
         (subst (λ (x : List ℕ). Answers image me cmd (NotAppended (refused.NotMaster me x)) image) owner_is
         (refused_client image me cmd p entries sound reads.super ends (λ same. may.other (host_is ∙ same ∙ owner_is))))
+    answers (NotAppended (refused.LongPath limit)) pl reports may ends =
+        refused_long image me cmd p entries sound reads.super may.wish (ap wish_of (sym cmd_is) ∙ may.wished) limit (subst (λ (h : List ℕ). IsTooLong p h may.wish limit) me_is may.is)
     answers (NotAppended refused.BadStripe) pl reports may ends = refuses ends refused.BadStripe may.is
     answers (NotAppended (refused.Exists kind)) pl reports may ends = refuses ends (refused.Exists kind) may.is
     answers (NotAppended refused.NoParent) pl reports may ends = refuses ends refused.NoParent may.is

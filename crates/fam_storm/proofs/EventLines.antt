@@ -348,7 +348,7 @@ host_line_3 =
 mkfs_line : IsWholeLine (codes "mkfs" ∷ codes "m" ∷ codes "00000000-0000-0000-0000-0000000000ff" ∷ codes "unit=4096" ∷ codes "log=65536" ∷ codes "force" ∷ [])
 unfolding event_line event_word is_host_name by_index mkfs_option_of size_of_text number_of_text AreGood
 mkfs_line =
-    event_is (codes "mkfs" ∷ codes "m" ∷ codes "00000000-0000-0000-0000-0000000000ff" ∷ codes "unit=4096" ∷ codes "log=65536" ∷ codes "force" ∷ []) (event.Mkfs (codes "m") (0 ∷ 0 ∷ 0 ∷ 0 ∷ 0 ∷ 0 ∷ 0 ∷ 0 ∷ 0 ∷ 0 ∷ 0 ∷ 0 ∷ 0 ∷ 0 ∷ 0 ∷ 255 ∷ []) 4096 65536 true None)
+    event_is (codes "mkfs" ∷ codes "m" ∷ codes "00000000-0000-0000-0000-0000000000ff" ∷ codes "unit=4096" ∷ codes "log=65536" ∷ codes "force" ∷ []) (event.Mkfs (codes "m") (0 ∷ 0 ∷ 0 ∷ 0 ∷ 0 ∷ 0 ∷ 0 ∷ 0 ∷ 0 ∷ 0 ∷ 0 ∷ 0 ∷ 0 ∷ 0 ∷ 0 ∷ 255 ∷ []) 4096 65536 1 true None)
     (literal _ _ refl, (literal _ _ refl, (literal _ _ refl, (literal _ _ refl, (literal _ _ refl, (literal _ _ refl, tt)))))) refl refl
     (λ end. rw (uuid_read (codes "00000000-0000-0000-0000-0000000000ff") (0 ∷ 0 ∷ 0 ∷ 0 ∷ 0 ∷ 0 ∷ 0 ∷ 0 ∷ 0 ∷ 0 ∷ 0 ∷ 0 ∷ 0 ∷ 0 ∷ 0 ∷ 255 ∷ []) refl refl) refl)
 

@@ -65,13 +65,13 @@ one_name b (c ∷ []) is = ap (λ (t : Bool). not (t && (c == 46))) (alnum_dot b
 one_name b (c ∷ e ∷ rest) is = refl
 
 -- a short word of letters and digits is a path
-pub alnum_path : (b : ℕ) (bytes : List ℕ) → Alnum (b ∷ bytes) → length (b ∷ bytes) ≤ 168 → is_path (b ∷ bytes) ≡ true
+pub alnum_path : (b : ℕ) (bytes : List ℕ) → Alnum (b ∷ bytes) → length (b ∷ bytes) ≤ 512 → is_path (b ∷ bytes) ≡ true
 unfolding is_path
 alnum_path b bytes are short =
     let split : names (b ∷ bytes) ≡ (b ∷ bytes) ∷ [] = slice_split_none is_slash (b ∷ bytes) (no_slash (b ∷ bytes) are) in
     let some : (length (b ∷ bytes) == 0) ≡ false = grind (arith, nat_tests) in
     let name : list_all is_name (names (b ∷ bytes)) ≡ true = ap (list_all is_name) split ∙ and_from _ _ (one_name b bytes are.0) refl in
-    rw (some, le-leb (length (b ∷ bytes)) 168 short, no_nul (b ∷ bytes) are) name
+    rw (some, le-leb (length (b ∷ bytes)) 512 short, no_nul (b ∷ bytes) are) name
 
 module _ (b n : ℕ) (letter : is_alnum b ≡ true) (small : n < 2 ^ 64) where
   -- a letter and a number are the path that they spell

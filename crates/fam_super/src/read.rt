@@ -11,12 +11,12 @@ ghost use Rattle.fam_format.specs.Reading.{super_in};
 ghost use Rattle.fam_format.specs.SuperLaws.{IsSuper, IsWords};
 
 use crate::words::{
-    CRC_WORD, DEVICE_WORD, FS_WORD, LENGTH_WORD, MAGIC, MASTER_WORD, OFFSET_WORD, REST_WORD,
-    SuperWords, UNIT_WORD, VERSION, VERSION_WORD, words_of,
+    CRC_WORD, DEVICE_WORD, FS_WORD, LAST_VERSION, LENGTH_WORD, MAGIC, MASTER_WORD, OFFSET_WORD,
+    REST_WORD, SuperWords, UNIT_WORD, VERSION_WORD, words_of,
 };
 use fam_base::{Line, Params};
 use fam_crc::crc_words;
-use fam_format::{LOG_OFFSET, SLOT_BYTES, SuperFault, SuperField, byte_of};
+use fam_format::{LOG_OFFSET, SuperFault, SuperField, byte_of, is_format, shape_of};
 use uuid::Uuid;
 
 /// The fewest bytes of a unit.
@@ -55,13 +55,13 @@ fn crc_fault(words: &SuperWords) -> Option<SuperFault>
 fn version_fault(words: &SuperWords) -> Option<SuperFault>
     ensures { result ≡ format.version_fault words.now }
 {
-    if words[VERSION_WORD] == VERSION {
+    if is_format(words[VERSION_WORD]) {
         return None;
     }
     Some(SuperFault::BadSuper {
         field: SuperField::Version,
         found: words[VERSION_WORD],
-        wanted: VERSION,
+        wanted: LAST_VERSION,
     })
 }
 
@@ -181,8 +181,9 @@ fn params_of(words: &SuperWords) -> Params
     ensures { result ≡ format.params_of words.now }
 {
     Params {
+        format: words[VERSION_WORD],
         log_length: words[LENGTH_WORD],
-        slots: words[LENGTH_WORD] / SLOT_BYTES - 1,
+        slots: words[LENGTH_WORD] / shape_of(words[VERSION_WORD]).bytes - 1,
         unit: words[UNIT_WORD],
         device: words[DEVICE_WORD],
         fs: uuid_from(FS_WORD, words),

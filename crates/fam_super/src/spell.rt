@@ -4,7 +4,7 @@ ghost use Rattle.std.specs.Prelude.{◌≡◌, ◌++◌};
 ghost use Rattle.fam_base.specs.Image.{line_at};
 ghost use Rattle.fam_format.specs.Super as format;
 
-use crate::words::{MAGIC, VERSION};
+use crate::words::MAGIC;
 use fam_base::{Line, Params};
 use fam_crc::crc_words;
 use fam_format::{LOG_OFFSET, word_of_bytes};
@@ -18,7 +18,7 @@ fn body(params: &Params) -> [u64; 15]
     let fs = params.fs.as_bytes();
     let master = params.master.as_bytes();
     [
-        VERSION,
+        params.format,
         LOG_OFFSET,
         params.log_length,
         params.unit,

@@ -4,12 +4,13 @@ ghost use Rattle.std.specs.Prelude.{◌≡◌, ◌++◌};
 ghost use Rattle.fam_base.specs.Image.{line_at};
 
 use fam_base::Line;
+use fam_format::SECOND_FORMAT;
 
 /// Word 0 of line 0: the bytes `famfs-01`.
 pub const MAGIC: u64 = 0x3130_2d73_666d_6166;
 
-/// The only version.
-pub const VERSION: u64 = 1;
+/// The greatest version that is read: the version is the format of the slots.
+pub const LAST_VERSION: u64 = SECOND_FORMAT;
 
 /// The words of lines 1 and 2, one after the other. The constants below say where each field stands.
 pub type SuperWords = [u64; 16];

@@ -18,6 +18,7 @@ use Rattle.fam_replay.specs.Replica.{ReplicaState}
 use Rattle.fam_tasks.specs.Commands.{slots_told}
 use Rattle.fam_tasks.specs.History.{read_by}
 use Rattle.fam_tasks.specs.Sound.{HasValidGate, IsSoundAt}
+use Rattle.fam_tasks.proofs.Slots.{some_line}
 
 -- a check of the whole file system begins with none
 class_uses_none : (class : Class) (kept : Option Kept) (p : Params) (gate : ℕ) → surveys class ≡ true → class_used kept class p gate ≡ []
@@ -96,5 +97,5 @@ read_alone serves kept replay is = ap (λ (o : Option Kept). read_by serves o re
 -- The phase behind the gate: the first slot, or the decision.
 pub begun_sound : (t : Task) (i n : ℕ) (b : Bool) → nat_lt i n ≡ b → n ≡ slots_told t.cmd t.params t.gate → HasValidGate t → length t.words ≡ 0 → IsSoundAt (cond b (at.Drop (Slot i) 0) at.Decide) t
 begun_sound t i n true less slots valid words =
-    (record { line = (valid, omega (arith, ltb-true i n less, slots), omega arith); few = omega arith }, omega (arith, words))
+    (record { line = (valid, omega (arith, ltb-true i n less, slots), some_line t.params); few = omega arith }, omega (arith, words))
 begun_sound t i n false less slots valid words = valid

@@ -2,9 +2,12 @@ pub mod Lines
 pub mod Found
 pub mod Compared
 pub mod FileLines
+pub mod Slots
 pub mod Phases
 pub mod Begun
+pub mod SlotTurns
 pub mod GateTurns
+pub mod HeaderTurns
 pub mod FileTurns
 pub mod Keeping
 pub mod Rest

@@ -1,9 +1,10 @@
 -- The phase behind a slot.
-use Rattle.std.proofs.Common.{◌≡◌, ℕ, ◌≤◌, Bool, true, false, cond, nat_lt, refl, sym, ap, subst, arith}
+use Rattle.std.proofs.Common.{◌≡◌, ℕ, ◌+◌, ◌*◌, ◌≤◌, Bool, true, false, cond, nat_lt, refl, sym, ap, subst, arith}
 use Rattle.std.proofs.lemmas.Bool.{ltb-false}
 use Rattle.fam_base.specs.declared.cmd.Cmd.{Cmd}
 use Rattle.fam_base.specs.declared.cmd.Cmd.TheVariants.{Logplay, Mount, Mkdir, Creat, Cp, Verify, Read, Check, Fsck}
 use Rattle.fam_base.specs.declared.entry.Params.{Params}
+use Rattle.fam_format.specs.Layout.{geometry, log_line}
 use Rattle.fam_format.specs.Params.{SoundParams}
 use Rattle.fam_commands.specs.declared.phase.Part.TheVariants.{Slot}
 use Rattle.fam_commands.specs.declared.phase.Phase.{Phase}
@@ -55,7 +56,9 @@ pub same_super : (t u : Task) → u.params ≡ t.params → u.lines ≡ t.lines 
 same_super t u params lines has = record {
   sound = subst SoundParams (sym params) has.sound;
   device = omega (arith, ap (λ (p : Params). p.device) params, has.device, lines);
-  slots = omega (arith, ap (λ (p : Params). p.slots) params, has.slots, lines);
+  slots =
+      subst (λ (p : Params). log_line + (geometry p).lines * (p.slots + 1) ≤ u.lines) (sym params)
+      (subst (λ (n : ℕ). log_line + (geometry t.params).lines * (t.params.slots + 1) ≤ n) (sym lines) has.slots);
 }
 
 pub same_gate : (t u : Task) → u.params ≡ t.params → u.lines ≡ t.lines → u.gate ≡ t.gate → HasValidGate t → HasValidGate u

@@ -137,5 +137,5 @@ module _ (line : LineNo) (words : List ℕ) (slot j : ℕ) (t : Task) (sound : I
   }
 
 -- the slot's next line is dropped behind one that isn't the last
-pub line_follows : (t : Task) (slot j : ℕ) → j + 1 < 8 → cond (nat_lt (j + 1) (geometry t.params).lines) (at.Drop (Slot slot) (j + 1)) (at.Check slot) ≡ at.Drop (Slot slot) (j + 1)
-line_follows t slot j below = rw (lt-ltb (j + 1) 8 below) refl
+pub line_follows : (t : Task) (slot j : ℕ) → j + 1 < (geometry t.params).lines → cond (nat_lt (j + 1) (geometry t.params).lines) (at.Drop (Slot slot) (j + 1)) (at.Check slot) ≡ at.Drop (Slot slot) (j + 1)
+line_follows t slot j below = rw (lt-ltb (j + 1) (geometry t.params).lines below) refl

@@ -21,6 +21,7 @@ reply_of (answer.BadSuper field found wanted) = Some (NoSuperblock (super_fault.
 reply_of (answer.BadLog field found wanted) = Some (BadHeader (log_fault.BadLog field found wanted))
 reply_of (answer.BadEntry seq reason) = Some (BadSlot seq reason)
 reply_of (answer.NotMaster me master) = Some (NotAppended (refused.NotMaster me master))
+reply_of (answer.LongPath limit) = Some (NotAppended (refused.LongPath limit))
 reply_of answer.BadStripe = Some (NotAppended refused.BadStripe)
 reply_of (answer.Exists kind) = Some (NotAppended (refused.Exists kind))
 reply_of answer.NoParent = Some (NotAppended refused.NoParent)

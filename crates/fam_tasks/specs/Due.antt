@@ -10,7 +10,8 @@ use Rattle.fam_tasks.specs.Rest.{IsComparedLine}
 
 -- this comes next of the task. `Other` is never a line of the new file of which no word is stored
 abbrev pub IsDue : Due → Task → Type 0
-IsDue (Slot due) t = (t.phase ≡ at.Drop (part.Slot due.slot) due.line) × (due.line < (geometry t.params).lines)
+IsDue (Slot due) t =
+    (t.phase ≡ at.Drop (part.Slot due.slot) due.line) × (due.line < due.lines) × (due.lines ≡ (geometry t.params).lines)
 IsDue (Stored j) t = t.phase ≡ at.StoreData j 0
 IsDue (Compared line) t = IsComparedLine line t
 IsDue (Checked slot) t = t.phase ≡ at.Check slot

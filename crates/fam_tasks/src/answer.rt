@@ -1,20 +1,20 @@
 //! What a task says: notes on its way, and its answer.
 
-use fam_base::{ByteText, Entry, Kind, LineNo};
+use fam_base::{Boxed, ByteText, Entry, Kind, LineNo};
 use fam_format::{LogField, Reason, SuperField};
 use fam_rules::{Checked, Report};
 use fam_tree::Tree;
 use uuid::Uuid;
 
 /// What a task notes on its way.
-#[derive(Clone, Copy, PartialEq, Eq)]
+#[derive(Drop)]
 pub enum TaskNote {
     /// The gate's line was dropped: every entry that was answered by now will be read.
     Mark,
     /// A command that appends has found so many entries.
     Found(u64),
     /// It goes on to append this entry under this number.
-    Writes(u64, Entry),
+    Writes(u64, Boxed<Entry>),
 }
 
 /// What came of an operation.
@@ -54,7 +54,7 @@ pub enum Answer {
     /// How the tree differs from a listing.
     Checked {
         m: u64,
-        checked: Checked,
+        checked: Boxed<Checked>,
     },
     /// What a check of the file system finds.
     Report(Report),
@@ -82,6 +82,8 @@ pub enum Answer {
         me: Uuid,
         master: Uuid,
     },
+    /// The path has more bytes than so many, for which a slot of the log's format has room.
+    LongPath(u64),
     /// The chunk is no positive multiple of the unit, or the counts of strips or of buckets are out of range.
     BadStripe,
     /// Something stands at the path: a file or a directory.

@@ -5,7 +5,7 @@ ghost use Rattle.fam_base.specs.Image.{eight};
 ghost use Rattle.fam_rules.specs.Content.{byte_in};
 
 use fam_base::Line;
-use fam_format::{LINE_WORDS, SLOT_WORDS, byte_of};
+use fam_format::{LINE_WORDS, MOST_SLOT_WORDS, byte_of};
 use std::marker::Model;
 
 /// The most words that are held: those of 65 lines, which hold any 4,096 bytes of a file.
@@ -41,11 +41,13 @@ impl Buffer {
 
     /// Holds the words of a slot, and no others.
     #[tactic(auto, using(std::proofs::lemmas::List::take_all))]
-    pub(crate) fn hold(&mut self, slot: &[u64; SLOT_WORDS])
+    pub(crate) fn hold(&mut self, slot: &[u64])
+        requires { length slot.now ≤ MOST_SLOT_WORDS }
         ensures { self.new ≡ slot.now }
     {
-        self.words[..SLOT_WORDS].copy_from_slice(slot);
-        self.len = SLOT_WORDS;
+        let count = slot.len();
+        self.words[..count].copy_from_slice(slot);
+        self.len = count;
     }
 
     /// Adds a word.
@@ -102,7 +104,8 @@ impl Buffer {
     }
 
     /// The words in their order.
-    fn as_slice(&self) -> &[u64]
+    #[inline(always)]
+    pub(crate) fn as_slice(&self) -> &[u64]
         ensures same { result.now ≡ self.now }
         ensures few { length self.now ≤ MOST_WORDS }
     {
@@ -127,17 +130,6 @@ impl Buffer {
         let mut line = [0; LINE_WORDS];
         line.copy_from_slice(&words[first..first + LINE_WORDS]);
         line
-    }
-
-    /// All words, which are a slot's.
-    pub(crate) fn slot(&self) -> &[u64; SLOT_WORDS]
-        requires { length self.now ≡ SLOT_WORDS }
-        ensures { result.now ≡ self.now }
-    {
-        match self.as_slice().as_array::<SLOT_WORDS>() {
-            Some(slot) => slot,
-            None => unreachable!(),
-        }
     }
 
     /// Byte `b` of the words.

@@ -1,14 +1,14 @@
 //! What a task asks of its command.
 
-ghost use Rattle.std.specs.Prelude.{◌≡◌, IfOk, IsSome, None, Some};
+ghost use Rattle.std.specs.Prelude.{◌≡◌, IfOk, IsSome, MatchResult, None, Some};
 ghost use Rattle.std.specs.Bool.{OnTrue, OnFalse};
 ghost use Rattle.fam_commands.specs.Classes.{is_fsck};
 ghost use Rattle.fam_rules.specs.Decide.{wish_of};
-ghost use Rattle.fam_rules.specs.declared.answers.Refused.TheVariants.{NotMaster};
 ghost use Rattle.fam_commands.specs.Turns.{host_refusal};
 ghost use Rattle.fam_tasks.specs.Commands.{content_used, slots_told};
 
 use fam_base::{Cmd, Content, OutOfMemory, Params};
+use fam_plan::{Refused, check_early};
 use uuid::Uuid;
 
 /// Whether a command checks the whole file system.
@@ -53,16 +53,15 @@ pub(crate) fn content_used(cmd: &Cmd) -> Result<Content, OutOfMemory>
     }
 }
 
-/// Whether this host may not go on, since the command appends and another host is the master.
-pub(crate) fn is_refused(cmd: &Cmd, params: &Params, me: &Uuid) -> bool
-    ensures other { OnTrue result (host_refusal (wish_of cmd.now) params.now me.now
-        ≡ Some (NotMaster me.now params.now.master)) }
-    ensures master { OnFalse result (host_refusal (wish_of cmd.now) params.now me.now ≡ None) }
+/// Whether this host may go on: a command that appends is the master's, and a slot has room for its path.
+pub(crate) fn check_host(cmd: &Cmd, params: &Params, me: &Uuid) -> Result<(), Refused>
+    ensures { MatchResult result (λ _. host_refusal (wish_of cmd.now) params.now me.now ≡ None)
+        (λ refused. host_refusal (wish_of cmd.now) params.now me.now ≡ Some refused) }
 {
     match cmd {
-        Cmd::Mkdir { .. } => *me != params.master,
-        Cmd::Creat { .. } => *me != params.master,
-        Cmd::Cp { .. } => *me != params.master,
-        _ => false,
+        Cmd::Mkdir { path, .. } => check_early(params, me, path),
+        Cmd::Creat { path, .. } => check_early(params, me, path),
+        Cmd::Cp { path, .. } => check_early(params, me, path),
+        _ => Ok(()),
     }
 }

@@ -9,6 +9,7 @@ ghost use Rattle.fam_base.specs.Commands.{IsSoundCmd};
 ghost use Rattle.fam_base.specs.declared.entry.Params.{Params};
 ghost use Rattle.fam_commands.specs.Kept as spec;
 ghost use Rattle.fam_commands.specs.Kept.{IsKept, used_by};
+ghost use Rattle.fam_format.specs.Layout.{geometry};
 ghost use Rattle.fam_format.specs.Params.{SoundParams};
 ghost use Rattle.fam_format.specs.Slot.{Proper};
 ghost use Rattle.fam_format.specs.Tree.{replay};
@@ -20,7 +21,7 @@ ghost use Rattle.fam_tasks.specs.History.{MayServe, kept_of, read_by};
 
 use crate::kept::Kept;
 use fam_base::{Cmd, Entry, OutOfMemory, Params, Path};
-use fam_format::{Reason, SLOT_WORDS};
+use fam_format::Reason;
 use fam_plan::Plan;
 use fam_replay::{Replay, Replica, reason_behind};
 use fam_rules::Refused;
@@ -90,11 +91,9 @@ fn go_behind(
 }
 
 /// Why the words of the slot behind the kept entries add none to them, found without memory.
-fn reason_behind_kept(
-    kept: &Option<Kept>,
-    words: &[u64; SLOT_WORDS],
-) -> Result<Option<Reason>, OutOfMemory>
-    requires { MayServe true kept.now }
+fn reason_behind_kept(kept: &Option<Kept>, words: &[u64]) -> Result<Option<Reason>, OutOfMemory>
+    requires serves { MayServe true kept.now }
+    requires count { (k : spec.Kept) → kept.now ≡ Some k → length words.now ≡ (geometry k.params).words }
     ensures reads { (k : spec.Kept) → kept.now ≡ Some k → IfOk result (λ reason.
         ReadsNext reason k.params words.now k.entries k.entries) }
     ensures want { (k : spec.Kept) → kept.now ≡ Some k → OnErr result (JoinsNext k.params words.now k.entries) }
@@ -214,12 +213,13 @@ impl History {
         &mut self,
         params: &Params,
         gate: u64,
-        words: &[u64; SLOT_WORDS],
+        words: &[u64],
     ) -> Result<Option<Reason>, OutOfMemory>
         requires sound { SoundParams params.now }
         requires fits { IsReplayOf params.now gate self.old.replay }
         requires gate { gate ≤ params.now.slots }
         requires left { length (entries_in self.old.replay) < gate }
+        requires count { length words.now ≡ (geometry params.now).words }
 
         ensures reads { IfOk result (λ reason. ReadsNext reason params.now words.now
             (entries_in self.old.replay) (entries_in self.new.replay)) }

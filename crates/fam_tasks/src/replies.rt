@@ -125,6 +125,7 @@ pub(crate) fn refusal_answer(refused: Refused) -> Answer
 {
     match refused {
         Refused::NotMaster { me, master } => Answer::NotMaster { me, master },
+        Refused::LongPath(limit) => Answer::LongPath(limit),
         Refused::BadStripe => Answer::BadStripe,
         Refused::Exists(kind) => Answer::Exists(kind),
         Refused::NoParent => Answer::NoParent,

@@ -1,13 +1,13 @@
 //! A check of the words of all slots. It takes memory, so it is made with the first slot that it is shown.
 
-ghost use Rattle.std.specs.Prelude.{◌≡◌, ◌+◌, ◌<◌, ℕ, None, Some, OnOk, OnErr};
+ghost use Rattle.std.specs.Prelude.{◌≡◌, ◌+◌, ◌<◌, ℕ, None, Some, OnOk, OnErr, length};
+ghost use Rattle.fam_format.specs.Layout.{geometry};
 ghost use Rattle.fam_format.specs.Params.{SoundParams};
 ghost use Rattle.fam_rules.specs.Reports.{report_by, survey_slot};
 ghost use Rattle.fam_fsck.specs.Scan.{first_scan};
 ghost use Rattle.fam_tasks.specs.Survey.{added_in, survey_in, IsScanFor, ShowWants};
 
 use fam_base::{OutOfMemory, Params};
-use fam_format::SLOT_WORDS;
 use fam_fsck::Fsck;
 use fam_rules::Report;
 use std::alloc::Global;
@@ -60,11 +60,12 @@ pub(crate) fn show(
     scan: &mut Option<Fsck>,
     params: &Params,
     gate: u64,
-    words: &[u64; SLOT_WORDS],
+    words: &[u64],
 ) -> Result<(), OutOfMemory>
     requires sound { SoundParams params.now }
     requires fits { IsScanFor params.now gate scan.old }
     requires left { added_in scan.old < params.now.slots }
+    requires count { length words.now ≡ (geometry params.now).words }
     ensures shown { OnOk result (survey_in scan.new
         ≡ survey_slot params.now gate (added_in scan.old) words.now (survey_in scan.old)) }
     ensures added { OnOk result (added_in scan.new ≡ added_in scan.old + 1) }

@@ -1,9 +1,9 @@
 //! A task: a command, its phase, and what it has read. Its turns stand in the files of `task/`.
 
-ghost use Rattle.std.specs.Prelude.{ℕ, ◌≡◌, ◌≢◌, ◌≤◌, ◌<◌, nat_lt, if◌then◌else◌, true, false, None, Some, IfOk, OnErr, OnOk, length, option_map};
+ghost use Rattle.std.specs.Prelude.{ℕ, ◌≡◌, ◌≢◌, ◌-◌, ◌≤◌, ◌<◌, nat_lt, if◌then◌else◌, true, false, None, Some, IfOk, OnErr, OnOk, length, option_map};
 ghost use Rattle.fam_base.specs.Commands.{IsSoundCmd};
 ghost use Rattle.fam_base.specs.declared.line.LineNo.{LineNo};
-ghost use Rattle.fam_format.specs.Layout.{least_lines};
+ghost use Rattle.fam_format.specs.Layout.{geometry, least_lines};
 ghost use Rattle.fam_commands.specs.declared.phase.Part.TheVariants as part;
 ghost use Rattle.fam_commands.specs.declared.phase.Phase.TheVariants as at;
 ghost use Rattle.fam_commands.specs.Task as spec;
@@ -37,17 +37,15 @@ pub use due::Due;
 use fam_base::{Cmd, Content, Entry, LineNo, OutOfMemory, Params};
 use fam_commands::{Part, Phase};
 use fam_content::file_line;
-use fam_format::{GATE_LINE, LAST_WORD, LOG_LINE, SLOT_LINES};
+use fam_format::{FIRST_FORMAT, GATE_LINE, LAST_WORD, LOG_LINE, shape_of};
 use fam_fsck::Fsck;
 use fam_machine::Op;
 use fam_replay::{Replica, line_of_slot};
 pub use slot_lines::SlotDue;
 use std::alloc::Global;
 use std::marker::Model;
+use std::mem::replace;
 use uuid::Uuid;
-
-/// The last line of a slot.
-const LAST_LINE: u64 = SLOT_LINES - 1;
 
 /// A command on its way over the cache of a host.
 #[derive(Drop)]
@@ -93,6 +91,24 @@ fn done(phase: &mut Phase, answer: Answer) -> Turn
     Turn::Done(answer)
 }
 
+/// How many lines a slot of the file system with these parameters has.
+#[inline(always)]
+fn lines_of_a_slot(params: &Params) -> u64
+    ensures lines { result ≡ (geometry params.now).lines }
+    ensures some { 8 ≤ result }
+    ensures few { result ≤ 16 }
+{
+    shape_of(params.format).lines
+}
+
+/// The last line of a slot, counted from 0 in the slot.
+#[inline(always)]
+fn last_line(params: &Params) -> u64
+    ensures { result ≡ (geometry params.now).lines - 1 }
+{
+    lines_of_a_slot(params) - 1
+}
+
 /// The phase behind slot `i - 1`: the next slot below `end`, or the decision.
 fn slot_or_decide(i: u64, end: u64) -> Phase
     ensures { result ≡ (if nat_lt i end then at.Drop (part.Slot i) 0 else at.Decide) }
@@ -124,6 +140,7 @@ fn begin(alloc: Global, cmd: Cmd, me: Uuid, lines: u64, history: History) -> Tas
         lines,
         phase: Phase::DropMagic,
         params: Params {
+            format: FIRST_FORMAT,
             log_length: 0,
             slots: 0,
             unit: 0,
@@ -142,6 +159,14 @@ fn begin(alloc: Global, cmd: Cmd, me: Uuid, lines: u64, history: History) -> Tas
 }
 
 impl Task {
+    /// How many lines a slot of the file system has whose parameters were read.
+    pub fn slot_lines(&self) -> u64
+        ensures lines { result ≡ (geometry self.now.params).lines }
+        ensures few { result ≤ 16 }
+    {
+        lines_of_a_slot(&self.params)
+    }
+
     /// A command before its first operation, on the host `me` and an image of so many lines. It takes no memory.
     pub fn new(alloc: Global, cmd: Cmd, me: Uuid, lines: u64) -> Task
         requires command { IsSoundCmd cmd }
@@ -182,12 +207,16 @@ impl Task {
         self.history.kept_count()
     }
 
-    /// What the host keeps behind the task: what it kept before, or what a mount has read, or a logplay where it kept
-    /// something. Where that is nothing, what its next command may find again.
-    pub fn into_parts(self) -> (Option<Kept>, Option<Replica>)
-        ensures { result.0 ≡ self.kept }
+    /// Takes what the host keeps behind the task: what it kept before, or what a mount has read, or a logplay where it kept
+    /// something. Where that is nothing, what its next command may find again. The task has read nothing then, and is to be
+    /// let go.
+    pub fn take_parts(&mut self) -> (Option<Kept>, Option<Replica>)
+        ensures { result.0 ≡ self.old.kept }
     {
-        self.history.into_parts()
+        self.is_sound();
+        self.phase = Phase::DropMagic;
+        self.scan = None;
+        replace(&mut self.history, History::new(self.alloc, None)).into_parts()
     }
 
     /// What is known of every task: its numbers fit its phase. A call does nothing.

@@ -23,7 +23,7 @@ module _ (me random : List ℕ) (me_is : IsUuid me) (random_is : IsUuid (version
   host_is (Some system) is = is
 
   shot_is : (s : Shot) → given.HasShotUuids s → HasOneShotUuids (shot_of random s)
-  shot_is (shot.Mkfs fs unit log force) is = fs_is fs is
+  shot_is (shot.Mkfs fs unit log format force) is = record { fs = fs_is fs is.0; format = is.1 }
   shot_is (shot.Run what) is = tt
   shot_is (shot.Parents path attr) is = tt
 

@@ -3,6 +3,7 @@ use Rattle.std.specs.Prelude.{ℕ, ⊤, List, Option, Some, None, option_map, If
 use Rattle.fam_format.specs.Params.{IsUuid}
 use Rattle.fam_machine.specs.MkfsRequest.{mkfs_request}
 use Rattle.fam_grammar.specs.Scripts.{script_events}
+use Rattle.fam_journal.specs.Calls.{IsSoundRequest}
 use Rattle.fam_journal.specs.Laws.{IsImage}
 use Rattle.fam_media.specs.Outside.{IfModelled}
 use Rattle.fam_outcomes.specs.declared.status.Status.{Status}
@@ -27,7 +28,7 @@ fs_or random (Some fs) = fs
 
 -- a command of its own, as the journal's definitions speak of it
 abbrev pub shot_of : List ℕ → Shot → OneShot
-shot_of random (shot.Mkfs fs unit log force) = Makes (mkfs_request (fs_or random fs) unit log force None)
+shot_of random (shot.Mkfs fs unit log format force) = Makes (mkfs_request (fs_or random fs) unit log format force None)
 shot_of random (shot.Run what) = Runs what
 shot_of random (shot.Parents path attr) = MakesParents path attr
 
@@ -37,9 +38,9 @@ command_of me random (invocation.Single system what) = Single (host_or me system
 command_of me random (invocation.Script file) = Script file
 command_of me random (invocation.Storm seed size prints) = Storm seed size prints
 
--- the UUIDs of a command of its own are UUIDs: the host's, and that of a new file system
+-- the UUIDs of a command of its own are UUIDs: the host's, and that of a new file system, whose format is one that there is
 abbrev pub HasOneShotUuids : OneShot → Type 0
-HasOneShotUuids (Makes request) = IsUuid request.fs
+HasOneShotUuids (Makes request) = IsSoundRequest request
 HasOneShotUuids (Runs what) = ⊤
 HasOneShotUuids (MakesParents path attr) = ⊤
 
@@ -54,6 +55,6 @@ HasCommandUuids (Storm seed size prints) = ⊤
 -- left is where that journal leads
 pub record CallEnds (asked : Option Invocation) (me random : List ℕ) (out : Outside) (status : Status) : Type 0 where
   pub ends : TopEnds script_events storm (option_map (command_of me random) asked) out status
-  -- what the laws of runs ask for: an image that is modelled is one, and the command's UUIDs are UUIDs
+  -- what the laws of runs ask for: an image that is modelled is one, the command's UUIDs are UUIDs, and its format is one
   pub image : IfModelled out.media.old.image IsImage
   pub uuids : IfSome (option_map (command_of me random) asked) HasCommandUuids

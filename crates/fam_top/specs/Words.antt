@@ -45,7 +45,7 @@ dup_named words = option_map (λ (call : DupCall). (call.from, call.to)) (dup_ca
 
 -- what a mkfs with the options of a copy asks for: its UUID is that of the words, or one of the random bytes
 abbrev pub dup_request : List ℕ → DupCall → MkfsRequest
-dup_request random call = mkfs_request (fs_or random call.fs) call.unit call.log call.force None
+dup_request random call = mkfs_request (fs_or random call.fs) call.unit call.log call.format call.force None
 
 -- the copy that a call asks for: on the host that it names, or this one
 abbrev pub copy_of : List ℕ → List ℕ → DupCall → CopyAsked

@@ -1,10 +1,10 @@
 //! The top call for words that ask for a copy of a file system.
 
-ghost use Rattle.std.specs.Prelude.{◌≡◌, ◌≤◌, IfOk, map, string_bytes};
+ghost use Rattle.std.specs.Prelude.{◌≡◌, ◌≤◌, IfOk, IfSome, map, string_bytes};
 ghost use Rattle.fam_media.specs.Causes.{IsSteady};
 ghost use Rattle.fam_media.specs.States.{change};
 ghost use Rattle.fam_program.specs.Dups.{DupTop, copy_outside};
-ghost use Rattle.fam_words.specs.Dups.{dup_call};
+ghost use Rattle.fam_words.specs.Dups.{IsSoundDup, dup_call};
 ghost use Rattle.fam_top.specs.Words.{copy_named, dup_named, dup_request};
 
 use crate::fresh::fs_or;
@@ -20,7 +20,8 @@ use uuid::Uuid;
 
 /// What the words ask for, where that is a copy of a file system.
 fn asked(alloc: Global, words: &Vec<String>) -> Result<Option<DupCall>, OutOfMemory>
-    ensures { IfOk result (λ call. call ≡ dup_call (map string_bytes words.now.items)) }
+    ensures sound { IfOk result (λ call. IfSome call IsSoundDup) }
+    ensures value { IfOk result (λ call. call ≡ dup_call (map string_bytes words.now.items)) }
 {
     read_dup_words(alloc, words.as_slice())
 }
@@ -47,6 +48,7 @@ fn request_of(random: [u8; 16], call: &DupCall) -> MkfsRequest
         fs: fs_or(random, call.fs),
         unit: call.unit,
         log: call.log,
+        format: call.format,
         force: call.force,
         halt: None,
     }

@@ -60,12 +60,14 @@ fn run_shot<M: Media, S: Shelf, K: Sink>(
             fs,
             unit,
             log,
+            format,
             force,
         } => {
             let request = MkfsRequest {
                 fs: fs_or(random, fs),
                 unit,
                 log,
+                format,
                 force,
                 halt: None,
             };

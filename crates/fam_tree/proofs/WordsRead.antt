@@ -291,7 +291,7 @@ words_found e listed line r1 r2 r3 r4 r5 k m u g s t p is ka k1 ma m2 ua u3 ga g
       path = pa ∙ rest_read r5 w5 w6 [] e5 w.1.1.1.1.1.0;
     }
 
--- a path of more than 168 bytes is none
-pub too_long : (path done : List ℕ) (rest : List ℕ) → is_path path ≡ true → NextByte path done rest → length done ≡ 168 → ⊥
+-- a path of more than 512 bytes is none
+pub too_long : (path done : List ℕ) (rest : List ℕ) → is_path path ≡ true → NextByte path done rest → length done ≡ 512 → ⊥
 too_long path done rest proper n full =
     omega (arith, (parts_of_path path proper).fits, full, ap length n.all, length-append done (n.byte ∷ n.tail))

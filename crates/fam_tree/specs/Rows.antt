@@ -34,7 +34,7 @@ entries_of_rows paths extents rows = map (entry_of paths extents) rows
 -- the row of an entry whose path and extents begin at these places
 abbrev pub row_of : Entry → ℕ → ℕ → Row
 row_of e path_start extents_start =
-    record { map = e.map; size = e.size; path_start = path_start; extents_start = extents_start; mode = e.mode; uid = e.uid; gid = e.gid; kind = e.kind; path_len = length e.path; extents_len = length e.extents }
+    record { map = e.map; size = e.size; path_start = path_start; extents_start = extents_start; mode = e.mode; uid = e.uid; gid = e.gid; path_len = length e.path; kind = e.kind; extents_len = length e.extents }
 
 -- what a row says is there: its path is a path, and its extents are at most extent_limit (16)
 pub record IsRow (paths : List ℕ) (extents : List Extent) (row : Row) : Type 0 where

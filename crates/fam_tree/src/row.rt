@@ -23,9 +23,9 @@ pub(crate) struct Row {
     pub(crate) mode: u32,
     pub(crate) uid: u32,
     pub(crate) gid: u32,
-    pub(crate) kind: Kind,
     /// How many bytes its path has.
-    pub(crate) path_len: u8,
+    pub(crate) path_len: u16,
+    pub(crate) kind: Kind,
     /// How many extents it has.
     pub(crate) extents_len: u8,
 }
@@ -74,8 +74,8 @@ impl Row {
             mode: entry.mode,
             uid: entry.uid,
             gid: entry.gid,
+            path_len: entry.path.bytes().len() as u16,
             kind: entry.kind,
-            path_len: entry.path.bytes().len() as u8,
             extents_len: entry.extents.as_slice().len() as u8,
         })
     }

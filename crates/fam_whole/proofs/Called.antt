@@ -6,6 +6,6 @@ use Rattle.fam_top.specs.Calls.{HasOneShotUuids, shot_of}
 use Rattle.fam_whole.proofs.Shots.{IsSoundShot}
 
 pub shot_sound : (random : List ℕ) (what : Shot) → HasOneShotUuids (shot_of random what) → IsSoundShot (shot_of random what)
-shot_sound random (shot.Mkfs fs unit log force) is = is
+shot_sound random (shot.Mkfs fs unit log format force) is = is
 shot_sound random (shot.Run what) is = tt
 shot_sound random (shot.Parents path attr) is = tt

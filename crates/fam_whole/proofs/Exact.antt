@@ -155,12 +155,12 @@ module _ (start : Image) (files : Files) (old : Machines) (journal : List Note) 
       })
 
   -- what a maker, which has begun, leaves: by after how many operations it is to halt
-  module _ (name fs : List ℕ) (unit log : ℕ) (force : Bool) (halt : Option ℕ) (new : Machines) (notes : List Note) (h : ℕ) (host : HostState) (is : slice_get old.hosts h ≡ Some host) where
+  module _ (name fs : List ℕ) (unit log format : ℕ) (force : Bool) (halt : Option ℕ) (new : Machines) (notes : List Note) (h : ℕ) (host : HostState) (is : slice_get old.hosts h ≡ Some host) where
     abbrev making : Event
-    making = event.Mkfs name fs unit log force halt
+    making = event.Mkfs name fs unit log format force halt
 
     abbrev request : MkfsRequest
-    request = mkfs_request fs unit log force halt
+    request = mkfs_request fs unit log format force halt
 
     abbrev p : Params
     p = here.asked request host.uuid (length old.memory)
@@ -357,10 +357,10 @@ module _ (start : Image) (files : Files) (old : Machines) (journal : List Note) 
   event_exact (event.Host name uuid) sound whole s new same notes clean does =
       by_refusal (call.Declares name uuid) old new.machines notes (subst (λ (z : Machines). Does (call.Declares name uuid) z notes new.machines) same does.0)
       (λ cause e f. quiet (event.Host name uuid) name cause new.machines notes e f) (λ free acts. declared_exact name uuid new.machines notes acts)
-  event_exact (event.Mkfs name fs unit log force halt) sound whole s new same notes clean does =
-      by_refusal (call.Makes name (mkfs_request fs unit log force halt)) old new.machines notes (subst (λ (z : Machines). Does (call.Makes name (mkfs_request fs unit log force halt)) z notes new.machines) same does.0)
-      (λ cause e f. quiet (event.Mkfs name fs unit log force halt) name cause new.machines notes e f)
-      (λ free acts. by_host (call.Makes name (mkfs_request fs unit log force halt)) old new.machines notes acts (λ h host number is at. makes_exact name fs unit log force halt new.machines notes h host is at))
+  event_exact (event.Mkfs name fs unit log format force halt) sound whole s new same notes clean does =
+      by_refusal (call.Makes name (mkfs_request fs unit log format force halt)) old new.machines notes (subst (λ (z : Machines). Does (call.Makes name (mkfs_request fs unit log format force halt)) z notes new.machines) same does.0)
+      (λ cause e f. quiet (event.Mkfs name fs unit log format force halt) name cause new.machines notes e f)
+      (λ free acts. by_host (call.Makes name (mkfs_request fs unit log format force halt)) old new.machines notes acts (λ h host number is at. makes_exact name fs unit log format force halt new.machines notes h host is at))
   event_exact (event.Begin name what) sound whole s new same notes clean does = absurd whole
   event_exact (event.Run name what) sound whole s new same notes clean (inl run) = run_exact name what s new same notes clean run
   event_exact (event.Run name what) sound whole s new same notes clean (inr (inl x)) =

@@ -14,7 +14,7 @@ use Rattle.fam_base.specs.Image.{Image, line_at}
 use Rattle.fam_format.specs.Reading as read
 use Rattle.fam_format.specs.Reading.{Reading, reading, super_in}
 use Rattle.fam_rules.specs.declared.answers.Refused.{Refused}
-use Rattle.fam_rules.specs.Solo.{solo_image, solo_reply, appended, content_of, decision_image, held_file, reading_image, reading_reply, reply_in, reply_unless, sound_reply, client_refusal}
+use Rattle.fam_rules.specs.Solo.{solo_image, solo_reply, appended, content_of, decision_image, held_file, reading_image, reading_reply, reply_in, reply_unless, sound_reply, head_refusal}
 use Rattle.fam_rules.specs.Asks.{File, ask, compared, compared_at, file_at, first_difference, of_file, of_kind, verified}
 use Rattle.fam_rules.specs.Content.{fill}
 use Rattle.fam_rules.specs.Decide.{Wish, decide, decide_wish, wish_of}
@@ -131,14 +131,14 @@ module _ (image : Image) (state : State) where
     where
       by_cmd : (c : Cmd) → IsWholeReply (reply_in memory have me c) state image
       by_cmd Fsck = refl
-      by_cmd Logplay = whole_unless (client_refusal (wish_of Logplay) (super_in memory have) me) _ (whole_read me Logplay (reading image) is)
-      by_cmd Mount = whole_unless (client_refusal (wish_of Mount) (super_in memory have) me) _ (whole_read me Mount (reading image) is)
-      by_cmd (Mkdir path attr) = whole_unless (client_refusal (wish_of (Mkdir path attr)) (super_in memory have) me) _ (whole_read me (Mkdir path attr) (reading image) is)
-      by_cmd (Creat path size attr stripe fill) = whole_unless (client_refusal (wish_of (Creat path size attr stripe fill)) (super_in memory have) me) _ (whole_read me (Creat path size attr stripe fill) (reading image) is)
-      by_cmd (Cp path attr stripe bytes) = whole_unless (client_refusal (wish_of (Cp path attr stripe bytes)) (super_in memory have) me) _ (whole_read me (Cp path attr stripe bytes) (reading image) is)
-      by_cmd (Verify path against) = whole_unless (client_refusal (wish_of (Verify path against)) (super_in memory have) me) _ (whole_read me (Verify path against) (reading image) is)
-      by_cmd (Read path offset count) = whole_unless (client_refusal (wish_of (Read path offset count)) (super_in memory have) me) _ (whole_read me (Read path offset count) (reading image) is)
-      by_cmd (Check entries) = whole_unless (client_refusal (wish_of (Check entries)) (super_in memory have) me) _ (whole_read me (Check entries) (reading image) is)
+      by_cmd Logplay = whole_unless (head_refusal (wish_of Logplay) (super_in memory have) me) _ (whole_read me Logplay (reading image) is)
+      by_cmd Mount = whole_unless (head_refusal (wish_of Mount) (super_in memory have) me) _ (whole_read me Mount (reading image) is)
+      by_cmd (Mkdir path attr) = whole_unless (head_refusal (wish_of (Mkdir path attr)) (super_in memory have) me) _ (whole_read me (Mkdir path attr) (reading image) is)
+      by_cmd (Creat path size attr stripe fill) = whole_unless (head_refusal (wish_of (Creat path size attr stripe fill)) (super_in memory have) me) _ (whole_read me (Creat path size attr stripe fill) (reading image) is)
+      by_cmd (Cp path attr stripe bytes) = whole_unless (head_refusal (wish_of (Cp path attr stripe bytes)) (super_in memory have) me) _ (whole_read me (Cp path attr stripe bytes) (reading image) is)
+      by_cmd (Verify path against) = whole_unless (head_refusal (wish_of (Verify path against)) (super_in memory have) me) _ (whole_read me (Verify path against) (reading image) is)
+      by_cmd (Read path offset count) = whole_unless (head_refusal (wish_of (Read path offset count)) (super_in memory have) me) _ (whole_read me (Read path offset count) (reading image) is)
+      by_cmd (Check entries) = whole_unless (head_refusal (wish_of (Check entries)) (super_in memory have) me) _ (whole_read me (Check entries) (reading image) is)
 
 -- Whether an entry is appended.
 

@@ -13,6 +13,7 @@ use Rattle.fam_journal.specs.declared.event.Event.{Event}
 use Rattle.fam_journal.specs.declared.event.Event.TheVariants as event
 use Rattle.fam_outcomes.specs.declared.status.Status.{Status}
 use Rattle.fam_outcomes.specs.declared.status.Status.TheVariants as status
+use Rattle.fam_journal.specs.Calls.{IsSoundRequest}
 use Rattle.fam_journal.specs.Complete.{IsComplete}
 use Rattle.fam_journal.specs.Ends.{AllDone, Ending, EndsOutOfMemory}
 use Rattle.fam_journal.specs.Laws.{AreSound, IsImage}
@@ -30,7 +31,7 @@ use Rattle.fam_whole.proofs.Scripts.{put_whole}
 
 -- a new file system's UUID is one
 abbrev pub IsSoundShot : OneShot → Type 0
-IsSoundShot (Makes request) = IsUuid request.fs
+IsSoundShot (Makes request) = IsSoundRequest request
 IsSoundShot (Runs what) = ⊤
 IsSoundShot (MakesParents path attr) = ⊤
 

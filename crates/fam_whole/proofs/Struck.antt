@@ -34,8 +34,8 @@ module _ (start : Image) (files : Files) where
   command_same : (e : Event) → is_move e ≡ false → IsSoundEvent e → IsWholeEvent e → (s t m n : Session) (j k a b : List Note) → Between start s.machines j → Between start t.machines k → TwinSessions s t → AreClean a → AreClean b → DoesEvent files e s a m → DoesEvent files e t b n → Alike a b m n
   command_same (event.Host name uuid) is sound whole s t m n j k a b bs bt twins clean_a clean_b x y =
       call_same (call.Declares name uuid) s t m n j k a b bs bt twins x y (host_same start files s.machines t.machines j k bs bt twins.machines a b m.machines n.machines name uuid)
-  command_same (event.Mkfs name fs unit log force halt) is sound whole s t m n j k a b bs bt twins clean_a clean_b x y =
-      call_same (call.Makes name (mkfs_request fs unit log force halt)) s t m n j k a b bs bt twins x y (makes_same start files s.machines t.machines j k bs bt twins.machines a b m.machines n.machines name (mkfs_request fs unit log force halt))
+  command_same (event.Mkfs name fs unit log format force halt) is sound whole s t m n j k a b bs bt twins clean_a clean_b x y =
+      call_same (call.Makes name (mkfs_request fs unit log format force halt)) s t m n j k a b bs bt twins x y (makes_same start files s.machines t.machines j k bs bt twins.machines a b m.machines n.machines name (mkfs_request fs unit log format force halt))
   command_same (event.Begin name what) is sound whole s t m n j k a b bs bt twins clean_a clean_b x y = absurd whole
   command_same (event.Run name what) is sound whole s t m n j k a b bs bt twins clean_a clean_b x y =
       let both = ask_same start files name what s t m n j k a b bs bt twins clean_a clean_b x y in

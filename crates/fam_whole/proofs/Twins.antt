@@ -166,7 +166,7 @@ module _ (start : Image) (files : Files) where
 
   pub move_twin : (e : Event) → is_move e ≡ true → (s new : Session) (journal notes : List Note) → Between start s.machines journal → AreFaultless notes → DoesEvent files e s notes new → TwinSessions new s
   move_twin (event.Host name uuid) is s new journal notes between clean does = absurd cc
-  move_twin (event.Mkfs name fs unit log force halt) is s new journal notes between clean does = absurd cc
+  move_twin (event.Mkfs name fs unit log format force halt) is s new journal notes between clean does = absurd cc
   move_twin (event.Begin name what) is s new journal notes between clean does = absurd cc
   move_twin (event.Run name what) is s new journal notes between clean does = absurd cc
   move_twin (event.Step name count) is s new journal notes between clean does = absurd cc
@@ -459,7 +459,7 @@ move_notes name line move s new notes does =
 
 pub moves_note : (files : Files) (e : Event) → is_move e ≡ true → (s new : Session) (notes : List Note) → DoesEvent files e s notes new → AreRefusals notes
 moves_note files (event.Host name uuid) is s new notes does = absurd cc
-moves_note files (event.Mkfs name fs unit log force halt) is s new notes does = absurd cc
+moves_note files (event.Mkfs name fs unit log format force halt) is s new notes does = absurd cc
 moves_note files (event.Begin name what) is s new notes does = absurd cc
 moves_note files (event.Run name what) is s new notes does = absurd cc
 moves_note files (event.Step name count) is s new notes does = absurd cc

@@ -130,12 +130,12 @@ pub fn a_command_of_its_own_is_exact()
         → CallEnds (Some (invocation.Single system (shot.Run what))) me random out given
         → out.media.old.image ≡ Some start → out.shelf.old.files ≡ Some files
         → (given ≡ OutOfMemory) ⊎ AskEnds files start (host_or me system) what out given }
-    ensures mkfs { (me random : List ℕ) (out : Outside) (given : Status) (system fs : Option (List ℕ)) (unit log : ℕ)
+    ensures mkfs { (me random : List ℕ) (out : Outside) (given : Status) (system fs : Option (List ℕ)) (unit log format : ℕ)
         (force : Bool) (files : Files) (start : Image) → NoneRose out
-        → CallEnds (Some (invocation.Single system (shot.Mkfs fs unit log force))) me random out given
+        → CallEnds (Some (invocation.Single system (shot.Mkfs fs unit log format force))) me random out given
         → out.media.old.image ≡ Some start → out.shelf.old.files ≡ Some files
         → (given ≡ OutOfMemory)
-        ⊎ MkfsEnds start (host_or me system) (mkfs_request (fs_or random fs) unit log force None) out given }
+        ⊎ MkfsEnds start (host_or me system) (mkfs_request (fs_or random fs) unit log format force None) out given }
     ensures parents { (me random : List ℕ) (out : Outside) (given : Status) (system : Option (List ℕ)) (path : List ℕ)
         (attr : Attr) (files : Files) (start : Image) → NoneRose out
         → CallEnds (Some (invocation.Single system (shot.Parents path attr))) me random out given

@@ -1,15 +1,16 @@
 -- The UUIDs that the words of a call give are UUIDs.
-use Rattle.std.proofs.Common.{◌≡◌, ℕ, Bool, true, false, List, [], ◌∷◌, Option, Some, None, IfSome}
+use Rattle.std.proofs.Common.{◌≡◌, ℕ, Bool, true, false, List, [], ◌∷◌, Option, Some, None, IfSome, refl}
 use Rattle.std.specs.Prelude.{codes, option_map, option_and_then}
 use Rattle.clap.specs.Walk.{Row, Text}
 use Rattle.uuid.specs.Text.{parsed}
 use Rattle.fam_base.specs.declared.cmd.Attr.{Attr}
 use Rattle.fam_base.specs.declared.cmd.Stripe.{Stripe}
-use Rattle.fam_format.specs.Params.{IsUuid}
+use Rattle.fam_format.specs.Params.{IsUuid, first_number}
+use Rattle.fam_grammar.proofs.SoundLaw.{format_is}
 use Rattle.fam_grammar.proofs.UuidLaw.{Parses, parses}
 use Rattle.fam_grammar.specs.Lines.{default_log, default_unit, directory_mode, file_mode}
 use Rattle.fam_grammar.specs.Numbers.{number_of_text, size_of_text}
-use Rattle.fam_grammar.specs.Spellings.{count_of}
+use Rattle.fam_grammar.specs.Spellings.{count_of, format_of}
 use Rattle.fam_words.specs.declared.wanted.Call.{Call}
 use Rattle.fam_words.specs.declared.wanted.Invocation.{Invocation}
 use Rattle.fam_words.specs.declared.wanted.Shot.{Shot}
@@ -17,7 +18,7 @@ use Rattle.fam_words.specs.declared.invocations.Name.{Name}
 use Rattle.fam_words.specs.declared.invocations.Name.TheVariants as name
 use Rattle.fam_words.specs.Calls.{HasShotUuids, HasUuids, against_texts, app_named, attr_in, call_behind, call_of, call_with, check_shot, cp_shot, cp_with, creat_shot, creat_with, invocation_in, mkdir_by, mkdir_shot, mkdir_with, mkfs_shot, mkfs_with, name_of, path_in, read_shot, read_with, script_invocation, single_invocation, single_with, storm_invocation, storm_with, stripe_in, system_of, verify_shot}
 use Rattle.fam_words.specs.Simple.{flag_in, rows_given, value_in}
-use Rattle.fam_words.specs.Values.{if_given, name_of_text, needed, or_default, storm_size_of}
+use Rattle.fam_words.specs.Values.{IsFormat, if_given, name_of_text, needed, or_default, storm_size_of}
 
 -- a text that may be given, and reads
 given_parses : (text : Option (List ℕ)) → IfSome (if_given parsed text) (λ o. IfSome o IsUuid)
@@ -28,13 +29,23 @@ given_parses (Some text) = lifted (parsed text) (parses text)
     lifted None is = tt
     lifted (Some id) is = is
 
+-- a format that may be given, or else the first
+given_format : (text : Option (List ℕ)) → IfSome (or_default first_number format_of text) IsFormat
+given_format None = refl
+given_format (Some text) = of_option (format_of text) (format_is text)
+  where
+    of_option : (o : Option ℕ) → ((n : ℕ) → o ≡ Some n → IsFormat n) → IfSome o IsFormat
+    of_option None each = tt
+    of_option (Some n) each = each n refl
+
 -- Commands of their own.
 
-mkfs_uuids : (unit log : Option ℕ) (fs : Option (Option (List ℕ))) (force : Bool) → IfSome fs (λ o. IfSome o IsUuid) → IfSome (mkfs_with unit log fs force) HasShotUuids
-mkfs_uuids None log fs force is = tt
-mkfs_uuids (Some unit) None fs force is = tt
-mkfs_uuids (Some unit) (Some log) None force is = tt
-mkfs_uuids (Some unit) (Some log) (Some fs) force is = is
+mkfs_uuids : (unit log format : Option ℕ) (fs : Option (Option (List ℕ))) (force : Bool) → IfSome fs (λ o. IfSome o IsUuid) → IfSome format IsFormat → IfSome (mkfs_with unit log format fs force) HasShotUuids
+mkfs_uuids None log format fs force is good = tt
+mkfs_uuids (Some unit) None format fs force is good = tt
+mkfs_uuids (Some unit) (Some log) None fs force is good = tt
+mkfs_uuids (Some unit) (Some log) (Some format) None force is good = tt
+mkfs_uuids (Some unit) (Some log) (Some format) (Some fs) force is good = (is, good)
 
 by_parents : (parents : Bool) (path : List ℕ) (attr : Attr) → HasShotUuids (mkdir_by parents path attr)
 by_parents true path attr = tt
@@ -98,7 +109,8 @@ unfolding mkfs_shot mkdir_shot creat_shot cp_shot verify_shot read_shot check_sh
 named_uuids name.Mkfs rows =
     on_host rows (mkfs_shot rows)
     (mkfs_uuids (or_default default_unit size_of_text (value_in (codes "unit") rows)) (or_default default_log size_of_text (value_in (codes "loglen") rows))
-    (if_given parsed (value_in (codes "uuid") rows)) (flag_in (codes "force") rows) (given_parses (value_in (codes "uuid") rows)))
+    (or_default first_number format_of (value_in (codes "format") rows)) (if_given parsed (value_in (codes "uuid") rows)) (flag_in (codes "force") rows)
+    (given_parses (value_in (codes "uuid") rows)) (given_format (value_in (codes "format") rows)))
 named_uuids name.Logplay rows = on_host rows _ tt
 named_uuids name.Mkdir rows = on_host rows (mkdir_shot rows) (mkdir_uuids (flag_in (codes "parents") rows) (path_in rows) (attr_in directory_mode rows))
 named_uuids name.Creat rows =

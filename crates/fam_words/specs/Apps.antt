@@ -20,13 +20,14 @@ stripe_rules =
     ∷ option_rule (codes "chunksize") (Some 67) false
     ∷ []
 
--- IMAGE -u -l -f --uuid --system
+-- IMAGE -u -l -f --format --uuid --system
 unfoldable pub mkfs_app : App
 mkfs_app =
     app_with (codes "mkfs") ((word_rule (codes "image")
     ∷ option_rule (codes "unit") (Some 117) false
     ∷ option_rule (codes "loglen") (Some 108) false
     ∷ flag_rule (codes "force") 102
+    ∷ option_rule (codes "format") None false
     ∷ option_rule (codes "uuid") None false
     ∷ option_rule (codes "system") None false
     ∷ []))

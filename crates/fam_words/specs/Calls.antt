@@ -9,10 +9,10 @@ use Rattle.fam_base.specs.declared.cmd.Cmd.TheVariants as cmd
 use Rattle.fam_base.specs.declared.cmd.Content.TheVariants as content
 use Rattle.fam_base.specs.declared.cmd.Stripe.{Stripe}
 use Rattle.fam_base.specs.Commands.{IsSoundAttr}
-use Rattle.fam_format.specs.Params.{IsUuid}
+use Rattle.fam_format.specs.Params.{IsUuid, first_number}
 use Rattle.fam_grammar.specs.Lines.{default_log, default_unit, directory_mode, file_mode, fill_of}
 use Rattle.fam_grammar.specs.Numbers.{number_of_text, size_of_text}
-use Rattle.fam_grammar.specs.Spellings.{count_of}
+use Rattle.fam_grammar.specs.Spellings.{count_of, format_of}
 use Rattle.fam_journal.specs.declared.event.Ask.{Ask}
 use Rattle.fam_journal.specs.declared.event.Ask.TheVariants as ask
 use Rattle.fam_grammar.specs.Sound.{IsSoundAsk}
@@ -25,22 +25,24 @@ use Rattle.fam_words.specs.declared.invocations.Name.{Name}
 use Rattle.fam_words.specs.declared.invocations.Name.TheVariants as name
 use Rattle.fam_words.specs.Apps.{mkfs_app, logplay_app, mkdir_app, creat_app, cp_app, verify_app, read_app, check_app, fsck_app, script_app, storm_app}
 use Rattle.fam_words.specs.Simple.{flag_in, rows_given, value_in}
-use Rattle.fam_words.specs.Values.{attr_of_texts, if_given, most_storm, name_of_text, needed, or_default, path_of_text, storm_size_of, stripe_of_texts}
+use Rattle.fam_words.specs.Values.{IsFormat, attr_of_texts, if_given, most_storm, name_of_text, needed, or_default, path_of_text, storm_size_of, stripe_of_texts}
 
 -- What each command makes of its values: None where one of them isn't spelled as it should be.
 
 -- a mkfs with these values, where each is good
-abbrev pub mkfs_with : Option ℕ → Option ℕ → Option (Option (List ℕ)) → Bool → Option Shot
-mkfs_with None log fs force = None
-mkfs_with (Some unit) None fs force = None
-mkfs_with (Some unit) (Some log) None force = None
-mkfs_with (Some unit) (Some log) (Some fs) force = Some (shot.Mkfs fs unit log force)
+abbrev pub mkfs_with : Option ℕ → Option ℕ → Option ℕ → Option (Option (List ℕ)) → Bool → Option Shot
+mkfs_with None log format fs force = None
+mkfs_with (Some unit) None format fs force = None
+mkfs_with (Some unit) (Some log) None fs force = None
+mkfs_with (Some unit) (Some log) (Some format) None force = None
+mkfs_with (Some unit) (Some log) (Some format) (Some fs) force = Some (shot.Mkfs fs unit log format force)
 
 -- the mkfs that its words ask for
 unfoldable pub mkfs_shot : List Row → Option Shot
 mkfs_shot rows =
     mkfs_with (or_default default_unit size_of_text (value_in (codes "unit") rows))
     (or_default default_log size_of_text (value_in (codes "loglen") rows))
+    (or_default first_number format_of (value_in (codes "format") rows))
     (if_given parsed (value_in (codes "uuid") rows))
     (flag_in (codes "force") rows)
 
@@ -229,9 +231,9 @@ call_of (first ∷ words) = option_and_then (λ which. call_behind which words) 
 
 -- What the words give is within its limits.
 
--- its ask is within its limits
+-- its ask is within its limits, and a file system is made in a format that there is
 abbrev pub IsSoundShot : Shot → Type 0
-IsSoundShot (shot.Mkfs fs unit log force) = ⊤
+IsSoundShot (shot.Mkfs fs unit log format force) = IsFormat format
 IsSoundShot (shot.Run what) = IsSoundAsk what
 IsSoundShot (shot.Parents path attr) = IsSoundAttr attr
 
@@ -241,11 +243,11 @@ IsSoundInvocation (invocation.Single system what) = IsSoundShot what
 IsSoundInvocation (invocation.Script file) = ⊤
 IsSoundInvocation (invocation.Storm seed size prints) = (1 ≤ size) × (size ≤ most_storm)
 
--- The UUIDs that the words give are UUIDs.
+-- The UUIDs that the words give are UUIDs, and formats are such.
 
--- the one of a new file system, where one is given
+-- those of a new file system: its UUID, where one is given, and its format
 abbrev pub HasShotUuids : Shot → Type 0
-HasShotUuids (shot.Mkfs fs unit log force) = IfSome fs IsUuid
+HasShotUuids (shot.Mkfs fs unit log format force) = IfSome fs IsUuid × IsFormat format
 HasShotUuids (shot.Run what) = ⊤
 HasShotUuids (shot.Parents path attr) = ⊤
 

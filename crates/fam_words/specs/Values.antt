@@ -1,8 +1,9 @@
 -- How values are spelled, and what stands in their place where none is given. docs/MANUAL.md, "Sizes and UUIDs".
-use Rattle.std.specs.Prelude.{ℕ, ◌==◌, Bool, not, List, length, Option, Some, None, option_map, option_and_then}
+use Rattle.std.specs.Prelude.{ℕ, ◌==◌, Bool, IsTrue, not, List, length, Option, Some, None, option_map, option_and_then}
 use Rattle.fam_base.specs.declared.cmd.Attr.{Attr}
 use Rattle.fam_base.specs.declared.cmd.Stripe.{Stripe}
 use Rattle.fam_base.specs.Paths.{is_path}
+use Rattle.fam_format.specs.Params.{is_format}
 use Rattle.fam_grammar.specs.Numbers.{number_of_text, size_of_text, below, not_zero}
 use Rattle.fam_grammar.specs.Spellings.{id_of, mode_of, passing, stripe_with}
 
@@ -15,6 +16,10 @@ or_default default read (Some text) = read text
 abbrev pub if_given : {A : Type 0} → (List ℕ → Option A) → Option (List ℕ) → Option (Option A)
 if_given read None = Some None
 if_given read (Some text) = option_map Some (read text)
+
+-- a number of a format in which file systems are made
+abbrev pub IsFormat : ℕ → Type 0
+IsFormat n = IsTrue (is_format n)
 
 -- a value that must be given
 abbrev pub needed : {A : Type 0} → (List ℕ → Option A) → Option (List ℕ) → Option A

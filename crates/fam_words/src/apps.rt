@@ -39,6 +39,7 @@ pub(crate) fn mkfs<'a>(alloc: Global) -> Result<Command<'a>, OutOfMemory>
     let command = option(alloc, command, "unit", 'u', false)?;
     let command = option(alloc, command, "loglen", 'l', false)?;
     let command = flag(alloc, command, "force", 'f')?;
+    let command = long_option(alloc, command, "format")?;
     let command = long_option(alloc, command, "uuid")?;
     long_option(alloc, command, "system")
 }
@@ -53,6 +54,7 @@ pub(crate) fn dup<'a>(alloc: Global) -> Result<Command<'a>, OutOfMemory>
     let command = option(alloc, command, "unit", 'u', false)?;
     let command = option(alloc, command, "loglen", 'l', false)?;
     let command = flag(alloc, command, "force", 'f')?;
+    let command = long_option(alloc, command, "format")?;
     let command = long_option(alloc, command, "uuid")?;
     long_option(alloc, command, "system")
 }

@@ -12,8 +12,8 @@ ghost use Rattle.fam_journal.specs.declared.event.Ask.TheVariants as ask;
 
 use crate::simple::{is_given, value};
 use crate::values::{
-    attr_of, count_of, name_of, number_if_given, number_of, path_of, size_of, size_or, storm_size,
-    stripe_of, uuid_if_given,
+    attr_of, count_of, format_or_first, name_of, number_if_given, number_of, path_of, size_of,
+    size_or, storm_size, stripe_of, uuid_if_given,
 };
 use crate::wanted::{Invocation, Shot};
 use clap::ArgMatches;
@@ -31,6 +31,7 @@ pub(crate) fn mkfs(found: &ArgMatches<'_>) -> Option<Shot>
     Some(Shot::Mkfs {
         unit: size_or(DEFAULT_UNIT, value(found, "unit"))?,
         log: size_or(DEFAULT_LOG, value(found, "loglen"))?,
+        format: format_or_first(value(found, "format"))?,
         fs: uuid_if_given(value(found, "uuid"))?,
         force: is_given(found, "force"),
     })

@@ -2,13 +2,15 @@
 
 ghost use Rattle.std.specs.Prelude.{◌≡◌, ◌≤◌, IfOk, IfSome, option_map};
 ghost use Rattle.fam_base.specs.Commands.{IsSoundAttr, mode_limit, read_limit};
+ghost use Rattle.fam_format.specs.Params.{first_number};
 ghost use Rattle.uuid.specs.Text.{parsed};
 ghost use Rattle.fam_grammar.specs.Numbers.{number_of_text, size_of_text};
-ghost use Rattle.fam_grammar.specs.Spellings.{count_of, id_of, mode_of};
-ghost use Rattle.fam_words.specs.Values.{attr_of_texts, if_given, most_storm, name_of_text, needed, or_default, path_of_text, storm_size_of, stripe_of_texts};
+ghost use Rattle.fam_grammar.specs.Spellings.{count_of, format_of, id_of, mode_of};
+ghost use Rattle.fam_words.specs.Values.{IsFormat, attr_of_texts, if_given, most_storm, name_of_text, needed, or_default, path_of_text, storm_size_of, stripe_of_texts};
 
 use fam_base::{Attr, NameText, OutOfMemory, Path, Stripe};
-use fam_grammar::{count_of as count, id_of as id, mode_of as mode, number, size};
+use fam_format::FIRST_FORMAT;
+use fam_grammar::{count_of as count, format_of, id_of as id, mode_of as mode, number, size};
 use std::alloc::Global;
 use uuid::Uuid;
 
@@ -19,6 +21,17 @@ pub(crate) fn size_or(default: u64, text: Option<&str>) -> Option<u64>
     match text {
         Some(text) => size(text.as_bytes()),
         None => Some(default),
+    }
+}
+
+/// The number of a format, or of the first one without it.
+pub(crate) fn format_or_first(text: Option<&str>) -> Option<u64>
+    ensures sound { IfSome result IsFormat }
+    ensures value { result ≡ or_default first_number format_of (option_map (λ s. s.now) text.entry) }
+{
+    match text {
+        Some(text) => format_of(text.as_bytes()),
+        None => Some(FIRST_FORMAT),
     }
 }
 

@@ -34,6 +34,8 @@ pub struct DupCall {
     pub unit: u64,
     /// The bytes of the copy's log.
     pub log: u64,
+    /// The copy's format.
+    pub format: u64,
     /// The UUID of the copy, where one is given.
     pub fs: Option<Uuid>,
     /// Whether a superblock that reads is written over.
@@ -67,12 +69,13 @@ pub enum Invocation {
 /// A command of its own.
 #[derive(Drop)]
 pub enum Shot {
-    /// Make a file system with units of `unit` bytes and a log of `log` bytes, with a fresh UUID where `fs` is `None`,
-    /// and over a superblock that reads only where it is forced.
+    /// Make a file system of a format, with units of `unit` bytes and a log of `log` bytes, with a fresh UUID where `fs`
+    /// is `None`, and over a superblock that reads only where it is forced.
     Mkfs {
         fs: Option<Uuid>,
         unit: u64,
         log: u64,
+        format: u64,
         force: bool,
     },
     /// Run a command on the log.

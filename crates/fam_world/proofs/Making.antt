@@ -10,7 +10,7 @@ use Rattle.fam_base.specs.Image.{Image}
 use Rattle.fam_machine.specs.declared.request.MkfsRequest.{MkfsRequest}
 use Rattle.fam_format.specs.Layout.{gate_line, least_lines, log_line}
 use Rattle.fam_format.proofs.UnitPowers.{unit_told}
-use Rattle.fam_format.specs.Params.{IsUuid, is_log_length, is_unit}
+use Rattle.fam_format.specs.Params.{is_log_length, is_unit}
 use Rattle.fam_media.specs.Causes.{Rose}
 use Rattle.fam_media.specs.Outside.{IfModelled}
 use Rattle.fam_media.specs.States.{media_change}
@@ -31,7 +31,7 @@ use Rattle.fam_mkfs.specs.Parts.{IsElsewhere}
 use Rattle.fam_journal.specs.declared.refusal.Refusal.{Refusal}
 use Rattle.fam_journal.specs.declared.refusal.Refusal.TheVariants as why
 use Rattle.fam_journal.specs.Calls as call
-use Rattle.fam_journal.specs.Calls.{AtNumber, BreaksOff, CutsAt, HaltsMaking, MakesCut, MakesFileSystem, MakesOrHalts, Meets, OnHost, number_of}
+use Rattle.fam_journal.specs.Calls.{AtNumber, BreaksOff, CutsAt, HaltsMaking, IsSoundRequest, MakesCut, MakesFileSystem, MakesOrHalts, Meets, OnHost, number_of}
 use Rattle.fam_journal.specs.CallRecords.{Answers, CallBreaks, CallKeeps, FitsMedia, HostFits, IsLateMake, KeepsOrBreaks, MakeCall, heading}
 use Rattle.fam_journal.specs.Ends.{HasCounted, cause_faults}
 use Rattle.fam_journal.specs.Forms.{HostFormed, IsFormed, Pairs, forms_behind, forms_of, made_note}
@@ -118,7 +118,7 @@ wide_of unit log lines free =
     let early = early_free unit log (line_bytes * lines) (none_before (early_refusal unit log (line_bytes * lines)) free) in
     omega (arith, early.1, (unit_told unit (both_first (is_unit unit) (is_log_length unit log) early.0)).least)
 
-module _ (name : List ℕ) (request : MkfsRequest) (is_uuid : IsUuid request.fs) (lines : ℕ) (old : WorldView) where
+module _ (name : List ℕ) (request : MkfsRequest) (is_sound : IsSoundRequest request) (lines : ℕ) (old : WorldView) where
   abbrev c : call.Call
   c = call.Makes name request
 
@@ -127,7 +127,7 @@ module _ (name : List ℕ) (request : MkfsRequest) (is_uuid : IsUuid request.fs)
       → MakeCall c lines (Some cause) (media_change told faults told faults) old new
   make_refused told faults new cause modelled refused hosts journal = record {
     answers = refused_answers c lines faults old new cause refused hosts journal (λ is. refused_make name request lines old is cause refused.first);
-    leaves = λ start. leaves_refused cause c start told told old new refused.faultless (refused_keeps c lines start told old new cause is_uuid modelled refused.first hosts journal);
+    leaves = λ start. leaves_refused cause c start told told old new refused.faultless (refused_keeps c lines start told old new cause is_sound modelled refused.first hosts journal);
   }
 
   module _ (at : ℕ) (view : HostView) (number : number_in name old ≡ Some at) (free : refusal_in c old lines ≡ None) (within : at < length old.hosts) (view_is : slice_get old.hosts at ≡ Some view)
@@ -191,7 +191,7 @@ module _ (name : List ℕ) (request : MkfsRequest) (is_uuid : IsUuid request.fs)
           let acts : MakesFileSystem at p request.force h.0 state (Made at p ∷ []) left =
           record { free = ap (λ (x : Machine). goes_on request.force (superblock_found p x)) same ∙ made.done.free state.memory told_is; notes_are = refl; left = refl } in
           row_kept start state old held c lines (modelled state.memory told_is) at view number free view_is new now (Made at p ∷ []) left (λ x. x)
-          (inl (subst (λ (o : Option ℕ). MakesOrHalts o at (asked request h.0.uuid (length state.memory)) request.force h.0 state (Made at p ∷ []) left) (sym made.unhalted) (subst (λ (q : Params). MakesFileSystem at q request.force h.0 state (Made at p ∷ []) left) (sym ps) acts))) is_uuid
+          (inl (subst (λ (o : Option ℕ). MakesOrHalts o at (asked request h.0.uuid (length state.memory)) request.force h.0 state (Made at p ∷ []) left) (sym made.unhalted) (subst (λ (q : Params). MakesFileSystem at q request.force h.0 state (Made at p ∷ []) left) (sym ps) acts))) is_sound
           (m.image ∙ ap (λ (x : Machine). Some x.image) (sym zm)) journal (stands start state told_is held z (m.cache ∙ ap (λ (x : Machine). x.cache) (sym zm)))
 
       pub made_call : MakeCall c lines None (media_change told faults now faults_now) old new
@@ -214,7 +214,7 @@ module _ (name : List ℕ) (request : MkfsRequest) (is_uuid : IsUuid request.fs)
           let acts : HaltsMaking at p request.force k h.0 state (Cut at k ∷ []) left =
           record { free = ap (λ (x : Machine). goes_on request.force (superblock_found p x)) same ∙ halts.done.free state.memory told_is; notes_are = refl; left = refl } in
           row_kept start state old held c lines (modelled state.memory told_is) at view number free view_is new now (Cut at k ∷ []) left (λ x. x)
-          (inl (subst (λ (o : Option ℕ). MakesOrHalts o at (asked request h.0.uuid (length state.memory)) request.force h.0 state (Cut at k ∷ []) left) (sym halts.asked) (subst (λ (q : Params). HaltsMaking at q request.force k h.0 state (Cut at k ∷ []) left) (sym ps) acts))) is_uuid
+          (inl (subst (λ (o : Option ℕ). MakesOrHalts o at (asked request h.0.uuid (length state.memory)) request.force h.0 state (Cut at k ∷ []) left) (sym halts.asked) (subst (λ (q : Params). HaltsMaking at q request.force k h.0 state (Cut at k ∷ []) left) (sym ps) acts))) is_sound
           (m.image ∙ ap (λ (x : Machine). Some (operated_all (halted_ops k p) x).image) (sym same)) journal (stands start state told_is held z lost)
 
       pub halted_call : MakeCall c lines None (media_change told faults now faults_now) old new
@@ -240,7 +240,7 @@ module _ (name : List ℕ) (request : MkfsRequest) (is_uuid : IsUuid request.fs)
           let acts : Meets at p request.force name h.0 state notes left =
           record { unforced = found_is.unforced; other = names.other; stands = ap (λ (x : Machine). superblock_found p x) same ∙ names.reads; notes_are = ap (λ (u : List ℕ). Refused name (why.HasSuper u) ∷ []) names.named; left = refl } in
           row_kept start state old held c lines (modelled state.memory told_is) at view number free view_is new now notes left (λ x. x)
-          (inr (subst (λ (q : Params). Meets at q request.force name h.0 state notes left) (sym ps) acts)) is_uuid
+          (inr (subst (λ (q : Params). Meets at q request.force name h.0 state notes left) (sym ps) acts)) is_sound
           (m.image ∙ ap (λ (x : Machine). Some x.image) (sym zm)) journal (stands start state told_is held z (m.cache ∙ ap (λ (x : Machine). x.cache) (sym zm)))
 
       pub found_call : MakeCall c lines (Some (why.HasSuper id)) (media_change told faults now faults_now) old new
@@ -279,7 +279,7 @@ module _ (name : List ℕ) (request : MkfsRequest) (is_uuid : IsUuid request.fs)
             joined = journal;
             stands = stands start state told_is held cut.left cut.is.cache;
             legal = subst (λ (j : List Note). Rattle.fam_journal.specs.Legal.Legal start j) (sym journal) (cut_legal start state left old c notes held row);
-            reads = cut_reads_as start state left old c notes held is_uuid row;
+            reads = cut_reads_as start state left old c notes held is_sound row;
           }
 
       pub cut_call : MakeCall c lines (Some (why.MediaFault line)) (media_change told faults now faults_now) old new

@@ -103,6 +103,7 @@ answer_told (answer.BadSuper field found wanted) reply is = cc
 answer_told (answer.BadLog field found wanted) reply is = cc
 answer_told (answer.BadEntry seq reason) reply is = cc
 answer_told (answer.NotMaster me master) reply is = cc
+answer_told (answer.LongPath limit) reply is = cc
 answer_told answer.BadStripe reply is = cc
 answer_told (answer.Exists kind) reply is = cc
 answer_told answer.NoParent reply is = cc

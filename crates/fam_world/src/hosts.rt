@@ -43,11 +43,12 @@ pub(crate) fn retire(
     ensures task { task.new ≡ None }
     ensures kept { kept.new ≡ kept_in task.old kept.old }
 {
-    if let Some(task) = task.take() {
-        let (left, found) = task.into_parts();
+    if let Some(over) = task {
+        let (left, found) = over.take_parts();
         *kept = left;
         *replica = found;
     }
+    *task = None;
 }
 
 /// A command before its first operation, on a host that keeps this, and an image of so many lines.
@@ -63,30 +64,18 @@ fn task_on(alloc: Global, cmd: Cmd, me: Uuid, lines: u64, kept: Option<Kept>) ->
     }
 }
 
-/// The next command of a host. The task takes what the host keeps; from the host's second one on it keeps what it reads.
-fn next_task(
-    alloc: Global,
-    kept: &mut Option<Kept>,
-    replica: &mut Option<Replica>,
-    has_begun: &mut bool,
-    cmd: Cmd,
-    me: Uuid,
-    lines: u64,
-) -> Task
-    requires command { IsSoundCmd cmd }
-    requires least { least_lines ≤ lines }
-    requires most { lines ≤ most_lines }
-    ensures { result ≡ mounted kept.old cmd me lines }
+/// From a host's second command on the task keeps what it reads.
+fn remember(task: &mut Option<Task>, replica: &mut Option<Replica>, has_begun: &mut bool)
+    ensures { task.new ≡ task.old }
 {
-    let mut task = task_on(alloc, cmd, me, lines, kept.take());
-    if *has_begun {
+    if *has_begun && let Some(task) = task {
         task.remember(replica.take());
     }
     *has_begun = true;
-    task
 }
 
-/// A host begins a command on an image of so many lines, with what it keeps.
+/// A host begins a command on an image of so many lines, with what it keeps. The task stands in the host from the start,
+/// since it is large.
 fn begin_on(alloc: Global, host: &mut Host, lines: u64, cmd: Cmd)
     requires command { IsSoundCmd cmd }
     requires least { least_lines ≤ lines }
@@ -94,16 +83,8 @@ fn begin_on(alloc: Global, host: &mut Host, lines: u64, cmd: Cmd)
     ensures { host_view host.new ≡ record (host_view host.old) { task = Some (mounted (host_view host.old).kept cmd host.old.uuid lines) } }
 {
     end_on(host);
-    let task = next_task(
-        alloc,
-        &mut host.kept,
-        &mut host.replica,
-        &mut host.has_begun,
-        cmd,
-        host.uuid,
-        lines,
-    );
-    host.task = Some(task);
+    host.task = Some(task_on(alloc, cmd, host.uuid, lines, host.kept.take()));
+    remember(&mut host.task, &mut host.replica, &mut host.has_begun);
 }
 
 /// A host's task is over, if it has one.

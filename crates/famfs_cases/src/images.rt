@@ -1,6 +1,6 @@
 //! Statements that change the image.
 
-ghost use Rattle.std.specs.Prelude.{◌<◌};
+ghost use Rattle.std.specs.Prelude.{◌<◌, ◌≤◌, ◌^◌};
 
 use crate::bytes::{push, put};
 use crate::state::{State, first_lines, line_at, put_line};
@@ -8,7 +8,8 @@ use crate::stop::Stop;
 use crate::words::Words;
 use fam_base::{Entry, LineNo};
 use fam_crc::crc_words;
-use fam_entry::{SLOT_WORDS, spell};
+use fam_entry::spell;
+use fam_format::{FIRST_FORMAT, LOG_LINE, SECOND_FORMAT, shape_of};
 use fam_media::{Media, MemMedia};
 use fam_tree::{ListingFault, read_listing};
 use std::alloc::Global;
@@ -19,15 +20,6 @@ const LINE_LIMIT: u64 = 1_048_577;
 
 /// One more than the number of the last slot of any log.
 const SLOT_LIMIT: u64 = 131_072;
-
-/// The line of the log's header.
-const LOG_LINE: u64 = 32_768;
-
-/// The first line of slot 0.
-const FIRST_SLOT_LINE: u64 = 32_776;
-
-/// The lines of a slot.
-const SLOT_LINES: u64 = 8;
 
 /// An image of zeros.
 fn image(alloc: Global, state: &mut State, words: &mut Words<'_>) -> Result<(), Stop> {
@@ -120,14 +112,35 @@ pub fn listed_entry(alloc: Global, words: &mut Words<'_>) -> Result<Entry, Stop>
     }
 }
 
-/// Writes the words of a slot.
-fn put_slot(media: &mut MemMedia, slot: u64, words: &[u64; SLOT_WORDS]) -> bool
-    requires { slot < SLOT_LIMIT }
+/// The format that the superblock's version names, the first one where it names none.
+fn format_of(media: &MemMedia) -> u64 {
+    match line_at(media, 1) {
+        Some(line) if line[0] == SECOND_FORMAT => SECOND_FORMAT,
+        _ => FIRST_FORMAT,
+    }
+}
+
+/// The first line of a slot.
+fn slot_line(slot: u64, lines: u64) -> u64
+    requires slot { slot < SLOT_LIMIT }
+    requires few { lines ≤ 16 }
+    ensures { result < 2 ^ 32 }
 {
-    for i in 0..8 {
+    LOG_LINE + lines + lines * slot
+}
+
+/// Writes the words of a slot, which has so many lines.
+fn put_slot(media: &mut MemMedia, slot: u64, lines: u64, words: &[u64]) -> bool
+    requires slot { slot < SLOT_LIMIT }
+    requires few { lines ≤ 16 }
+{
+    for j in 0..lines {
+        let first = 8 * j as usize;
         let mut line = [0; 8];
-        line.copy_from_slice(&words[8 * i..8 * i + 8]);
-        if !put_line(media, FIRST_SLOT_LINE + SLOT_LINES * slot + i as u64, &line) {
+        if let Some(part) = words.get(first..first + 8) {
+            line.copy_from_slice(part);
+        }
+        if !put_line(media, slot_line(slot, lines) + j, &line) {
             return false;
         }
     }
@@ -139,7 +152,10 @@ fn entry(alloc: Global, state: &mut State, words: &mut Words<'_>) -> Result<(), 
     let slot = words.below(SLOT_LIMIT)?;
     let seq = words.number()?;
     let entry = listed_entry(alloc, words)?;
-    if put_slot(&mut state.media, slot, &spell(&entry, seq)) {
+    let format = format_of(&state.media);
+    let spelling = spell(&entry, seq, format);
+    let lines = shape_of(format).lines;
+    if put_slot(&mut state.media, slot, lines, spelling.words()) {
         Ok(())
     } else {
         Err(words.refused())
@@ -174,7 +190,8 @@ fn mend(alloc: Global, state: &mut State, words: &mut Words<'_>) -> Result<(), S
         b"log" => (LOG_LINE, 1),
         b"slot" => {
             let slot = words.below(SLOT_LIMIT)?;
-            (FIRST_SLOT_LINE + SLOT_LINES * slot, SLOT_LINES)
+            let lines = shape_of(format_of(&state.media)).lines;
+            (slot_line(slot, lines), lines)
         }
         _ => return Err(words.bad(part.column)),
     };

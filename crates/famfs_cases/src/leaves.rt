@@ -12,6 +12,7 @@ use fam_base::{Content, HostName, Line, Path, escape, strip_units, units_of};
 use fam_content::ContentStream;
 use fam_crc::crc_more;
 use fam_entry::spell;
+use fam_format::FIRST_FORMAT;
 use fam_grammar::{LineFault, read_line};
 use fam_top::image_of;
 use fam_tree::{ListingFault, read_listing};
@@ -169,8 +170,8 @@ fn listing(
 fn spelled(alloc: Global, words: &mut Words<'_>, into: &mut Vec<u8>) -> Result<(), Stop> {
     let seq = words.number()?;
     let entry = listed_entry(alloc, words)?;
-    let spelling = spell(&entry, seq);
-    for line in spelling.chunks(8) {
+    let spelling = spell(&entry, seq, FIRST_FORMAT);
+    for line in spelling.words().chunks(8) {
         put_words(alloc, into, line)?;
     }
     Ok(())

@@ -23,7 +23,7 @@ use Rattle.fam_format.specs.Log.{log_magic, log_crc, field_fault, log_fault, gat
 use Rattle.fam_format.specs.Tree.{Tree, replay}
 use Rattle.fam_rules.specs.declared.answers.Refused.{Refused}
 use Rattle.fam_rules.specs.declared.answers.Refused.TheVariants.{BadStripe, Exists, NoParent, ParentIsFile, NoSpace}
-use Rattle.fam_rules.specs.Decide.{Wish, Room, master_refusal, stripe_refusal, exists_refusal, file_refusal, found_refusal, parent_refusal, full_refusal, no_room_needed, room_or, room_by, room_for, entry_for, entry_or, decide_wish}
+use Rattle.fam_rules.specs.Decide.{Wish, Room, early_refusal, stripe_refusal, exists_refusal, file_refusal, found_refusal, parent_refusal, full_refusal, no_room_needed, room_or, room_by, room_for, entry_for, entry_or, decide_wish}
 use Rattle.fam_rules.specs.Reports.{Survey, super_report, log_report, report_by}
 use Rattle.fam_rules.specs.Reply as reply
 use Rattle.fam_commands.specs.Turns.{super_fault_reply, log_fault_reply}
@@ -234,11 +234,11 @@ module _ (p : Params) (me : List ℕ) (list : List Entry) (w : Wish) where
   abbrev striped : Result Entry Refused
   striped = stop (stripe_refusal p w.stripe) absent
 
-  -- a host that is the master is refused at the decision
-  pub refused_late : (g : Geometry) (first n : ℕ) → master_refusal p me ≡ None → (r : Refused) → decide_wish p me list w ≡ Err r → refused_steps g first n r ≡ decided_steps g first n
+  -- what isn't refused early is refused at the decision
+  pub refused_late : (g : Geometry) (first n : ℕ) → early_refusal p me w.path ≡ None → (r : Refused) → decide_wish p me list w ≡ Err r → refused_steps g first n r ≡ decided_steps g first n
   unfolding decide_wish
-  refused_late g first n master =
-      stop_err (AtDecision g first n) (master_refusal p me) striped (λ r h. absurd (let z : None ≡ Some r = sym master ∙ h in cc))
+  refused_late g first n early =
+      stop_err (AtDecision g first n) (early_refusal p me w.path) striped (λ r h. absurd (let z : None ≡ Some r = sym early ∙ h in cc))
       (stop_err (AtDecision g first n) (stripe_refusal p w.stripe) absent (stripe_late g first n p w.stripe)
       (stop_err (AtDecision g first n) (exists_refusal (finmap.get (replay list) w.path)) has_parent (exists_late g first n (finmap.get (replay list) w.path))
       (stop_err (AtDecision g first n) (parent_refusal (replay list) (parent_of w.path)) not_full (parent_late g first n (replay list) (parent_of w.path))
@@ -258,4 +258,4 @@ module _ (p : Params) (me : List ℕ) (list : List Entry) (w : Wish) where
       (stop_ok (parent_refusal (replay list) (parent_of w.path)) not_full e
       (stop_ok (exists_refusal (finmap.get (replay list) w.path)) has_parent e
       (stop_ok (stripe_refusal p w.stripe) absent e
-      (stop_ok (master_refusal p me) striped e h)))))
+      (stop_ok (early_refusal p me w.path) striped e h)))))

@@ -1,5 +1,5 @@
 -- How many lines of a file a command reads or writes, and how many operations that takes.
-use Rattle.std.proofs.Common.{ℕ, ◌≡◌, ◌<◌, ◌+◌, ◌-◌, ◌*◌, ◌/◌, List, Option, Some, None, Ok, Err, sym, ◌∙◌, ap, arith}
+use Rattle.std.proofs.Common.{ℕ, ◌≡◌, ◌<◌, ◌+◌, ◌*◌, ◌/◌, List, Option, Some, None, Ok, Err, sym, ◌∙◌, ap, arith}
 use Rattle.std.specs.Prelude.{find, option_map}
 use Rattle.std.specs.FinMap as finmap
 use Rattle.fam_base.specs.declared.cmd.Cmd.{Cmd}
@@ -22,28 +22,28 @@ use Rattle.fam_commands.specs.Table.{fed_gate, fed_slots, entries_read, params_o
 use Rattle.fam_commands.specs.Counts.{decided_steps, line_steps, refused_steps, wish_lines, file_lines, told_entries, append_steps}
 use Rattle.fam_commands.proofs.Counted.Ends.{refused_late, decided_size}
 use Rattle.fam_commands.proofs.Rows.Slots.{ReadsLog, read_of}
-use Rattle.fam_commands.proofs.Steps.Ties.{HasSlots}
-use Rattle.fam_format.specs.Layout.{first_format}
+use Rattle.fam_commands.proofs.Steps.Ties.{HasSlots, decided_and}
+use Rattle.fam_format.specs.Layout.{Geometry, geometry}
 
 -- the decision, by the gate
-pub decided_at : (g f n gate made : ℕ) → g ≡ f → n ≡ gate → made ≡ 32 + 73 * (gate - f) → made ≡ decided_steps first_format g n
-decided_at g f n gate made from is at_made = omega arith
+pub decided_at : (p : Params) (s : Geometry) (g f n gate made : ℕ) → s ≡ geometry p → g ≡ f → n ≡ gate → made ≡ decided_and p f gate 0 → made ≡ decided_steps s g n
+decided_at p s g f n gate made same from is at_made = rw (same, from, is) (omega arith)
 
 -- no line of a file
-pub without_lines : (g n d k made : ℕ) → made ≡ decided_steps first_format g n → d ≡ k → k ≡ 0 → made ≡ decided_steps first_format g n + line_steps * d
-without_lines g n d k made at_made is none = omega arith
+pub without_lines : (s : Geometry) (g n d k made : ℕ) → made ≡ decided_steps s g n → d ≡ k → k ≡ 0 → made ≡ decided_steps s g n + line_steps * d
+without_lines s g n d k made at_made is none = omega arith
 
 -- all lines of a file
-pub with_lines : (g f n gate d k made : ℕ) → g ≡ f → n ≡ gate → d ≡ k → made ≡ 32 + 73 * (gate - f) + 9 * k → made ≡ decided_steps first_format g n + line_steps * d
-with_lines g f n gate d k made from at_gate is at_made = omega arith
+pub with_lines : (p : Params) (s : Geometry) (g f n gate d k made : ℕ) → s ≡ geometry p → g ≡ f → n ≡ gate → d ≡ k → made ≡ decided_and p f gate 0 + 9 * k → made ≡ decided_steps s g n + line_steps * d
+with_lines p s g f n gate d k made same from at_gate is at_made = rw (same, from, at_gate, is) (omega arith)
 
 -- up to the line that holds a byte
-pub up_to_line : (g f n gate j b made : ℕ) → g ≡ f → n ≡ gate → b < 64 → made ≡ 32 + 73 * (gate - f) + (9 * j + 9) → made ≡ decided_steps first_format g n + line_steps * ((64 * j + b) / 64 + 1)
-up_to_line g f n gate j b made from at_gate inside at_made = omega arith
+pub up_to_line : (p : Params) (s : Geometry) (g f n gate j b made : ℕ) → s ≡ geometry p → g ≡ f → n ≡ gate → b < 64 → made ≡ decided_and p f gate 0 + (9 * j + 9) → made ≡ decided_steps s g n + line_steps * ((64 * j + b) / 64 + 1)
+up_to_line p s g f n gate j b made same from at_gate inside at_made = rw (same, from, at_gate) (omega arith)
 
 -- the whole append
-pub appended_at : (g f n gate d k made : ℕ) → g ≡ f → n ≡ gate → d ≡ k → made ≡ 107 + 73 * (gate - f) + 9 * k → made + 1 ≡ decided_steps first_format g n + append_steps first_format d
-appended_at g f n gate d k made from at_gate is at_made = omega arith
+pub appended_at : (p : Params) (s : Geometry) (g f n gate d k made : ℕ) → s ≡ geometry p → g ≡ f → n ≡ gate → d ≡ k → made ≡ decided_and p f gate (line_steps * (geometry p).lines + 3) + 9 * k → made + 1 ≡ decided_steps s g n + append_steps s d
+appended_at p s g f n gate d k made same from at_gate is at_made = rw (same, from, at_gate, is) (omega arith)
 
 -- The entries that the words tell.
 
@@ -70,13 +70,13 @@ read_file_lines path offset count entries told e is lookups found = ap (wanted_l
 -- What is decided.
 
 module _ (p : Params) (me : List ℕ) (list : List Entry) where
-  refused_by : (g n : ℕ) (r : Refused) (o : Option Wish) → host_refusal o p me ≡ None → option_map (decide_wish p me list) o ≡ Some (Err r) → refused_steps first_format g n r ≡ decided_steps first_format g n
-  refused_by g n r None host is = absurd cc
-  refused_by g n r (Some w) host is = refused_late p me list w first_format g n host r cc
+  refused_by : (s : Geometry) (g n : ℕ) (r : Refused) (o : Option Wish) → host_refusal o p me ≡ None → option_map (decide_wish p me list) o ≡ Some (Err r) → refused_steps s g n r ≡ decided_steps s g n
+  refused_by s g n r None host is = absurd cc
+  refused_by s g n r (Some w) host is = refused_late p me list w s g n host r cc
 
   -- a refusal that isn't the host's comes with the decision
-  pub refused_at : (g n : ℕ) (r : Refused) (cmd : Cmd) → host_refusal (wish_of cmd) p me ≡ None → decide p me list cmd ≡ Some (Err r) → refused_steps first_format g n r ≡ decided_steps first_format g n
-  refused_at g n r cmd host is = refused_by g n r (wish_of cmd) host is
+  pub refused_at : (s : Geometry) (g n : ℕ) (r : Refused) (cmd : Cmd) → host_refusal (wish_of cmd) p me ≡ None → decide p me list cmd ≡ Some (Err r) → refused_steps s g n r ≡ decided_steps s g n
+  refused_at s g n r cmd host is = refused_by s g n r (wish_of cmd) host is
 
   lines_by_wish : (e : Entry) (o : Option Wish) → option_map (decide_wish p me list) o ≡ Some (Ok e) → wish_lines o ≡ lines_of e.size
   lines_by_wish e None is = absurd cc

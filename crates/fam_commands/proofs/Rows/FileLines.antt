@@ -1,5 +1,5 @@
 -- The rows of a file that is read.
-use Rattle.std.proofs.Common.{ℕ, ◌≡◌, ◌<◌, ◌≤◌, ◌+◌, ◌-◌, ◌*◌, ◌⊎◌, inl, inr, Bool, true, false, cond, List, [], ◌∷◌, ◌++◌, length, map, drop, Option, Some, refl, sym, ◌∙◌, ap, arith}
+use Rattle.std.proofs.Common.{ℕ, ◌≡◌, ◌<◌, ◌≤◌, ◌+◌, ◌*◌, ◌⊎◌, inl, inr, Bool, true, false, cond, List, [], ◌∷◌, ◌++◌, length, map, drop, Option, Some, refl, sym, ◌∙◌, ap, arith}
 use Rattle.std.specs.Prelude.{slice_get, if◌then◌else◌, find, option_map}
 use Rattle.std.proofs.lemmas.Bool.{cases_lt, and_from, lt-ltb}
 use Rattle.std.proofs.lemmas.List.{append-nil}
@@ -24,7 +24,7 @@ use Rattle.fam_commands.proofs.ListPlaces.{piece_at}
 use Rattle.fam_commands.proofs.Rows.Numbered.{row, row_before, row_last, length-rows, load_word, if_below, if_past}
 use Rattle.fam_commands.proofs.Rows.Head.{Here}
 use Rattle.fam_commands.proofs.Rows.Slots.{ReadsLog, tail_at}
-use Rattle.fam_commands.proofs.Steps.Ties.{TaskSlots, FileKnown, note_at, line_end}
+use Rattle.fam_commands.proofs.Steps.Ties.{TaskSlots, FileKnown, note_at, line_end, decided_and}
 
 -- the first of a map is the map of the first
 find-map_more : {A B : Type 0} (test : B → Bool) (f : A → B) (x : A) (xs : List A) (b : Bool) → find test (map f xs) ≡ option_map f (find (λ y. test (f y)) xs) → cond b (Some (f x)) (find test (map f xs)) ≡ option_map f (cond b (Some x) (find (λ y. test (f y)) xs))
@@ -60,8 +60,8 @@ pub record IsReading (cmd : Cmd) (entries : List Entry) (entry : Option Entry) :
   pub last : (me : List ℕ) (words : List ℕ) (p : Params) (first : ℕ) → last_rows cmd me words p first entries ≡ file_rows cmd words p first entries e
 
 -- a task at a file reads this file
-pub reading_of : (cmd : Cmd) (f gate : ℕ) (entries : List Entry) (entry : Option Entry) (words : List ℕ) (j : ℕ) → FileKnown cmd f gate entries entry words j → IsReading cmd entries entry
-reading_of (Verify path against) f gate entries entry words j (e, chosen, same, long) =
+pub reading_of : (cmd : Cmd) (p : Params) (f gate : ℕ) (entries : List Entry) (entry : Option Entry) (words : List ℕ) (j : ℕ) → FileKnown cmd p f gate entries entry words j → IsReading cmd entries entry
+reading_of (Verify path against) q f gate entries entry words j (e, chosen, same, long) =
     record {
       reads = tt;
       e = e;
@@ -69,7 +69,7 @@ reading_of (Verify path against) f gate entries entry words j (e, chosen, same, 
       last = λ me ws p first. file_last (Verify path against) ws p first entries (file_at (fed_files ws p first (Verify path against) entries) path) (told_file (Verify path against) ws p first entries e)
           (told_at (Verify path against) ws p first entries path ∙ ap (option_map (told_file (Verify path against) ws p first entries)) chosen.found) chosen.file chosen.fits chosen.some;
     }
-reading_of (Read path offset count) f gate entries entry words j (e, chosen) =
+reading_of (Read path offset count) q f gate entries entry words j (e, chosen) =
     record {
       reads = tt;
       e = e;
@@ -77,18 +77,18 @@ reading_of (Read path offset count) f gate entries entry words j (e, chosen) =
       last = λ me ws p first. file_last (Read path offset count) ws p first entries (file_at (fed_files ws p first (Read path offset count) entries) path) (told_file (Read path offset count) ws p first entries e)
           (told_at (Read path offset count) ws p first entries path ∙ ap (option_map (told_file (Read path offset count) ws p first entries)) chosen.found) chosen.file chosen.fits chosen.some;
     }
-reading_of cmd f gate entries entry words j known = absurd known
+reading_of cmd p f gate entries entry words j known = absurd known
 
 line_width : (cmd : Cmd) (words : List ℕ) (p : Params) (first : ℕ) (entries : List Entry) (e : Entry) (j : ℕ) → length (rows (load_ops (file_line e (first_line cmd + j)) 8) (line_note cmd words p first entries (wanted_lines cmd e.size) j)) ≡ 9
 line_width cmd words p first entries e j = length-rows (load_ops (file_line e (first_line cmd + j)) 8) (line_note cmd words p first entries (wanted_lines cmd e.size) j)
 
-module _ (t : Task) (words more : List ℕ) (h : TaskSlots t words t.gate) (j : ℕ) (known : FileKnown t.cmd (first_in t) t.gate t.entries t.entry words j) (within : j < wanted_lines t.cmd (size_of t.entry)) where
+module _ (t : Task) (words more : List ℕ) (h : TaskSlots t words t.gate) (j : ℕ) (known : FileKnown t.cmd t.params (first_in t) t.gate t.entries t.entry words j) (within : j < wanted_lines t.cmd (size_of t.entry)) where
   -- the words with those to come, and what the row has
   abbrev now : List ℕ
   now = words ++ more
 
   chosen : IsReading t.cmd t.entries t.entry
-  chosen = reading_of t.cmd (first_in t) t.gate t.entries t.entry words j known
+  chosen = reading_of t.cmd t.params (first_in t) t.gate t.entries t.entry words j known
 
   abbrev line : ℕ
   line = file_line chosen.e (first_line t.cmd + j)
@@ -97,7 +97,7 @@ module _ (t : Task) (words more : List ℕ) (h : TaskSlots t words t.gate) (j : 
   note = line_note t.cmd now t.params (first_in t) t.entries (wanted_lines t.cmd chosen.e.size) j
 
   -- row r of line j
-  line_at : (r m : ℕ) → r < 9 → m ≡ 32 + 73 * (t.gate - first_in t) + (9 * j + r) → slice_get (table t.kept t.cmd t.me t.lines now) m ≡ slice_get (rows (load_ops line 8) note) r
+  line_at : (r m : ℕ) → r < 9 → m ≡ decided_and t.params (first_in t) t.gate 0 + (9 * j + r) → slice_get (table t.kept t.cmd t.me t.lines now) m ≡ slice_get (rows (load_ops line 8) note) r
   line_at r m small is =
       tail_at t words more (9 * j + r) m chosen.reads h is
       ∙ ap (λ (l : List Row). slice_get l (9 * j + r)) (chosen.last t.me now t.params (first_in t) ∙ sym (append-nil (file_rows t.cmd now t.params (first_in t) t.entries chosen.e)))
@@ -105,14 +105,14 @@ module _ (t : Task) (words more : List ℕ) (h : TaskSlots t words t.gate) (j : 
       (omega (arith, ap (λ (o : Option Entry). wanted_lines t.cmd (size_of o)) chosen.is)) small refl
 
   -- a line of the file is dropped
-  pub file_drop_row : (made : ℕ) → made ≡ 32 + 73 * (t.gate - first_in t) + (9 * j + 0) → Here t words more made (op_at t (at.Drop File j)) Quiet
+  pub file_drop_row : (made : ℕ) → made ≡ decided_and t.params (first_in t) t.gate 0 + (9 * j + 0) → Here t words more made (op_at t (at.Drop File j)) Quiet
   file_drop_row made is =
       line_at 0 made (omega arith) is
       ∙ row_before (load_ops line 8) note 0 (Invalidate (line_no line)) (omega arith) refl
       ∙ ap (λ (o : Option Entry). Some (row (Invalidate (line_no (line_of o (first_line t.cmd + j)))) Quiet)) (sym chosen.is)
 
   -- a word of it is loaded
-  pub file_word_row : (k made : ℕ) → k < 8 → made ≡ 32 + 73 * (t.gate - first_in t) + (9 * j + (1 + k)) → Here t words more made (op_at t (at.Word File j k)) (note_at (at.Word File j k) t now)
+  pub file_word_row : (k made : ℕ) → k < 8 → made ≡ decided_and t.params (first_in t) t.gate 0 + (9 * j + (1 + k)) → Here t words more made (op_at t (at.Word File j k)) (note_at (at.Word File j k) t now)
   file_word_row k made small is = line_at (1 + k) made (omega arith) is ∙ by_word (cases_lt k 7)
     where
       word : slice_get (load_ops line 8) (1 + k) ≡ Some (Load (line_no line) k)

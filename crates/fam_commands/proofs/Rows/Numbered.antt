@@ -51,6 +51,10 @@ loads line n = flat_map (λ j. load_ops (line j) 8) (range_with_len 0 n)
 load_width : (line : ℕ → ℕ) (j : ℕ) → length (load_ops (line j) 8) ≡ 9
 load_width line j = refl
 
+-- nine operations a line that is loaded
+pub length-loads : (line : ℕ → ℕ) (n : ℕ) → length (loads line n) ≡ 9 * n
+length-loads line n = length-pieces (λ j. load_ops (line j) 8) 9 (load_width line) 0 n
+
 -- a load in the operations of a line
 pub load_word : (line k : ℕ) → k < 8 → slice_get (load_ops line 8) (1 + k) ≡ Some (Load (line_no line) k)
 load_word line k below =

@@ -1,16 +1,17 @@
 -- What comes of the operations of an append, and of its decision.
-use Rattle.std.proofs.Common.{ℕ, ◌≡◌, ◌<◌, ◌≤◌, ◌+◌, ◌-◌, ◌*◌, inl, inr, Bool, cond, List, Option, Some, Result, Ok, Err, refl, sym, ◌∙◌, ap, subst, arith}
+use Rattle.std.proofs.Common.{ℕ, ◌≡◌, ◌<◌, ◌≤◌, ◌+◌, inl, inr, Bool, cond, List, Option, Some, Result, Ok, Err, refl, sym, ◌∙◌, ap, subst, arith}
 use Rattle.std.proofs.lemmas.Bool.{cases_lt, cases_eq, eq-eqb, ne_eqb}
 use Rattle.fam_base.specs.declared.entry.Entry.{Entry}
 use Rattle.fam_format.specs.Layout.{geometry}
 use Rattle.fam_format.specs.Slot.{spelling}
+use Rattle.fam_format.proofs.Formats.{shape}
 use Rattle.fam_rules.specs.declared.answers.Refused.{Refused}
 use Rattle.fam_rules.specs.Decide.{decide}
 use Rattle.fam_rules.specs.Reply as reply
 use Rattle.fam_rules.specs.Written.{lines_of}
 use Rattle.fam_commands.specs.declared.phase.Phase.{Phase}
 use Rattle.fam_commands.specs.declared.phase.Phase.TheVariants as at
-use Rattle.fam_commands.proofs.Steps.UsedTold.{first_told, first_told_is, used_told_by}
+use Rattle.fam_commands.proofs.Steps.UsedTold.{first_told, first_told_is, used_told_by, shape_told, shape_told_is}
 use Rattle.fam_commands.specs.Task.{Task, first_in, size_of}
 use Rattle.fam_commands.specs.Turns.{Goes, Ends, first_store, append_turn, store_or_send, data_or_slot, slot_or_fence}
 use Rattle.fam_commands.specs.Table.{Quiet, Answer, append_note, fed_gate}
@@ -18,7 +19,7 @@ use Rattle.fam_commands.proofs.Rows.Numbered.{if_below, if_past}
 use Rattle.fam_commands.proofs.Counted.Files.{decided_at, refused_at, appended_at, appended_lines}
 use Rattle.fam_commands.specs.Counts.{file_lines, told_entries}
 use Rattle.fam_commands.proofs.Steps.Outcomes.{Outcome, goes_on, still_tied, ends}
-use Rattle.fam_commands.proofs.Steps.Ties.{TaskSlots, IsAppending, TieAt, new_lines}
+use Rattle.fam_commands.proofs.Steps.Ties.{TaskSlots, IsAppending, TieAt, new_lines, decided_and}
 
 -- the append of a task whose place changes
 appending_at : (t : Task) (phase : Phase) (words : List ℕ) → IsAppending t words → IsAppending (record t { phase = phase }) words
@@ -30,23 +31,23 @@ at_phase t phase words made tie = goes_on t (record t { phase = phase }) words m
 
 -- The decision.
 
-first_store_tie : (t : Task) (phase : Phase) (words : List ℕ) (e : Entry) (made : ℕ) → t.entry ≡ Some e → IsAppending t words → made ≡ 32 + 73 * (t.gate - first_in t) → TieAt (first_store e.size) (record t { phase = phase }) words made
+first_store_tie : (t : Task) (phase : Phase) (words : List ℕ) (e : Entry) (made : ℕ) → t.entry ≡ Some e → IsAppending t words → made ≡ decided_and t.params (first_in t) t.gate 0 → TieAt (first_store e.size) (record t { phase = phase }) words made
 first_store_tie t phase words e made is a at_made =
     let lines : new_lines t ≡ lines_of e.size = ap (λ (o : Option Entry). lines_of (size_of o)) is in
     elim (cases_eq e.size 0) [
       | inl none ↦
           subst (λ (b : Bool). TieAt (cond b (at.StoreSlot 0 0) (at.StoreData 0 0)) (record t { phase = phase }) words made) (sym (eq-eqb e.size 0 none))
-          (appending_at t phase words a, omega arith, omega arith, omega (arith, ap lines_of none))
+          (appending_at t phase words a, omega (arith, (shape t.params).lines), omega arith, omega (arith, ap lines_of none))
       | inr some ↦
           subst (λ (b : Bool). TieAt (cond b (at.StoreSlot 0 0) (at.StoreData 0 0)) (record t { phase = phase }) words made) (sym (ne_eqb e.size 0 some))
           (appending_at t phase words a, omega arith, omega arith, omega arith)
     ]
 
 -- an entry is to be appended, or the answer
-pub append_by : (t : Task) (words : List ℕ) (made : ℕ) (r : Result Entry Refused) → decide t.params t.me t.entries t.cmd ≡ Some r → TaskSlots t words t.gate → made ≡ 32 + 73 * (t.gate - first_in t) → Outcome t (append_turn t r) (append_note t.gate (Some r)) words made
+pub append_by : (t : Task) (words : List ℕ) (made : ℕ) (r : Result Entry Refused) → decide t.params t.me t.entries t.cmd ≡ Some r → TaskSlots t words t.gate → made ≡ decided_and t.params (first_in t) t.gate 0 → Outcome t (append_turn t r) (append_note t.gate (Some r)) words made
 append_by t words made (Err refused) is h at_made =
     ends t (reply.NotAppended refused) _ words made refl
-    (decided_at (first_told t words) (first_in t) (fed_gate words) t.gate made (first_told_is t words t.gate h) h.gated.gate_is at_made ∙ sym (refused_at t.params t.me t.entries (first_told t words) (fed_gate words) refused t.cmd h.gated.log.head.host is))
+    (decided_at t.params (shape_told t words) (first_told t words) (first_in t) (fed_gate words) t.gate made (shape_told_is t words t.gate h) (first_told_is t words t.gate h) h.gated.gate_is at_made ∙ sym (refused_at t.params t.me t.entries (shape_told t words) (first_told t words) (fed_gate words) refused t.cmd h.gated.log.head.host is))
 append_by t words made (Ok e) is h at_made =
     record {
       noted = refl;
@@ -83,7 +84,7 @@ send_data_step t words j made (a, below, is) =
           (appending_at t _ words a, less, omega arith, omega arith)
       | inr past ↦
           subst (λ (p : Phase). TieAt p (record t { phase = data_or_slot t j }) words (made + 1)) (sym (if_past (j + 1) (new_lines t) (at.StoreData (j + 1) 0) (at.StoreSlot 0 0) past))
-          (appending_at t _ words a, omega arith, omega arith, omega arith)
+          (appending_at t _ words a, omega (arith, (shape t.params).lines), omega arith, omega arith)
     ])
 
 -- a store into the slot
@@ -98,12 +99,12 @@ store_slot_step t words j k made (a, below, small, is) =
 pub send_slot_step : (t : Task) (words : List ℕ) (j made : ℕ) → TieAt (at.SendSlot j) t words made → Outcome t (Goes (record t { phase = slot_or_fence t j })) Quiet words (made + 1)
 send_slot_step t words j made (a, below, is) =
     at_phase t (slot_or_fence t j) words (made + 1)
-    (elim (cases_lt (j + 1) 8) [
+    (elim (cases_lt (j + 1) (geometry t.params).lines) [
       | inl less ↦
-          subst (λ (p : Phase). TieAt p (record t { phase = slot_or_fence t j }) words (made + 1)) (sym (if_below (j + 1) 8 (at.StoreSlot (j + 1) 0) at.FenceSlot less))
+          subst (λ (p : Phase). TieAt p (record t { phase = slot_or_fence t j }) words (made + 1)) (sym (if_below (j + 1) (geometry t.params).lines (at.StoreSlot (j + 1) 0) at.FenceSlot less))
           (appending_at t _ words a, less, omega arith, omega arith)
       | inr past ↦
-          subst (λ (p : Phase). TieAt p (record t { phase = slot_or_fence t j }) words (made + 1)) (sym (if_past (j + 1) 8 (at.StoreSlot (j + 1) 0) at.FenceSlot past))
+          subst (λ (p : Phase). TieAt p (record t { phase = slot_or_fence t j }) words (made + 1)) (sym (if_past (j + 1) (geometry t.params).lines (at.StoreSlot (j + 1) 0) at.FenceSlot past))
           (appending_at t _ words a, omega arith)
     ])
 
@@ -123,5 +124,5 @@ send_gate_step t words made (a, is) = at_phase t at.FenceGate words (made + 1) (
 pub fence_gate_step : (t : Task) (words : List ℕ) (made : ℕ) → TieAt at.FenceGate t words made → Outcome t (Ends (reply.Appended t.gate)) (Answer (reply.Appended t.gate)) words (made + 1)
 fence_gate_step t words made (a, is) =
     ends t (reply.Appended t.gate) _ words (made + 1) refl
-    (appended_at (first_told t words) (first_in t) (fed_gate words) t.gate (file_lines t.cmd (told_entries (used_told_by t words) words t.lines)) (new_lines t) made (first_told_is t words t.gate a.slots) a.slots.gated.gate_is
+    (appended_at t.params (shape_told t words) (first_told t words) (first_in t) (fed_gate words) t.gate (file_lines t.cmd (told_entries (used_told_by t words) words t.lines)) (new_lines t) made (shape_told_is t words t.gate a.slots) (first_told_is t words t.gate a.slots) a.slots.gated.gate_is
     (appended_lines t.params t.me t.entries a.e t.cmd (told_entries (used_told_by t words) words t.lines) a.decided ∙ sym (ap (λ (o : Option Entry). lines_of (size_of o)) a.entry_is)) is)

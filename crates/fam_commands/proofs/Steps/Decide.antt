@@ -30,7 +30,7 @@ use Rattle.fam_commands.specs.declared.phase.Part.TheVariants.{File}
 use Rattle.fam_commands.specs.declared.phase.Phase.TheVariants as at
 use Rattle.fam_commands.specs.Kept.{used}
 use Rattle.fam_commands.proofs.UsedCounts.{used_fsck_count}
-use Rattle.fam_commands.proofs.Steps.UsedTold.{first_told, first_told_is, used_told_by}
+use Rattle.fam_commands.proofs.Steps.UsedTold.{first_told, first_told_is, used_told_by, shape_told, shape_told_is}
 use Rattle.fam_commands.specs.Task.{used_in, first_in, Task, wanted_end, wanted_lines, first_line}
 use Rattle.fam_commands.specs.Turns.{Turn, Ends, read_file, verify_lines, verify_turn, bytes_turn, kind_turn, found_turn, append_turn, decide_turn}
 use Rattle.fam_commands.specs.Table.{Quiet, Answer, fed, fed_slots, fed_gate, fed_file, fed_files, entries_read, append_note, fits_content, reads_kind, reads_file, decision_note, words_before}
@@ -43,8 +43,7 @@ use Rattle.fam_commands.specs.Counts.{decided_steps, file_lines, told_entries}
 use Rattle.fam_commands.proofs.Counted.Ends.{report_by_steps}
 use Rattle.fam_commands.proofs.Counted.Files.{decided_at, without_lines, told_are, verify_file_lines, read_file_lines}
 use Rattle.fam_commands.proofs.Steps.Outcomes.{Outcome, outcome_as, goes_on, ends}
-use Rattle.fam_commands.proofs.Steps.Ties.{done_with, HasGate, AreRead, HasSlots, TaskSlots, FileKnown, TieAt}
-use Rattle.fam_format.specs.Layout.{first_format}
+use Rattle.fam_commands.proofs.Steps.Ties.{done_with, HasGate, AreRead, HasSlots, TaskSlots, FileKnown, TieAt, decided_and, words_to}
 use Rattle.fam_base.specs.declared.entry.Params.{Params}
 
 -- How many lines hold wanted bytes.
@@ -76,7 +75,7 @@ read_lines_some path offset count size some = omega (arith, read_lines_are path 
 
 -- A file that is compared.
 
-module _ (t : Task) (e : Entry) (words : List ℕ) (made : ℕ) (bytes : List ℕ) (long : length bytes ≡ e.size) (at_made : made ≡ decided_steps first_format (first_told t words) (fed_gate words)) where
+module _ (t : Task) (e : Entry) (words : List ℕ) (made : ℕ) (bytes : List ℕ) (long : length bytes ≡ e.size) (at_made : made ≡ decided_steps (shape_told t words) (first_told t words) (fed_gate words)) where
   -- how many lines hold wanted bytes
   abbrev lines : ℕ
   lines = file_lines t.cmd (told_entries (used_told_by t words) words t.lines)
@@ -90,7 +89,7 @@ module _ (t : Task) (e : Entry) (words : List ℕ) (made : ℕ) (bytes : List �
             (if_past 0 (wanted_lines (Verify path against) e.size) Quiet (Answer (compared (length t.entries) bytes against)) (omega (arith, verify_lines_are path against e.size, lines_none e.size none))
             ∙ ap (λ (b : List ℕ). Answer (compared (length t.entries) b against)) (nil_from_length bytes (long ∙ none)))
             (ends t (reply.Same (length t.entries)) _ words made refl
-            (without_lines (first_told t words) (fed_gate words) lines (wanted_lines (Verify path against) e.size) made at_made lines_are (verify_lines_are path against e.size ∙ lines_none e.size none)))
+            (without_lines (shape_told t words) (first_told t words) (fed_gate words) lines (wanted_lines (Verify path against) e.size) made at_made lines_are (verify_lines_are path against e.size ∙ lines_none e.size none)))
         | inr size ↦
             let some : 0 < e.size = omega arith in
             outcome_as t _ (read_file t e) _ Quiet words made
@@ -144,16 +143,16 @@ module _ (t : Task) (e : Entry) (words : List ℕ) (made : ℕ) (bytes : List �
             (ap (λ (n : ℕ). if nat_le n offset then Ends (reply.Bytes (length t.entries) []) else read_file t e) cmd_end ∙ cond-true (nat_le (min e.size (offset + count)) offset) (Ends (reply.Bytes (length t.entries) [])) (read_file t e) (le-leb (min e.size (offset + count)) offset none))
             (if_past 0 (wanted_lines (Read path offset count) e.size) Quiet _ (omega (arith, read_lines_none path offset count e.size none)) ∙ ap (λ (b : List ℕ). Answer (reply.Bytes (length t.entries) b)) (nothing_wanted offset count none))
             (ends t (reply.Bytes (length t.entries) []) _ words made refl
-            (without_lines (first_told t words) (fed_gate words) lines (wanted_lines (Read path offset count) e.size) made at_made lines_are (read_lines_none path offset count e.size none)))
+            (without_lines (shape_told t words) (first_told t words) (fed_gate words) lines (wanted_lines (Read path offset count) e.size) made at_made lines_are (read_lines_none path offset count e.size none)))
       ]
 
 -- What stands at the path.
 
-kind_by : (t : Task) (k : Kind) (turn : Turn) (cmd : Cmd) (size : ℕ) (reply : reply.Reply) (words : List ℕ) (made : ℕ) → made ≡ decided_steps first_format (first_told t words) (fed_gate words) → (k ≡ kind.File → Outcome t turn (if fits_content cmd size && nat_lt 0 (wanted_lines cmd size) then Quiet else Answer reply) words made) → Outcome t (kind_turn t k turn) (if reads_kind k cmd size then Quiet else Answer (of_kind (length t.entries) k reply)) words made
+kind_by : (t : Task) (k : Kind) (turn : Turn) (cmd : Cmd) (size : ℕ) (reply : reply.Reply) (words : List ℕ) (made : ℕ) → made ≡ decided_steps (shape_told t words) (first_told t words) (fed_gate words) → (k ≡ kind.File → Outcome t turn (if fits_content cmd size && nat_lt 0 (wanted_lines cmd size) then Quiet else Answer reply) words made) → Outcome t (kind_turn t k turn) (if reads_kind k cmd size then Quiet else Answer (of_kind (length t.entries) k reply)) words made
 kind_by t kind.Directory turn cmd size given words made at_made file = ends t (reply.IsDirectory (length t.entries)) _ words made refl at_made
 kind_by t kind.File turn cmd size given words made at_made file = file refl
 
-found_by : (t : Task) (cmd : Cmd) (o : Option Entry) (next : Entry → Turn) (told : Entry → asks.File) (question : List ℕ → reply.Reply) (words : List ℕ) (made : ℕ) → made ≡ decided_steps first_format (first_told t words) (fed_gate words) → ((e : Entry) → (told e).entry ≡ e) → ((e : Entry) → o ≡ Some e → e.kind ≡ kind.File → Outcome t (next e) (if fits_content cmd e.size && nat_lt 0 (wanted_lines cmd e.size) then Quiet else Answer (question (told e).bytes)) words made) → Outcome t (found_turn t o next) (if reads_file cmd (option_map told o) then Quiet else Answer (of_file (length t.entries) (option_map told o) question)) words made
+found_by : (t : Task) (cmd : Cmd) (o : Option Entry) (next : Entry → Turn) (told : Entry → asks.File) (question : List ℕ → reply.Reply) (words : List ℕ) (made : ℕ) → made ≡ decided_steps (shape_told t words) (first_told t words) (fed_gate words) → ((e : Entry) → (told e).entry ≡ e) → ((e : Entry) → o ≡ Some e → e.kind ≡ kind.File → Outcome t (next e) (if fits_content cmd e.size && nat_lt 0 (wanted_lines cmd e.size) then Quiet else Answer (question (told e).bytes)) words made) → Outcome t (found_turn t o next) (if reads_file cmd (option_map told o) then Quiet else Answer (of_file (length t.entries) (option_map told o) question)) words made
 found_by t cmd None next told question words made at_made same file = ends t (reply.NotFound (length t.entries)) _ words made refl at_made
 found_by t cmd (Some e) next told question words made at_made same file =
     outcome_as t _ _ _ (if reads_kind e.kind cmd e.size then Quiet else Answer (of_kind (length t.entries) e.kind (question (told e).bytes))) words made refl
@@ -161,10 +160,10 @@ found_by t cmd (Some e) next told question words made at_made same file =
     (kind_by t e.kind (next e) cmd e.size (question (told e).bytes) words made at_made (file e refl))
 
 -- the lines of the file are read
-read_file_by : (t : Task) (e : Entry) (words : List ℕ) (made : ℕ) → TaskSlots t words t.gate → length words ≡ 26 + 64 * (t.gate - first_in t) → made ≡ 32 + 73 * (t.gate - first_in t) → FileKnown t.cmd (first_in t) t.gate t.entries (Some e) words 0 → 0 < wanted_lines t.cmd e.size → Outcome t (read_file t e) Quiet words made
+read_file_by : (t : Task) (e : Entry) (words : List ℕ) (made : ℕ) → TaskSlots t words t.gate → length words ≡ words_to t.params (first_in t) t.gate → made ≡ decided_and t.params (first_in t) t.gate 0 → FileKnown t.cmd t.params (first_in t) t.gate t.entries (Some e) words 0 → 0 < wanted_lines t.cmd e.size → Outcome t (read_file t e) Quiet words made
 read_file_by t e words made h long is known some =
     goes_on t (record t { entry = Some e; phase = at.Drop File 0; words = [] }) words made refl refl refl refl
-    (record { known = (h, known); within = some; long = omega arith; held = sym (drop_all (26 + 64 * (t.gate - first_in t) + done_with File t.cmd 0) words (omega arith)); made_is = omega arith })
+    (record { known = (h, known); within = some; long = omega arith; held = sym (drop_all (words_to t.params (first_in t) t.gate + done_with File t.cmd 0) words (omega arith)); made_is = omega arith })
 
 -- The commands.
 
@@ -187,7 +186,7 @@ count_of_files cmd words p f list = length-map list (fed_file (drop (words_befor
 file_bytes : (cmd : Cmd) (words : List ℕ) (p : Params) (f : ℕ) (list : List Entry) (e : Entry) → length (told_file cmd words p f list e).bytes ≡ e.size
 file_bytes cmd words p f list e = length-map-range_with_len (λ o. byte_in (drop (words_before p f (length list)) words) (o - line_bytes * first_line cmd)) 0 e.size
 
-module _ (t : Task) (words : List ℕ) (made : ℕ) (at_made : made ≡ decided_steps first_format (first_told t words) (fed_gate words)) where
+module _ (t : Task) (words : List ℕ) (made : ℕ) (at_made : made ≡ decided_steps (shape_told t words) (first_told t words) (fed_gate words)) where
   logplay_by : AreRead t.params (used_in t) t.entries words t.gate → Outcome t (decide_turn Logplay t) (decision_note Logplay t.me words t.lines t.params (first_in t) t.entries) words made
   logplay_by read =
       ends t (reply.Played (length t.entries) (replay t.entries)) _ words made
@@ -217,56 +216,55 @@ module _ (t : Task) (words : List ℕ) (made : ℕ) (at_made : made ≡ decided_
       ∙ ap (λ (n : ℕ). if reads_file cmd (option_map (told_file cmd words t.params (first_in t) t.entries) (find (λ x. path_eq x.path path) t.entries)) then Quiet else Answer (of_file n (option_map (told_file cmd words t.params (first_in t) t.entries) (find (λ x. path_eq x.path path) t.entries)) (question n))) (count_of_files cmd words t.params (first_in t) t.entries))
       (found_by t cmd (find (λ x. path_eq x.path path) t.entries) next (told_file cmd words t.params (first_in t) t.entries) (question (length t.entries)) words made at_made (λ e. refl) file)
 
-verify_decides : (t : Task) (path : List ℕ) (against : Content) (words : List ℕ) (made : ℕ) → t.cmd ≡ Verify path against → TaskSlots t words t.gate → AreRead t.params (used_in t) t.entries words t.gate → length words ≡ 26 + 64 * (t.gate - first_in t) → made ≡ 32 + 73 * (t.gate - first_in t) → Outcome t (decide_turn (Verify path against) t) (decision_note (Verify path against) t.me words t.lines t.params (first_in t) t.entries) words made
+verify_decides : (t : Task) (path : List ℕ) (against : Content) (words : List ℕ) (made : ℕ) → t.cmd ≡ Verify path against → TaskSlots t words t.gate → AreRead t.params (used_in t) t.entries words t.gate → length words ≡ words_to t.params (first_in t) t.gate → made ≡ decided_and t.params (first_in t) t.gate 0 → Outcome t (decide_turn (Verify path against) t) (decision_note (Verify path against) t.me words t.lines t.params (first_in t) t.entries) words made
 verify_decides t path against words made cmd_is h read long is =
-    let at_made = decided_at (first_told t words) (first_in t) (fed_gate words) t.gate made (first_told_is t words t.gate h) h.gated.gate_is is in
+    let at_made = decided_at t.params (shape_told t words) (first_told t words) (first_in t) (fed_gate words) t.gate made (shape_told_is t words t.gate h) (first_told_is t words t.gate h) h.gated.gate_is is in
     let told : told_entries (used_told_by t words) words t.lines ≡ t.entries = told_are t.kept t.cmd t.me t.lines t.params t.gate t.entries t.survey words (subst ReadsLog (sym cmd_is) tt) h in
     path_by t words made at_made (Verify path against) path (λ e. verify_turn t e against) (λ n bytes. verified n bytes against) read
     (λ e found file.
     verify_by t e words made (told_file (Verify path against) words t.params (first_in t) t.entries e).bytes (file_bytes (Verify path against) words t.params (first_in t) t.entries e) at_made path against (ap (λ (c : Cmd). file_lines c (told_entries (used_told_by t words) words t.lines)) cmd_is ∙ verify_file_lines path against t.entries (told_entries (used_told_by t words) words t.lines) e told read.lookups found)
     (λ fits some.
     let lines : 0 < wanted_lines (Verify path against) e.size = omega (arith, verify_lines_are path against e.size, lines_some e.size some) in
-    let known : FileKnown (Verify path against) (first_in t) t.gate t.entries (Some e) words 0 = (e, record { is = refl; found = found; file = file; fits = fits; some = lines }, (λ o below inside. absurd (omega arith)), omega arith) in
-    read_file_by t e words made h long is (subst (λ (c : Cmd). FileKnown c (first_in t) t.gate t.entries (Some e) words 0) (sym cmd_is) known) (subst (λ (c : Cmd). 0 < wanted_lines c e.size) (sym cmd_is) lines)))
+    let known : FileKnown (Verify path against) t.params (first_in t) t.gate t.entries (Some e) words 0 = (e, record { is = refl; found = found; file = file; fits = fits; some = lines }, (λ o below inside. absurd (omega arith)), omega arith) in
+    read_file_by t e words made h long is (subst (λ (c : Cmd). FileKnown c t.params (first_in t) t.gate t.entries (Some e) words 0) (sym cmd_is) known) (subst (λ (c : Cmd). 0 < wanted_lines c e.size) (sym cmd_is) lines)))
 
-read_decides : (t : Task) (path : List ℕ) (offset count : ℕ) (words : List ℕ) (made : ℕ) → t.cmd ≡ Read path offset count → TaskSlots t words t.gate → AreRead t.params (used_in t) t.entries words t.gate → length words ≡ 26 + 64 * (t.gate - first_in t) → made ≡ 32 + 73 * (t.gate - first_in t) → Outcome t (decide_turn (Read path offset count) t) (decision_note (Read path offset count) t.me words t.lines t.params (first_in t) t.entries) words made
+read_decides : (t : Task) (path : List ℕ) (offset count : ℕ) (words : List ℕ) (made : ℕ) → t.cmd ≡ Read path offset count → TaskSlots t words t.gate → AreRead t.params (used_in t) t.entries words t.gate → length words ≡ words_to t.params (first_in t) t.gate → made ≡ decided_and t.params (first_in t) t.gate 0 → Outcome t (decide_turn (Read path offset count) t) (decision_note (Read path offset count) t.me words t.lines t.params (first_in t) t.entries) words made
 read_decides t path offset count words made cmd_is h read long is =
-    let at_made = decided_at (first_told t words) (first_in t) (fed_gate words) t.gate made (first_told_is t words t.gate h) h.gated.gate_is is in
+    let at_made = decided_at t.params (shape_told t words) (first_told t words) (first_in t) (fed_gate words) t.gate made (shape_told_is t words t.gate h) (first_told_is t words t.gate h) h.gated.gate_is is in
     let told : told_entries (used_told_by t words) words t.lines ≡ t.entries = told_are t.kept t.cmd t.me t.lines t.params t.gate t.entries t.survey words (subst ReadsLog (sym cmd_is) tt) h in
     path_by t words made at_made (Read path offset count) path (λ e. bytes_turn t e offset) (λ n bytes. reply.Bytes n (file_bytes_from offset count bytes)) read
     (λ e found file.
     read_by t e words made (told_file (Read path offset count) words t.params (first_in t) t.entries e).bytes (file_bytes (Read path offset count) words t.params (first_in t) t.entries e) at_made path offset count (ap (λ (c : Cmd). file_lines c (told_entries (used_told_by t words) words t.lines)) cmd_is ∙ read_file_lines path offset count t.entries (told_entries (used_told_by t words) words t.lines) e told read.lookups found)
     (ap (λ (c : Cmd). wanted_end c e.size) cmd_is)
     (λ lines.
-    let known : FileKnown (Read path offset count) (first_in t) t.gate t.entries (Some e) words 0 = (e, record { is = refl; found = found; file = file; fits = refl; some = lines }) in
-    read_file_by t e words made h long is (subst (λ (c : Cmd). FileKnown c (first_in t) t.gate t.entries (Some e) words 0) (sym cmd_is) known) (subst (λ (c : Cmd). 0 < wanted_lines c e.size) (sym cmd_is) lines)))
+    let known : FileKnown (Read path offset count) t.params (first_in t) t.gate t.entries (Some e) words 0 = (e, record { is = refl; found = found; file = file; fits = refl; some = lines }) in
+    read_file_by t e words made h long is (subst (λ (c : Cmd). FileKnown c t.params (first_in t) t.gate t.entries (Some e) words 0) (sym cmd_is) known) (subst (λ (c : Cmd). 0 < wanted_lines c e.size) (sym cmd_is) lines)))
 
 -- a command that appends
-wish_decides : (t : Task) (words : List ℕ) (made : ℕ) → TaskSlots t words t.gate → AreRead t.params (used_in t) t.entries words t.gate → made ≡ 32 + 73 * (t.gate - first_in t) → (r : Result Entry Refused) → decide t.params t.me t.entries t.cmd ≡ Some r → Outcome t (append_turn t r) (append_note (length t.entries) (Some r)) words made
+wish_decides : (t : Task) (words : List ℕ) (made : ℕ) → TaskSlots t words t.gate → AreRead t.params (used_in t) t.entries words t.gate → made ≡ decided_and t.params (first_in t) t.gate 0 → (r : Result Entry Refused) → decide t.params t.me t.entries t.cmd ≡ Some r → Outcome t (append_turn t r) (append_note (length t.entries) (Some r)) words made
 wish_decides t words made h read is r decided =
     outcome_as t _ (append_turn t r) _ (append_note t.gate (Some r)) words made refl (ap (λ (n : ℕ). append_note n (Some r)) read.count) (append_by t words made r decided h is)
 
-fsck_decides : (t : Task) (words : List ℕ) (made : ℕ) → made ≡ decided_steps first_format (first_told t words) t.params.slots → HasGate t.cmd t.me t.lines t.params t.gate words → t.survey ≡ survey_slots (fed t.params 0 words) t.params t.gate 0 t.params.slots no_survey → Outcome t (decide_turn Fsck t) (decision_note Fsck t.me words t.lines t.params 0 t.entries) words made
+fsck_decides : (t : Task) (words : List ℕ) (made : ℕ) → made ≡ decided_steps (shape_told t words) (first_told t words) t.params.slots → HasGate t.cmd t.me t.lines t.params t.gate words → t.survey ≡ survey_slots (fed t.params 0 words) t.params t.gate 0 t.params.slots no_survey → Outcome t (decide_turn Fsck t) (decision_note Fsck t.me words t.lines t.params 0 t.entries) words made
 fsck_decides t words made at_made gated known =
     ends t (reply.Reports (report_by t.params t.gate t.survey)) _ words made
     (ap (λ (r : Report). Answer (reply.Reports r))
     (report_on_slots words t.lines t.params gated.log.head.super gated.log.header (ap (λ (n : ℕ). gate_fault n t.params) gated.gate_is ∙ gated.within)
     ∙ ap (λ (n : ℕ). report_by t.params n (survey_slots (fed t.params 0 words) t.params n 0 t.params.slots no_survey)) gated.gate_is
     ∙ ap (report_by t.params t.gate) (sym known)))
-    (at_made ∙ sym (report_by_steps first_format (first_told t words) (fed_gate words) (file_lines t.cmd (told_entries (used_told_by t words) words t.lines)) t.params t.gate t.survey))
+    (at_made ∙ sym (report_by_steps (shape_told t words) (first_told t words) (fed_gate words) (file_lines t.cmd (told_entries (used_told_by t words) words t.lines)) t.params t.gate t.survey))
 
 decide_as : (cmd : Cmd) (t : Task) (words : List ℕ) (made : ℕ) → TieAt at.Decide (record t { cmd = cmd }) words made → Outcome (record t { cmd = cmd }) (decide_turn cmd (record t { cmd = cmd })) (decision_note cmd t.me words t.lines t.params (length (used t.kept cmd t.params t.gate)) (entries_read (fed_slots words t.params (used t.kept cmd t.params t.gate) (fed_gate words)))) words (made + 1)
 decide_as Fsck t words made (h, long, is) =
     let none : length (used t.kept Fsck t.params t.gate) ≡ 0 = used_fsck_count t.kept t.params t.gate in
-    let told : first_told (record t { cmd = Fsck }) words ≡ 0 = first_told_is (record t { cmd = Fsck }) words t.params.slots h ∙ none in
     outcome_as (record t { cmd = Fsck }) _ _ _ _ words (made + 1) refl (ap (λ (n : ℕ). decision_note Fsck t.me words t.lines t.params n (entries_read (fed_slots words t.params (used t.kept Fsck t.params t.gate) (fed_gate words)))) none)
-    (fsck_decides (record t { cmd = Fsck }) words (made + 1) (omega arith) h.gated h.known)
+    (fsck_decides (record t { cmd = Fsck }) words (made + 1) (decided_at t.params (shape_told (record t { cmd = Fsck }) words) (first_told (record t { cmd = Fsck }) words) (first_in (record t { cmd = Fsck })) t.params.slots t.params.slots (made + 1) (shape_told_is (record t { cmd = Fsck }) words t.params.slots h) (first_told_is (record t { cmd = Fsck }) words t.params.slots h) refl (omega arith)) h.gated h.known)
 decide_as Logplay t words made (h, long, is) =
-    outcome_as (record t { cmd = Logplay }) _ _ _ _ words (made + 1) refl (ap (decision_note Logplay t.me words t.lines t.params (length (used t.kept Logplay t.params t.gate))) (entries_now Logplay t words t.gate tt refl h)) (logplay_by (record t { cmd = Logplay }) words (made + 1) (decided_at (first_told (record t { cmd = Logplay }) words) (first_in (record t { cmd = Logplay })) (fed_gate words) t.gate (made + 1) (first_told_is (record t { cmd = Logplay }) words t.gate h) h.gated.gate_is (omega arith)) h.known)
+    outcome_as (record t { cmd = Logplay }) _ _ _ _ words (made + 1) refl (ap (decision_note Logplay t.me words t.lines t.params (length (used t.kept Logplay t.params t.gate))) (entries_now Logplay t words t.gate tt refl h)) (logplay_by (record t { cmd = Logplay }) words (made + 1) (decided_at t.params (shape_told (record t { cmd = Logplay }) words) (first_told (record t { cmd = Logplay }) words) (first_in (record t { cmd = Logplay })) (fed_gate words) t.gate (made + 1) (shape_told_is (record t { cmd = Logplay }) words t.gate h) (first_told_is (record t { cmd = Logplay }) words t.gate h) h.gated.gate_is (omega arith)) h.known)
 decide_as Mount t words made (h, long, is) =
-    outcome_as (record t { cmd = Mount }) _ _ _ _ words (made + 1) refl (ap (decision_note Mount t.me words t.lines t.params (length (used t.kept Mount t.params t.gate))) (entries_now Mount t words t.gate tt refl h)) (mount_by (record t { cmd = Mount }) words (made + 1) (decided_at (first_told (record t { cmd = Mount }) words) (first_in (record t { cmd = Mount })) (fed_gate words) t.gate (made + 1) (first_told_is (record t { cmd = Mount }) words t.gate h) h.gated.gate_is (omega arith)) h.known)
+    outcome_as (record t { cmd = Mount }) _ _ _ _ words (made + 1) refl (ap (decision_note Mount t.me words t.lines t.params (length (used t.kept Mount t.params t.gate))) (entries_now Mount t words t.gate tt refl h)) (mount_by (record t { cmd = Mount }) words (made + 1) (decided_at t.params (shape_told (record t { cmd = Mount }) words) (first_told (record t { cmd = Mount }) words) (first_in (record t { cmd = Mount })) (fed_gate words) t.gate (made + 1) (shape_told_is (record t { cmd = Mount }) words t.gate h) (first_told_is (record t { cmd = Mount }) words t.gate h) h.gated.gate_is (omega arith)) h.known)
 decide_as (Check listing) t words made (h, long, is) =
-    outcome_as (record t { cmd = Check listing }) _ _ _ _ words (made + 1) refl (ap (decision_note (Check listing) t.me words t.lines t.params (length (used t.kept (Check listing) t.params t.gate))) (entries_now (Check listing) t words t.gate tt refl h)) (check_by (record t { cmd = Check listing }) words (made + 1) (decided_at (first_told (record t { cmd = Check listing }) words) (first_in (record t { cmd = Check listing })) (fed_gate words) t.gate (made + 1) (first_told_is (record t { cmd = Check listing }) words t.gate h) h.gated.gate_is (omega arith)) listing)
+    outcome_as (record t { cmd = Check listing }) _ _ _ _ words (made + 1) refl (ap (decision_note (Check listing) t.me words t.lines t.params (length (used t.kept (Check listing) t.params t.gate))) (entries_now (Check listing) t words t.gate tt refl h)) (check_by (record t { cmd = Check listing }) words (made + 1) (decided_at t.params (shape_told (record t { cmd = Check listing }) words) (first_told (record t { cmd = Check listing }) words) (first_in (record t { cmd = Check listing })) (fed_gate words) t.gate (made + 1) (shape_told_is (record t { cmd = Check listing }) words t.gate h) (first_told_is (record t { cmd = Check listing }) words t.gate h) h.gated.gate_is (omega arith)) listing)
 decide_as (Mkdir path attr) t words made (h, long, is) =
     outcome_as (record t { cmd = Mkdir path attr }) _ _ _ _ words (made + 1) refl (ap (decision_note (Mkdir path attr) t.me words t.lines t.params (length (used t.kept (Mkdir path attr) t.params t.gate))) (entries_now (Mkdir path attr) t words t.gate tt refl h))
     (wish_decides (record t { cmd = Mkdir path attr }) words (made + 1) h h.known (omega arith) _ refl)

@@ -20,7 +20,7 @@ use Rattle.fam_rules.specs.Reply.{Reply}
 use Rattle.fam_commands.specs.declared.phase.Part.TheVariants.{File}
 use Rattle.fam_commands.specs.declared.phase.Phase.TheVariants as at
 use Rattle.fam_commands.specs.Kept.{used}
-use Rattle.fam_commands.proofs.Steps.UsedTold.{first_told, first_told_is, used_told_by}
+use Rattle.fam_commands.proofs.Steps.UsedTold.{first_told, first_told_is, used_told_by, shape_told, shape_told_is}
 use Rattle.fam_commands.specs.Task.{Task, size_of, wanted_lines}
 use Rattle.fam_commands.specs.Turns.{Goes, Ends, line_difference, compare_turn, loaded_bytes, file_turn, line_turn}
 use Rattle.fam_commands.specs.Table.{RowNote, Quiet, Answer, fed_gate, fed_files, fits_content, answer_or, early_note, line_note, words_before}
@@ -32,7 +32,7 @@ use Rattle.fam_commands.proofs.Comparisons.{byte_of_line, bytes_by, length-bytes
 use Rattle.fam_commands.specs.Counts.{file_lines, told_entries}
 use Rattle.fam_commands.proofs.Counted.Files.{with_lines, up_to_line, told_are, verify_file_lines, read_file_lines}
 use Rattle.fam_commands.proofs.Steps.Outcomes.{Outcome, outcome_as, goes_on, ends, by_less, in_part}
-use Rattle.fam_commands.proofs.Steps.Ties.{AreRead, TaskSlots, IsChosen, IsSame, FileKnown, InPart, line_end}
+use Rattle.fam_commands.proofs.Steps.Ties.{AreRead, TaskSlots, IsChosen, IsSame, FileKnown, InPart, line_end, decided_and, words_to}
 use Rattle.fam_base.specs.declared.entry.Params.{Params}
 
 -- What is asked of the words.
@@ -82,7 +82,7 @@ module _ (t : Task) (path : List ℕ) (against : Content) (e : Entry) (words : L
 
   -- the first word of the file, among those that were loaded
   abbrev first : ℕ
-  first = 26 + 64 * (t.gate - from)
+  first = words_to t.params from t.gate
 
   -- short names, while a file is compared
   abbrev cmd : Cmd
@@ -97,12 +97,12 @@ module _ (t : Task) (path : List ℕ) (against : Content) (e : Entry) (words : L
   abbrev m : ℕ
   m = length t.entries
 
-  module _ (h : TaskSlots now words t.gate) (read : AreRead t.params (used t.kept cmd t.params t.gate) t.entries words t.gate) (chosen : IsChosen cmd path t.entries (Some e) e) (same : IsSame against e (drop first words) j) (within : j < wanted_lines cmd e.size) (long : length words ≡ first + (8 * j + 8)) (is : made ≡ 32 + 73 * (t.gate - from) + (9 * j + 9)) where
+  module _ (h : TaskSlots now words t.gate) (read : AreRead t.params (used t.kept cmd t.params t.gate) t.entries words t.gate) (chosen : IsChosen cmd path t.entries (Some e) e) (same : IsSame against e (drop first words) j) (within : j < wanted_lines cmd e.size) (long : length words ≡ first + (8 * j + 8)) (is : made ≡ decided_and t.params from t.gate 0 + (9 * j + 9)) where
     ask_is : ask (fed_files words t.params from cmd t.entries) cmd ≡ Some (compared m all against)
     ask_is =
         ap Some
         (asked cmd path words t.params from t.entries e (λ n bytes. verified n bytes against) chosen.found chosen.file
-        ∙ ap (λ (n : ℕ). verified m (bytes_by (drop n words) 0 e.size) against) (let count = read.count in let z : words_before t.params from m ≡ first = omega arith in z)
+        ∙ ap (λ (n : ℕ). verified m (bytes_by (drop n words) 0 e.size) against) (ap (words_before t.params from) read.count)
         ∙ verified_is path against m all (ap (fits_content cmd) (length-bytes (drop first words) 0 e.size) ∙ chosen.fits))
 
     found_in_line : (b : ℕ) → IsSearched (line_differs against e words first j) 0 (min 64 (e.size - 64 * j)) (Some b) → Outcome now (compare_turn now against j (Some b)) (note_by (wanted_lines cmd e.size) j (compared m all against)) words made
@@ -113,7 +113,7 @@ module _ (t : Task) (path : List ℕ) (against : Content) (e : Entry) (words : L
         (ap (λ (r : Option ℕ). note_by (wanted_lines cmd e.size) j (compared_at m all against r)) (line_difference_found against e words first j b same found)
         ∙ ap (λ (x : ℕ). note_by (wanted_lines cmd e.size) j (reply.Differs m (64 * j + b) x (content_byte against (64 * j + b)))) (byte_told against e words first (64 * j + b) inside ∙ sym (byte_of_line words first j b))
         ∙ difference_noted (wanted_lines cmd e.size) j m (64 * j + b) (byte_in (drop (first + 8 * j) words) b) (content_byte against (64 * j + b)) (omega arith))
-        (up_to_line (first_told now words) from (fed_gate words) t.gate j b made (first_told_is now words t.gate h) h.gated.gate_is (omega arith) is)
+        (up_to_line t.params (shape_told now words) (first_told now words) from (fed_gate words) t.gate j b made (shape_told_is now words t.gate h) (first_told_is now words t.gate h) h.gated.gate_is (omega arith) is)
 
     none_in_line : IsSearched (line_differs against e words first j) 0 (min 64 (e.size - 64 * j)) None → Outcome now (compare_turn now against j None) (note_by (wanted_lines cmd e.size) j (compared m all against)) words made
     none_in_line none =
@@ -127,7 +127,7 @@ module _ (t : Task) (path : List ℕ) (against : Content) (e : Entry) (words : L
         (λ past.
         ends now (reply.Same m) _ words made
         (ap (λ (r : Option ℕ). Answer (compared_at m all against r)) (no_difference against e words first (j + 1) more (omega (arith, verify_lines_are path against e.size))))
-        (with_lines (first_told now words) from (fed_gate words) t.gate (file_lines cmd (told_entries (used_told_by now words) words t.lines)) (wanted_lines cmd e.size) made (first_told_is now words t.gate h) h.gated.gate_is
+        (with_lines t.params (shape_told now words) (first_told now words) from (fed_gate words) t.gate (file_lines cmd (told_entries (used_told_by now words) words t.lines)) (wanted_lines cmd e.size) made (shape_told_is now words t.gate h) (first_told_is now words t.gate h) h.gated.gate_is
         (verify_file_lines path against t.entries (told_entries (used_told_by now words) words t.lines) e (told_are t.kept cmd t.me t.lines t.params t.gate t.entries t.survey words tt h) read.lookups chosen.found) (omega arith)))
 
     by_line : (r : Option ℕ) → IsSearched (line_differs against e words first j) 0 (min 64 (e.size - 64 * j)) r → Outcome now (compare_turn now against j r) (note_by (wanted_lines cmd e.size) j (compared m all against)) words made
@@ -147,7 +147,7 @@ module _ (t : Task) (path : List ℕ) (offset count : ℕ) (e : Entry) (words : 
   begin = length (used t.kept (Read path offset count) t.params t.gate)
 
   abbrev start : ℕ
-  start = 26 + 64 * (t.gate - begin)
+  start = words_to t.params begin t.gate
 
   abbrev ask_cmd : Cmd
   ask_cmd = Read path offset count
@@ -158,12 +158,12 @@ module _ (t : Task) (path : List ℕ) (offset count : ℕ) (e : Entry) (words : 
   abbrev wanted : List ℕ
   wanted = file_bytes_from offset count (bytes_by (drop start words) (64 * (offset / 64)) e.size)
 
-  read_line : TaskSlots here words t.gate → AreRead t.params (used t.kept ask_cmd t.params t.gate) t.entries words t.gate → IsChosen ask_cmd path t.entries (Some e) e → j < wanted_lines ask_cmd e.size → length words ≡ start + (8 * j + 8) → made ≡ 32 + 73 * (t.gate - begin) + (9 * j + 9) → Outcome here (file_turn ask_cmd here j) (line_note ask_cmd words t.params begin t.entries (wanted_lines ask_cmd e.size) j) words made
+  read_line : TaskSlots here words t.gate → AreRead t.params (used t.kept ask_cmd t.params t.gate) t.entries words t.gate → IsChosen ask_cmd path t.entries (Some e) e → j < wanted_lines ask_cmd e.size → length words ≡ start + (8 * j + 8) → made ≡ decided_and t.params begin t.gate 0 + (9 * j + 9) → Outcome here (file_turn ask_cmd here j) (line_note ask_cmd words t.params begin t.entries (wanted_lines ask_cmd e.size) j) words made
   read_line h read chosen within long is =
       outcome_as here _ (file_turn ask_cmd here j) _ (note_by (wanted_lines ask_cmd e.size) j (reply.Bytes (length t.entries) wanted)) words made refl
       (note_is ask_cmd words t.params begin t.entries (wanted_lines ask_cmd e.size) j (reply.Bytes (length t.entries) wanted)
       (ap Some (asked ask_cmd path words t.params begin t.entries e (λ n bytes. reply.Bytes n (file_bytes_from offset count bytes)) chosen.found chosen.file
-      ∙ ap (λ (n : ℕ). reply.Bytes (length t.entries) (file_bytes_from offset count (bytes_by (drop n words) (64 * (offset / 64)) e.size))) (let read_count = read.count in let z : words_before t.params begin (length t.entries) ≡ start = omega arith in z))))
+      ∙ ap (λ (n : ℕ). reply.Bytes (length t.entries) (file_bytes_from offset count (bytes_by (drop n words) (64 * (offset / 64)) e.size))) (ap (words_before t.params begin) read.count))))
       (by_less here (j + 1) (wanted_lines ask_cmd e.size) (Goes (record here { phase = at.Drop File (j + 1) })) (Ends (reply.Bytes (length t.entries) (loaded_bytes here offset))) Quiet (Answer (reply.Bytes (length t.entries) wanted)) words made
       (λ less.
       goes_on here (record here { phase = at.Drop File (j + 1) }) words made refl refl refl refl
@@ -173,21 +173,21 @@ module _ (t : Task) (path : List ℕ) (offset count : ℕ) (e : Entry) (words : 
       (ap (λ (b : List ℕ). Answer (reply.Bytes (length t.entries) b))
       (wanted_bytes (drop start words) offset count e.size
       ∙ ap (λ (n : ℕ). map (λ i. byte_in (drop n words) (offset % 64 + i)) (range_with_len 0 (min e.size (offset + count) - offset))) (let z : start ≡ start + 0 = omega arith in z)))
-      (with_lines (first_told here words) begin (fed_gate words) t.gate (file_lines ask_cmd (told_entries (used_told_by here words) words t.lines)) (wanted_lines ask_cmd e.size) made (first_told_is here words t.gate h) h.gated.gate_is
+      (with_lines t.params (shape_told here words) (first_told here words) begin (fed_gate words) t.gate (file_lines ask_cmd (told_entries (used_told_by here words) words t.lines)) (wanted_lines ask_cmd e.size) made (shape_told_is here words t.gate h) (first_told_is here words t.gate h) h.gated.gate_is
       (read_file_lines path offset count t.entries (told_entries (used_told_by here words) words t.lines) e (told_are t.kept ask_cmd t.me t.lines t.params t.gate t.entries t.survey words tt h) read.lookups chosen.found) (omega arith))))
 
 -- Either.
 
 file_as : (cmd : Cmd) (t : Task) (words : List ℕ) (j made : ℕ) → InPart File (record t { cmd = cmd }) words j 8 9 made → Outcome (record t { cmd = cmd }) (file_turn cmd (record t { cmd = cmd }) j) (line_note cmd words t.params (length (used t.kept cmd t.params t.gate)) t.entries (wanted_lines cmd (size_of t.entry)) j) words made
 file_as (Verify path against) t words j made h =
-    let known : FileKnown (Verify path against) (length (used t.kept (Verify path against) t.params t.gate)) t.gate t.entries t.entry words j = h.known.1 in
+    let known : FileKnown (Verify path against) t.params (length (used t.kept (Verify path against) t.params t.gate)) t.gate t.entries t.entry words j = h.known.1 in
     let is : t.entry ≡ Some known.0 = known.1.is in
     let chosen : IsChosen (Verify path against) path t.entries (Some known.0) known.0 = record { is = refl; found = known.1.found; file = known.1.file; fits = known.1.fits; some = known.1.some } in
     subst (λ (o : Option Entry). Outcome (record t { cmd = Verify path against; entry = o }) (file_turn (Verify path against) (record t { cmd = Verify path against; entry = o }) j) (line_note (Verify path against) words t.params (length (used t.kept (Verify path against) t.params t.gate)) t.entries (wanted_lines (Verify path against) (size_of o)) j) words made) (sym is)
     (subst (λ (w : List ℕ). Outcome (record t { cmd = Verify path against; entry = Some known.0; words = w }) (file_turn (Verify path against) (record t { cmd = Verify path against; entry = Some known.0; words = w }) j) (line_note (Verify path against) words t.params (length (used t.kept (Verify path against) t.params t.gate)) t.entries (wanted_lines (Verify path against) known.0.size) j) words made) (sym h.held)
     (verify_line t path against known.0 words j made h.known.0 h.known.0.known chosen known.2 (subst (λ (o : Option Entry). j < wanted_lines (Verify path against) (size_of o)) is h.within) h.long h.made_is))
 file_as (Read path offset count) t words j made h =
-    let known : FileKnown (Read path offset count) (length (used t.kept (Read path offset count) t.params t.gate)) t.gate t.entries t.entry words j = h.known.1 in
+    let known : FileKnown (Read path offset count) t.params (length (used t.kept (Read path offset count) t.params t.gate)) t.gate t.entries t.entry words j = h.known.1 in
     let is : t.entry ≡ Some known.0 = known.1.is in
     let chosen : IsChosen (Read path offset count) path t.entries (Some known.0) known.0 = record { is = refl; found = known.1.found; file = known.1.file; fits = known.1.fits; some = known.1.some } in
     subst (λ (o : Option Entry). Outcome (record t { cmd = Read path offset count; entry = o }) (file_turn (Read path offset count) (record t { cmd = Read path offset count; entry = o }) j) (line_note (Read path offset count) words t.params (length (used t.kept (Read path offset count) t.params t.gate)) t.entries (wanted_lines (Read path offset count) (size_of o)) j) words made) (sym is)

@@ -1,10 +1,11 @@
 -- What comes of an operation, beside what the table notes: the same note, and a task that still stands.
-use Rattle.std.proofs.Common.{ℕ, ◌≡◌, ◌<◌, ◌≤◌, ◌+◌, ◌-◌, ◌*◌, inl, inr, List, [], ◌∷◌, ◌++◌, length, drop, refl, sym, ◌∙◌, ap, subst, arith, length-append}
+use Rattle.std.proofs.Common.{ℕ, ◌≡◌, ◌<◌, ◌≤◌, ◌+◌, ◌*◌, inl, inr, List, [], ◌∷◌, ◌++◌, length, drop, refl, sym, ◌∙◌, ap, subst, arith, length-append}
 use Rattle.std.specs.Prelude.{nat_lt, if◌then◌else◌}
 use Rattle.std.proofs.lemmas.Bool.{cases_lt}
 use Rattle.std.proofs.lemmas.List.{drop-append-le, drop_all}
 use Rattle.fam_base.specs.declared.cmd.Cmd.{Cmd}
 use Rattle.fam_base.specs.declared.cmd.Cmd.TheVariants.{Verify}
+use Rattle.fam_format.proofs.Formats.{shape}
 use Rattle.fam_commands.specs.declared.phase.Part.{Part}
 use Rattle.fam_commands.specs.declared.phase.Part.TheVariants.{Superblock, Slot, File}
 use Rattle.fam_commands.specs.declared.phase.Phase.{Phase}
@@ -17,7 +18,7 @@ use Rattle.fam_commands.specs.Counts.{steps_of}
 use Rattle.fam_commands.specs.Stands.{note_of}
 use Rattle.fam_commands.proofs.Rows.Numbered.{if_below, if_past}
 use Rattle.fam_commands.proofs.Steps.TieStays.{part_stays}
-use Rattle.fam_commands.proofs.Steps.Ties.{PartKnown, InPart, TaskSlots, TieAt, Tied, TurnTied, part_words, part_made, done_with, line_end, note_at}
+use Rattle.fam_commands.proofs.Steps.Ties.{PartKnown, InPart, TaskSlots, TieAt, Tied, TurnTied, part_words, part_made, done_with, line_end, note_at, words_to, steps_to}
 
 -- what comes of a turn: its note is the table's, and the task is tied again or has ended in time
 pub record Outcome (t : Task) (turn : Turn) (note : RowNote) (words : List ℕ) (made : ℕ) : Type 0 where
@@ -96,14 +97,14 @@ word_outcome part t words word j k made h small last =
     last seven (record { known = g.known; within = g.within; long = let e = g.long in omega arith; held = g.held; made_is = let e = g.made_is in omega arith }))
 
 -- the slots below i are known: slot i is next, or the decision
-pub slot_or_decide_tie : (t : Task) (phase : Phase) (words : List ℕ) (i made : ℕ) → TaskSlots t words i → i ≤ slots_read t → t.words ≡ [] → length words ≡ 26 + 64 * (i - first_in t) → made ≡ 31 + 73 * (i - first_in t) → TieAt (slot_or_decide t i) (record t { phase = phase }) words made
+pub slot_or_decide_tie : (t : Task) (phase : Phase) (words : List ℕ) (i made : ℕ) → TaskSlots t words i → i ≤ slots_read t → t.words ≡ [] → length words ≡ words_to t.params (first_in t) i → made ≡ steps_to t.params (first_in t) i → TieAt (slot_or_decide t i) (record t { phase = phase }) words made
 slot_or_decide_tie t phase words i made h within held long is =
     elim (cases_lt i (slots_read t)) [
       | inl below ↦
           subst (λ (p : Phase). TieAt p (record t { phase = phase }) words made) (sym (if_below i (slots_read t) (at.Drop (Slot i) 0) at.Decide below))
-          (record { known = (h, below); within = omega arith; long = omega arith; held = held ∙ sym (drop_all (26 + 64 * (i - first_in t) + 0) words (omega arith)); made_is = omega arith })
+          (record { known = (h, below); within = omega (arith, (shape t.params).lines); long = omega arith; held = held ∙ sym (drop_all (words_to t.params (first_in t) i + 0) words (omega arith)); made_is = omega arith })
       | inr past ↦
           let last : i ≡ slots_read t = omega arith in
           subst (λ (p : Phase). TieAt p (record t { phase = phase }) words made) (sym (if_past i (slots_read t) (at.Drop (Slot i) 0) at.Decide past))
-          (subst (λ (n : ℕ). TaskSlots t words n) last h, long ∙ ap (λ (n : ℕ). 26 + 64 * (n - first_in t)) last, is ∙ ap (λ (n : ℕ). 31 + 73 * (n - first_in t)) last)
+          (subst (λ (n : ℕ). TaskSlots t words n) last h, long ∙ ap (λ (n : ℕ). words_to t.params (first_in t) n) last, is ∙ ap (λ (n : ℕ). steps_to t.params (first_in t) n) last)
     ]

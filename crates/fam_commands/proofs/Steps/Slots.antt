@@ -1,5 +1,5 @@
 -- What comes of the operations of the slots.
-use Rattle.std.proofs.Common.{ℕ, ◌≡◌, ◌<◌, ◌+◌, ◌-◌, ◌*◌, ◌⊎◌, inl, inr, Bool, true, false, cond, List, [], ◌∷◌, ◌++◌, length, drop, Option, Some, None, Result, Ok, Err, refl, sym, ◌∙◌, ap, arith, length-append}
+use Rattle.std.proofs.Common.{ℕ, ◌≡◌, ◌<◌, ◌+◌, ◌⊎◌, inl, inr, Bool, true, false, cond, List, [], ◌∷◌, ◌++◌, length, drop, Option, Some, None, Result, Ok, Err, refl, sym, ◌∙◌, ap, subst, arith, length-append}
 use Rattle.std.specs.Prelude.{find}
 use Rattle.std.specs.Option.{option_or}
 use Rattle.std.specs.FinMap as finmap
@@ -14,11 +14,13 @@ use Rattle.fam_format.specs.declared.faults.Reason.{Reason}
 use Rattle.fam_format.specs.Slot.{entry_of}
 use Rattle.fam_format.specs.Tree.{replay, join_fault}
 use Rattle.fam_format.specs.Reading.{Sound, slot_in, slot_words, slot_or, joined_or}
+use Rattle.fam_format.proofs.Formats.{piece_more, shape}
 use Rattle.fam_format.proofs.JoinLaws.{joins_from, tree_more}
 use Rattle.fam_rules.specs.Reply as reply
 use Rattle.fam_rules.specs.Reports.{survey_slot}
 use Rattle.fam_commands.specs.declared.phase.Part.TheVariants.{Slot}
 use Rattle.fam_commands.specs.declared.phase.Phase.TheVariants as at
+use Rattle.fam_commands.specs.Counts.{slot_steps}
 use Rattle.fam_commands.specs.Kept.{used}
 use Rattle.fam_commands.proofs.UsedCounts.{used_fsck_count}
 use Rattle.fam_commands.proofs.Steps.UsedTold.{slot_steps_told}
@@ -28,7 +30,8 @@ use Rattle.fam_commands.specs.Table.{Quiet, fed, fed_slots, reading_note, slot_n
 use Rattle.fam_commands.proofs.FedLemmas.{slot_held, slots_more, survey_more}
 use Rattle.fam_commands.proofs.Rows.Numbered.{if_below, if_past}
 use Rattle.fam_commands.proofs.Steps.Outcomes.{Outcome, outcome_as, goes_on, ends, next_line, slot_or_decide_tie}
-use Rattle.fam_commands.proofs.Steps.Ties.{AreRead, SlotsKnown, TaskSlots, InPart, TieAt, line_end}
+use Rattle.fam_commands.proofs.Steps.Ties.{AreRead, SlotsKnown, TaskSlots, InPart, TieAt, line_end, words_to, steps_to}
+use Rattle.fam_format.specs.Layout.{geometry}
 
 -- What stands at a path, in the tree and in the list.
 
@@ -60,19 +63,19 @@ slot_line_step t words i j made h =
     let long = h.long in
     let within = h.within in
     let at_made = h.made_is in
-    elim (cases_lt (j + 1) 8) [
+    elim (cases_lt (j + 1) (geometry t.params).lines) [
       | inl below ↦
-          outcome_as t _ (Goes (record t { phase = at.Drop (Slot i) (j + 1) })) Quiet Quiet words made (if_below (j + 1) 8 _ (Goes (record t { phase = at.Check i })) below) refl
+          outcome_as t _ (Goes (record t { phase = at.Drop (Slot i) (j + 1) })) Quiet Quiet words made (if_below (j + 1) (geometry t.params).lines _ (Goes (record t { phase = at.Check i })) below) refl
           (next_line (Slot i) t words j made h.known below h.long h.held h.made_is)
       | inr past ↦
-          outcome_as t _ (Goes (record t { phase = at.Check i })) Quiet Quiet words made (if_past (j + 1) 8 (Goes (record t { phase = at.Drop (Slot i) (j + 1) })) _ past) refl
-          (goes_on t (record t { phase = at.Check i }) words made refl refl refl refl (h.known.0, h.known.1, omega arith, h.held ∙ ap (λ (n : ℕ). drop n words) (let z : 26 + 64 * (i - first_in t) + 0 ≡ 26 + 64 * (i - first_in t) = omega arith in z), omega arith))
+          outcome_as t _ (Goes (record t { phase = at.Check i })) Quiet Quiet words made (if_past (j + 1) (geometry t.params).lines (Goes (record t { phase = at.Drop (Slot i) (j + 1) })) _ past) refl
+          (goes_on t (record t { phase = at.Check i }) words made refl refl refl refl (h.known.0, h.known.1, omega (arith, (shape t.params).words), h.held ∙ ap (λ (n : ℕ). drop n words) (let z : words_to t.params (first_in t) i + 0 ≡ words_to t.params (first_in t) i = omega arith in z), omega arith))
     ]
 
 -- The Digest behind them.
 
 -- where the command reads the slots below the gate alone
-module _ (t : Task) (words : List ℕ) (i made : ℕ) (h : TaskSlots t words i) (below : i < slots_read t) (long : length words ≡ 26 + 64 * (i - first_in t) + 64) (at_made : made ≡ 31 + 73 * (i + 1 - first_in t)) (read : AreRead t.params (used_in t) t.entries words i) (again : (list : List Entry) → AreRead t.params (used_in t) list words (i + 1) → SlotsKnown t.cmd t.params t.gate (used_in t) list t.survey words (i + 1)) where
+module _ (t : Task) (words : List ℕ) (i made : ℕ) (h : TaskSlots t words i) (below : i < slots_read t) (long : length words ≡ words_to t.params (first_in t) i + (geometry t.params).words) (at_made : made ≡ steps_to t.params (first_in t) (i + 1)) (read : AreRead t.params (used_in t) t.entries words i) (again : (list : List Entry) → AreRead t.params (used_in t) list words (i + 1) → SlotsKnown t.cmd t.params t.gate (used_in t) list t.survey words (i + 1)) where
   join_by : (e : Entry) (f : Option Reason) → join_fault t.params t.entries e ≡ f → fed_slots words t.params (used_in t) (i + 1) ≡ joined_or i f (Sound t.params (t.entries ++ e ∷ [])) → Outcome t (join_turn t i e f) (reading_note (joined_or i f (Sound t.params (t.entries ++ e ∷ [])))) words made
   join_by e (Some reason) is told = ends t (reply.BadSlot i reason) _ words made refl (at_made ∙ slot_steps_told t words i h)
   join_by e None is told =
@@ -86,15 +89,15 @@ module _ (t : Task) (words : List ℕ) (i made : ℕ) (h : TaskSlots t words i) 
           count = length-append t.entries (e ∷ []) ∙ ap (λ (n : ℕ). n + 1) read.count;
           lookups = lookups_more t.entries e read.lookups (joins_from t.params t.entries e is).absent;
         });
-        long = let b = h.behind in omega arith;
-      }) (omega arith) refl (let b = h.behind in omega arith) at_made)
+        long = let b = h.behind in omega (arith, piece_more (geometry t.params).words (first_in t) i h.behind);
+      }) (omega arith) refl (let b = h.behind in omega (arith, piece_more (geometry t.params).words (first_in t) i h.behind)) at_made)
 
   slot_by : (r : Result Entry Reason) → fed_slots words t.params (used_in t) (i + 1) ≡ slot_or t.params t.entries i r (λ e. Sound t.params (t.entries ++ e ∷ [])) → Outcome t (slot_turn t i r) (reading_note (slot_or t.params t.entries i r (λ e. Sound t.params (t.entries ++ e ∷ [])))) words made
   slot_by (Err reason) told = ends t (reply.BadSlot i reason) _ words made refl (at_made ∙ slot_steps_told t words i h)
   slot_by (Ok e) told = join_by e (join_fault t.params t.entries e) refl told
 
   -- the words of a slot are looked at
-  pub slot_outcome : t.words ≡ drop (26 + 64 * (i - first_in t)) words → Outcome t (slot_turn t i (entry_of t.params t.words i)) (reading_note (fed_slots words t.params (used_in t) (i + 1))) words made
+  pub slot_outcome : t.words ≡ drop (words_to t.params (first_in t) i) words → Outcome t (slot_turn t i (entry_of t.params t.words i)) (reading_note (fed_slots words t.params (used_in t) (i + 1))) words made
   slot_outcome held =
       let told = slots_more words t.params (used_in t) i t.entries h.behind read.sound in
       let same : t.words ≡ slot_words (fed t.params (first_in t) words) t.params i = held ∙ sym (slot_held words t.params (first_in t) i h.behind long) in
@@ -104,7 +107,9 @@ module _ (t : Task) (words : List ℕ) (i made : ℕ) (h : TaskSlots t words i) 
 check_as : (cmd : Cmd) (t : Task) (words : List ℕ) (i made : ℕ) → TieAt (at.Check i) (record t { cmd = cmd }) words made → Outcome (record t { cmd = cmd }) (check_turn cmd (record t { cmd = cmd }) i) (slot_note cmd words t.params (used t.kept cmd t.params t.gate) i) words (made + 1)
 check_as Fsck t words i made (h, below, long, held, is) =
     let none : length (used t.kept Fsck t.params t.gate) ≡ 0 = used_fsck_count t.kept t.params t.gate in
-    let same : t.words ≡ slot_words (fed t.params 0 words) t.params i = held ∙ ap (λ (n : ℕ). drop (26 + 64 * (i - n)) words) none ∙ sym (slot_held words t.params 0 i (omega arith) (omega arith)) in
+    let same : t.words ≡ slot_words (fed t.params 0 words) t.params i = held ∙ ap (λ (n : ℕ). drop (words_to t.params n i) words) none ∙ sym (slot_held words t.params 0 i (omega arith) (subst (λ (n : ℕ). length words ≡ words_to t.params n i + (geometry t.params).words) none long)) in
+    let more_words = piece_more (geometry t.params).words (length (used t.kept Fsck t.params t.gate)) i h.behind in
+    let more_steps = piece_more (slot_steps (geometry t.params)) (length (used t.kept Fsck t.params t.gate)) i h.behind in
     goes_on (record t { cmd = Fsck }) (record t { cmd = Fsck; survey = survey_slot t.params t.gate i t.words t.survey; words = []; phase = slot_or_decide (record t { cmd = Fsck }) (i + 1) }) words (made + 1) refl refl refl refl
     (slot_or_decide_tie (record t { cmd = Fsck; survey = survey_slot t.params t.gate i t.words t.survey; words = [] }) (slot_or_decide (record t { cmd = Fsck }) (i + 1)) words (i + 1) (made + 1)
     (record {
@@ -113,7 +118,7 @@ check_as Fsck t words i made (h, below, long, held, is) =
       known = ap (λ (w : List ℕ). survey_slot t.params t.gate i w t.survey) same ∙ ap (survey_slot t.params t.gate i (slot_words (fed t.params 0 words) t.params i)) h.known ∙ sym (survey_more words t.params t.gate i);
       long = omega arith;
     }) (omega arith) refl (omega arith) (omega arith))
-check_as cmd t words i made (h, below, long, held, is) = slot_outcome (record t { cmd = cmd }) words i (made + 1) h below long (let b = h.behind in omega arith) h.known (λ list read. read) held
+check_as cmd t words i made (h, below, long, held, is) = slot_outcome (record t { cmd = cmd }) words i (made + 1) h below long (omega (arith, piece_more (slot_steps (geometry t.params)) (length (used t.kept cmd t.params t.gate)) i h.behind)) h.known (λ list read. read) held
 
 -- so for every command
 pub check_step : (t : Task) (words : List ℕ) (i made : ℕ) → TieAt (at.Check i) t words made → Outcome t (check_turn t.cmd t i) (slot_note t.cmd words t.params (used_in t) i) words (made + 1)

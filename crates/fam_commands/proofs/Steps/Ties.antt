@@ -9,7 +9,7 @@ use Rattle.fam_base.specs.declared.entry.Params.{Params}
 use Rattle.fam_base.specs.declared.entry.Entry.{Entry}
 use Rattle.fam_base.specs.declared.entry.Kind.TheVariants as kind
 use Rattle.fam_base.specs.PathOrder.{path_eq}
-use Rattle.fam_format.specs.Layout.{geometry, log_line, first_format}
+use Rattle.fam_format.specs.Layout.{geometry, log_line}
 use Rattle.fam_format.specs.Log.{log_fault, gate_fault}
 use Rattle.fam_format.specs.Slot.{spelling}
 use Rattle.fam_format.specs.Super.{magic_fault}
@@ -112,17 +112,17 @@ abbrev pub IsSame : Content → Entry → List ℕ → ℕ → Type 0
 IsSame against e loaded j = (o : ℕ) → o < line_bytes * j → o < e.size → (byte_in loaded o == content_byte against o) ≡ true
 
 -- what is known of the file when its line j is read
-abbrev pub FileKnown : Cmd → ℕ → ℕ → List Entry → Option Entry → List ℕ → ℕ → Type 0
-FileKnown (Verify path against) f gate entries entry words j =
-    (e : Entry) × IsChosen (Verify path against) path entries entry e × IsSame against e (drop (head_words + first_format.words * (gate - f)) words) j × (head_words + first_format.words * (gate - f) + line_words * j ≤ length words)
-FileKnown (Read path offset count) f gate entries entry words j = (e : Entry) × IsChosen (Read path offset count) path entries entry e
-FileKnown Logplay f gate entries entry words j = ⊥
-FileKnown Mount f gate entries entry words j = ⊥
-FileKnown (Mkdir path attr) f gate entries entry words j = ⊥
-FileKnown (Creat path size attr stripe fill) f gate entries entry words j = ⊥
-FileKnown (Cp path attr stripe bytes) f gate entries entry words j = ⊥
-FileKnown (Check listing) f gate entries entry words j = ⊥
-FileKnown Fsck f gate entries entry words j = ⊥
+abbrev pub FileKnown : Cmd → Params → ℕ → ℕ → List Entry → Option Entry → List ℕ → ℕ → Type 0
+FileKnown (Verify path against) p f gate entries entry words j =
+    (e : Entry) × IsChosen (Verify path against) path entries entry e × IsSame against e (drop (words_to p f gate) words) j × (words_to p f gate + line_words * j ≤ length words)
+FileKnown (Read path offset count) p f gate entries entry words j = (e : Entry) × IsChosen (Read path offset count) path entries entry e
+FileKnown Logplay p f gate entries entry words j = ⊥
+FileKnown Mount p f gate entries entry words j = ⊥
+FileKnown (Mkdir path attr) p f gate entries entry words j = ⊥
+FileKnown (Creat path size attr stripe fill) p f gate entries entry words j = ⊥
+FileKnown (Cp path attr stripe bytes) p f gate entries entry words j = ⊥
+FileKnown (Check listing) p f gate entries entry words j = ⊥
+FileKnown Fsck p f gate entries entry words j = ⊥
 
 -- an entry is appended
 pub record IsAppending (t : Task) (words : List ℕ) : Type 0 where
@@ -168,7 +168,7 @@ abbrev pub PartKnown : Part → Task → List ℕ → ℕ → Type 0
 PartKnown Superblock t words j = (magic_fault (slice_index words 0) ≡ None) × (1 ≤ length words) × IsFresh t.kept t.entries t.survey
 PartKnown Header t words j = HasSuper t.cmd t.me t.lines t.params words × IsFresh t.kept t.entries t.survey
 PartKnown (Slot i) t words j = TaskSlots t words i × (i < slots_read t)
-PartKnown File t words j = TaskSlots t words t.gate × FileKnown t.cmd (first_in t) t.gate t.entries t.entry words j
+PartKnown File t words j = TaskSlots t words t.gate × FileKnown t.cmd t.params (first_in t) t.gate t.entries t.entry words j
 
 -- k words of line j of a part are loaded, and so many operations of the line are made
 pub record InPart (part : Part) (t : Task) (words : List ℕ) (j k ops made : ℕ) : Type 0 where

@@ -25,7 +25,7 @@ use Rattle.fam_rules.specs.Place.{line_bytes}
 use Rattle.fam_machine.proofs.MkfsOps.{early_free}
 use Rattle.fam_journal.specs.declared.refusal.Refusal.{Refusal}
 use Rattle.fam_journal.specs.Calls as call
-use Rattle.fam_journal.specs.Calls.{begins_refusal, is_busy, is_busy_host, is_engaged, is_same, makes_refusal, refusal_of, umounts_refusal}
+use Rattle.fam_journal.specs.Calls.{begins_refusal, is_busy, is_busy_host, is_engaged, is_same, makes_refusal, refusal_of, umounts_refusal, IsSoundRequest}
 use Rattle.fam_journal.specs.View.{HostStands, HostView, HostStandsAt, StandsAs, TaskStands, WorldView}
 use Rattle.fam_journal.specs.Kept.{copy_at, Agrees, IfRuns, Reached, TaskTold, hosts_of, run_at, run_of, run_with, shared_of, settled_of}
 use Rattle.fam_machine.specs.HostMoves.{Move, move_failed, moved}
@@ -257,43 +257,44 @@ module _ (start : Image) (state : Machines) (journal : List Note) (kept : Reache
         let idle : is_busy d.host ≡ false = sym (ap is_busy_host d.host_is) ∙ no_when _ _ (or_first _ _ free) in
         record { views = _; held = umounted_held start state world held h d (idle_of (length start) d.host d.view d.stands idle); uuids = uuids_kept h _ (λ z. refl) state.hosts kept.uuids }
 
-    pub makes_sound : (request : MkfsRequest) → IsUuid request.fs → makes_refusal request.unit request.log h state ≡ None → SoundParams (asked request d.host.uuid (length state.memory))
-    makes_sound request uuid free =
+    pub makes_sound : (request : MkfsRequest) → IsSoundRequest request → makes_refusal request.unit request.log h state ≡ None → SoundParams (asked request d.host.uuid (length state.memory))
+    makes_sound request good free =
         let may = may_make request.unit request.log h state free in
         record {
+          format = good.format;
           unit = both_first (is_unit request.unit) (is_log_length request.unit request.log) may.form;
           log_length = both_next (is_unit request.unit) (is_log_length request.unit request.log) may.form;
           slots = refl;
           need = may.room;
           device = omega (arith, held.limit, held.lines);
-          fs = uuid;
+          fs = good.fs;
           master = kept.uuids h d.host d.host_is;
         }
 
-    pub made_kept : (request : MkfsRequest) → IsUuid request.fs → makes_refusal request.unit request.log h state ≡ None
+    pub made_kept : (request : MkfsRequest) → IsSoundRequest request → makes_refusal request.unit request.log h state ≡ None
         → Reached start (with_machine h (operated_all (mkfs_ops (asked request d.host.uuid (length state.memory))) (machine_of state d.host)) d.host.task state) (journal ++ Rattle.fam_journal.specs.Notes.Made h (asked request d.host.uuid (length state.memory)) ∷ [])
-    made_kept request uuid free =
+    made_kept request good free =
         let p = asked request d.host.uuid (length state.memory) in
         let may = may_make request.unit request.log h state free in
         record {
           views = _;
           held = subst (λ (z : Machine). Agrees start (with_machine h (operated_all (mkfs_ops p) z) d.host.task state) (record { hosts = changed_at h (λ v. record v { cache = (operated_all (mkfs_ops p) z).cache }) kept.views; journal = journal ++ Rattle.fam_journal.specs.Notes.Made h p ∷ [] }) (operated_all (mkfs_ops p) z).image) (sym same_cache)
-              (made_held start state world held h d p (makes_sound request uuid free) refl (sym d.stands.uuid)
+              (made_held start state world held h d p (makes_sound request good free) refl (sym d.stands.uuid)
               (λ k v is. let host = view_of k v is in idle_of (length start) host.0 v host.2 (not_busy host.0 (none_passes is_engaged state.hosts 0 may.busy k host.0 host.1)))
               (λ k v is. let host = view_of k v is in bare_of (length start) host.0 v host.2 (none_passes is_engaged state.hosts 0 may.busy k host.0 host.1))
               (λ k v ne is l. let host = view_of k v is in none_dirty v.cache (ap dirty_count (sym host.2.cache) ∙ none_dirty_from h state.hosts 0 may.dirty k host.0 host.1 (λ e. ne (zero_plus k ∙ e))) l));
           uuids = uuids_kept h _ (λ z. refl) state.hosts kept.uuids;
         }
 
-    pub halts_kept : (request : MkfsRequest) → IsUuid request.fs → makes_refusal request.unit request.log h state ≡ None → (k : ℕ)
+    pub halts_kept : (request : MkfsRequest) → IsSoundRequest request → makes_refusal request.unit request.log h state ≡ None → (k : ℕ)
         → Reached start (with_machine h (machine (operated_all (halted_ops k (asked request d.host.uuid (length state.memory))) (machine_of state d.host)).image finmap.empty) d.host.task state) (journal ++ Rattle.fam_journal.specs.Notes.Cut h k ∷ [])
-    halts_kept request uuid free k =
+    halts_kept request good free k =
         let p = asked request d.host.uuid (length state.memory) in
         let may = may_make request.unit request.log h state free in
         record {
           views = _;
           held = subst (λ (z : Machine). Agrees start (with_machine h (machine (operated_all (halted_ops k p) z).image finmap.empty) d.host.task state) (record { hosts = changed_at h (λ v. record v { cache = finmap.empty }) kept.views; journal = journal ++ Rattle.fam_journal.specs.Notes.Cut h k ∷ [] }) (operated_all (halted_ops k p) z).image) (sym same_cache)
-              (halted_holds start state world held h d p (makes_sound request uuid free) refl (sym d.stands.uuid)
+              (halted_holds start state world held h d p (makes_sound request good free) refl (sym d.stands.uuid)
               (λ k v is. let host = view_of k v is in idle_of (length start) host.0 v host.2 (not_busy host.0 (none_passes is_engaged state.hosts 0 may.busy k host.0 host.1)))
               (λ k v is. let host = view_of k v is in bare_of (length start) host.0 v host.2 (none_passes is_engaged state.hosts 0 may.busy k host.0 host.1))
               (λ k v ne is l. let host = view_of k v is in none_dirty v.cache (ap dirty_count (sym host.2.cache) ∙ none_dirty_from h state.hosts 0 may.dirty k host.0 host.1 (λ e. ne (zero_plus k ∙ e))) l) k);

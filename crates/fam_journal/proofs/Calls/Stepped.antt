@@ -68,7 +68,7 @@ module _ (start : Image) (hosts : List HostPast) (h : ℕ) (told : HostPast) (ho
       → ((p : Params) (entries : List Entry) → reading_of (line_at image) (line_bytes * length start) ≢ read.Sound p entries)
       → MaySayBad turn (line_at image) (line_bytes * length start) t → Bridged (record { start = start; state = Bad (Given image) damage g; hosts = hosts }) now h turn
   damaged_bridged image damage g own enough bad says = record {
-    legal = damaged_legal start image (Bad (Given image) damage g) hosts h told host_is t me (sym own.reads ∙ first_read image (subst (λ (n : ℕ). least_lines ≤ n) (sym own.lines_are) enough))
+    legal = damaged_legal start image (Bad (Given image) damage g) hosts h told host_is t was.cmd me (sym own.reads ∙ first_read image (subst (λ (n : ℕ). least_lines ≤ n) (sym own.lines_are) enough))
         (subst (λ (n : ℕ). (p : Params) (entries : List Entry) → reading_of (line_at image) (line_bytes * n) ≢ read.Sound p entries) (sym own.lines_are) bad) turn
         (subst (λ (n : ℕ). MaySayBad turn (line_at image) (line_bytes * n) t) (sym own.lines_are) says);
     settles = bad_settles now start hosts h (Given image) damage g turn;

@@ -222,7 +222,7 @@ module _ (lines : ℕ) (files : Files) (old : Session) (hosts : List HostForm) (
 
   pub event_form : (e : Event) (notes : List Note) (new : Session) → DoesEvent files e old notes new → Formed (EventForm e lines hosts) lines hosts notes new.machines
   event_form (event.Host name uuid) notes new x = row (call.Declares name uuid) notes new.machines x.0
-  event_form (event.Mkfs name fs unit log force halt) notes new x = row (call.Makes name (mkfs_request fs unit log force halt)) notes new.machines x.0
+  event_form (event.Mkfs name fs unit log format force halt) notes new x = row (call.Makes name (mkfs_request fs unit log format force halt)) notes new.machines x.0
   event_form (event.Begin name what) notes new (inl x) = starts name what new notes x
   event_form (event.Begin name what) notes new (inr x) = refused name what NoMore new notes x
   event_form (event.Run name what) notes new (inl x) = begin_free name what new notes x
@@ -241,7 +241,7 @@ module _ (lines : ℕ) (files : Files) (old : Session) (hosts : List HostForm) (
 
   pub event_breaks : (e : Event) (notes : List Note) (new : Session) → BreaksEvent e old notes new → EventBreaksForm e lines hosts notes
   event_breaks (event.Host name uuid) notes new x = absurd x
-  event_breaks (event.Mkfs name fs unit log force halt) notes new x = breaks_form lines m hosts formed notes new.machines name (mkfs_request fs unit log force halt) x.0
+  event_breaks (event.Mkfs name fs unit log format force halt) notes new x = breaks_form lines m hosts formed notes new.machines name (mkfs_request fs unit log format force halt) x.0
   event_breaks (event.Begin name what) notes new x = absurd x
   event_breaks (event.Run name what) notes new x = absurd x
   event_breaks (event.Step name count) notes new x = absurd x
@@ -255,7 +255,7 @@ module _ (lines : ℕ) (files : Files) (old : Session) (hosts : List HostForm) (
 
   pub event_part : (e : Event) (notes : List Note) (new : Session) → PartOf files e old notes new → EventPartForm e lines hosts notes
   event_part (event.Host name uuid) notes new x = absurd x
-  event_part (event.Mkfs name fs unit log force halt) notes new x = absurd x
+  event_part (event.Mkfs name fs unit log format force halt) notes new x = absurd x
   event_part (event.Begin name what) notes new x = absurd x
   event_part (event.Run name what) notes new x = (goes name what Unfinished UnfinishedForm (λ h m hosts formed notes new x. unfinished_form lines m hosts formed h notes new x) new notes x).form
   event_part (event.Step name count) notes new x =

@@ -34,7 +34,7 @@ use Rattle.fam_commands.specs.Task.{Task, op_of, part_count, size_of, wanted_end
 use Rattle.fam_commands.specs.Turns.{Turn, Goes, Marks, Finds, Writes, Ends, super_fault_reply, log_fault_reply, magic_turn, host_refusal, host_turn, super_turn, header_turn, slot_or_decide, slots_read, finds_or_goes, gate_loaded, gate_turn, join_turn, slot_turn, check_turn, first_store, append_turn, verify_lines, verify_turn, bytes_turn, kind_turn, found_turn, wish_turn, decide_turn, line_or, line_difference, compare_turn, file_turn, line_turn, with_word, word_turn, turn_at}
 use Rattle.fam_rules.specs.declared.answers.Refused.{Refused}
 use Rattle.fam_rules.specs.declared.answers.Refused.TheVariants as cause
-use Rattle.fam_rules.specs.Decide.{Wish, Room, decide_wish, entry_or, exists_refusal, full_refusal, master_refusal, parent_refusal, room_for, stripe_refusal, wish_of, file_refusal, found_refusal, is_stripe, room_or, room_by}
+use Rattle.fam_rules.specs.Decide.{Wish, Room, decide_wish, early_refusal, entry_or, exists_refusal, first_refusal, full_refusal, length_refusal, master_refusal, parent_refusal, room_for, stripe_refusal, wish_of, file_refusal, found_refusal, is_stripe, room_or, room_by}
 use Rattle.fam_rules.specs.Place.{line_bytes}
 use Rattle.fam_rules.specs.Reports.{log_report, report_by}
 use Rattle.fam_rules.specs.Written.{lines_of}
@@ -88,6 +88,18 @@ module _ (me : List ℕ) where
       by_test : (b : Bool) → path_eq me p.master ≡ b → OptionCause me (if b then None else Some (cause.NotMaster me p.master))
       by_test true is = tt
       by_test false is = λ n. (refl, other_of me p.master is, inr tt)
+
+  length_cause : (p : Params) (path : List ℕ) → OptionCause me (length_refusal p path)
+  unfolding MetCause
+  length_cause p path = by_test (nat_le (length path) (geometry p).path_limit)
+    where
+      by_test : (b : Bool) → OptionCause me (if b then None else Some (cause.LongPath (geometry p).path_limit))
+      by_test true = tt
+      by_test false = λ n. inr tt
+
+  first_cause : (first behind : Option Refused) → OptionCause me first → OptionCause me behind → OptionCause me (first_refusal first behind)
+  first_cause (Some why) behind is rest = is
+  first_cause None behind is rest = rest
 
   stripe_cause : (p : Params) (o : Option _) → OptionCause me (stripe_refusal p o)
   unfolding MetCause
@@ -153,7 +165,7 @@ module _ (me : List ℕ) where
   decided : (p : Params) (list : List Entry) (w : Wish) → DecisionForm me w (decide_wish p me list w)
   unfolding decide_wish
   decided p list w =
-      stopped w (master_refusal p me) _ (master_cause p)
+      stopped w (early_refusal p me w.path) _ (first_cause (master_refusal p me) (length_refusal p w.path) (master_cause p) (length_cause p w.path))
       (stopped w (stripe_refusal p w.stripe) _ (stripe_cause p w.stripe)
       (stopped w (exists_refusal (finmap.get (replay list) w.path)) _ (exists_cause (finmap.get (replay list) w.path))
       (stopped w (parent_refusal (replay list) (parent_of w.path)) _ (parent_cause (replay list) (parent_of w.path))
@@ -209,6 +221,17 @@ begun_master me p = by_test (path_eq me p.master) refl
     by_test true is = tt
     by_test false is = (refl, other_of me p.master is, inl refl)
 
+begun_length : (me : List ℕ) (p : Params) (path : List ℕ) → BegunCause me (length_refusal p path)
+begun_length me p path = by_test (nat_le (length path) (geometry p).path_limit)
+  where
+    by_test : (b : Bool) → BegunCause me (if b then None else Some (cause.LongPath (geometry p).path_limit))
+    by_test true = tt
+    by_test false = inl refl
+
+begun_first : (me : List ℕ) (first behind : Option Refused) → BegunCause me first → BegunCause me behind → BegunCause me (first_refusal first behind)
+begun_first me (Some why) behind is rest = is
+begun_first me None behind is rest = rest
+
 module _ (t : Task) where
   magic_form : (o : Option SuperFault) → TurnForm t.me t.cmd Begun (magic_turn t o)
   magic_form (Some fault) = super_ends t.me t.cmd Begun refl fault
@@ -220,7 +243,7 @@ module _ (t : Task) where
 
   wished_form : (p : Params) (o : Option Wish) → wish_of t.cmd ≡ o → TurnForm t.me t.cmd Begun (host_turn t p (host_refusal o p t.me))
   wished_form p None is = record { cmd_is = refl; me_is = refl; stage_is = refl }
-  wished_form p (Some w) is = host_form p (master_refusal p t.me) (begun_master t.me p) (w, is)
+  wished_form p (Some w) is = host_form p (early_refusal p t.me w.path) (begun_first t.me (master_refusal p t.me) (length_refusal p w.path) (begun_master t.me p) (begun_length t.me p w.path)) (w, is)
 
   super_form : (r : Result Params SuperFault) → TurnForm t.me t.cmd Begun (super_turn t r)
   super_form (Err fault) = super_ends t.me t.cmd Begun refl fault

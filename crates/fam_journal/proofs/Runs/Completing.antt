@@ -80,8 +80,8 @@ module _ (start : Image) where
       by_turn d (inl t) =
           subst (AreRuled (past_of start journal)) (sym t.notes_are)
           (turn_ruled (past_of start journal) h (turn_given t.t t.word) d.told t.s.cmd d.told_is t.cmd_is (turn_fits t.s.kept t.s.cmd t.s.me (length start) t.t t.s.words t.s.made t.word t.standing.joined t.standing.stands)
-          (λ given is. owns_fault (length start) (hosts_kept state journal kept) (shared_kept state journal kept) h (run_of t.t d.told) (runs d t) t.s.cmd d.told
-          (standing_tied t.s.kept t.s.cmd t.s.me (length start) t.t t.s.words t.s.made t.standing.joined t.standing.stands).cmd_is (mine d t)
+          (λ given is. owns_fault (length start) (hosts_kept state journal kept) (shared_kept state journal kept) h (run_of t.t d.told) (runs d t)
+          (standing_tied t.s.kept t.s.cmd t.s.me (length start) t.t t.s.words t.s.made t.standing.joined t.standing.stands) d.told t.cmd_is (mine d t)
           (past_of start journal).state (λ i g n e. bad_own start i g n journal e) (line_at state.memory) kept.held.invariant.stage t.word given is)
           (subst (LegalBehind (past_of start journal)) t.notes_are legal))
       by_turn d (inr fault) = subst (AreRuled (past_of start journal)) (sym fault.1) (tt, tt)
@@ -150,7 +150,7 @@ module _ (start : Image) where
   module _ (files : Files) where
     event_ruled : (e : Event) → IsSoundEvent e → (old new : Session) (journal notes : List Note) → Reached start old.machines journal → DoesEvent files e old notes new → AreRuled (past_of start journal) notes
     event_ruled (event.Host name uuid) sound old new journal notes kept x = does_ruled old.machines journal kept notes new.machines (call.Declares name uuid) x.0
-    event_ruled (event.Mkfs name fs unit log force halt) sound old new journal notes kept x = does_ruled old.machines journal kept notes new.machines (call.Makes name (mkfs_request fs unit log force halt)) x.0
+    event_ruled (event.Mkfs name fs unit log format force halt) sound old new journal notes kept x = does_ruled old.machines journal kept notes new.machines (call.Makes name (mkfs_request fs unit log format force halt)) x.0
     event_ruled (event.Begin name what) sound old new journal notes kept (inl x) = does_ruled old.machines journal kept notes new.machines (call.Begins name x.cmd) x.does
     event_ruled (event.Begin name what) sound old new journal notes kept (inr (inl x)) = refusal_ruled old.machines journal kept notes new.machines name x.cause x.notes_are
     event_ruled (event.Begin name what) sound old new journal notes kept (inr (inr x)) = does_ruled old.machines journal kept notes new.machines (call.Refuses name x.cause) x.does

@@ -5,7 +5,6 @@ use Rattle.std.proofs.lemmas.Option.{same_Some}
 use Rattle.fam_base.specs.declared.entry.Params.{Params}
 use Rattle.fam_base.specs.declared.line.LineNo.{LineNo}
 use Rattle.fam_base.specs.Image.{Image, line_at}
-use Rattle.fam_format.specs.Params.{IsUuid}
 use Rattle.fam_format.specs.Reading.{reading}
 use Rattle.fam_machine.specs.declared.request.MkfsRequest.{MkfsRequest}
 use Rattle.fam_machine.specs.Cuts.{Cuts}
@@ -19,7 +18,7 @@ use Rattle.fam_journal.specs.declared.event.Event.{Event}
 use Rattle.fam_journal.specs.declared.refusal.Refusal.{Refusal}
 use Rattle.fam_journal.specs.declared.event.Event.TheVariants as event
 use Rattle.fam_journal.specs.Calls as call
-use Rattle.fam_journal.specs.Calls.{AtNumber, BreaksOff, Call, CutsAt, MakesCut, OnHost, makes_refusal, number_of, on_host, refusal_of}
+use Rattle.fam_journal.specs.Calls.{AtNumber, BreaksOff, Call, CutsAt, MakesCut, OnHost, makes_refusal, number_of, on_host, refusal_of, IsSoundRequest}
 use Rattle.fam_journal.specs.CallRecords.{IsSoundCall}
 use Rattle.fam_journal.specs.Ends.{CutCallReads, CutEventReads, CutReads, ReadsAs, StillReads}
 use Rattle.fam_journal.specs.Events.{BreaksEvent, Session}
@@ -62,21 +61,21 @@ module _ (start : Image) (state : Machines) (journal : List Note) (kept : Reache
     eight_words = subst HasEightWords (sym (same_cache start state journal kept h d)) (whole start state (record { hosts = kept.views; journal = journal }) kept.held h d)
 
     -- of the maker's machine
-    maker_cut : (request : MkfsRequest) → IsUuid request.fs → makes_refusal request.unit request.log h state ≡ None → (line : LineNo) (left : Machine)
+    maker_cut : (request : MkfsRequest) → IsSoundRequest request → makes_refusal request.unit request.log h state ≡ None → (line : LineNo) (left : Machine)
         → Cuts (expected_ops request.force request.halt (asked request d.host.uuid (length state.memory)) (machine_of state d.host)) (machine_of state d.host) line left
         → CutReads (asked request d.host.uuid (length state.memory)) s left.image
-    maker_cut request uuid free line left cuts =
+    maker_cut request good free line left cuts =
         cut_reads (asked request d.host.uuid (length state.memory)) s state.memory left.image
         (held_reads start state (record { hosts = kept.views; journal = journal }) state.memory kept.held)
-        (cut_is (asked request d.host.uuid (length state.memory)) (machine_of state d.host) line left (makes_sound start state journal kept h d request uuid free)
+        (cut_is (asked request d.host.uuid (length state.memory)) (machine_of state d.host) line left (makes_sound start state journal kept h d request good free)
         (enough_to_make start state journal kept h d request.unit request.log free) (omega arith) kept.held.normal eight_words head request.force request.halt cuts)
 
   -- of a mkfs
-  make_cut : (name : List ℕ) (request : MkfsRequest) → IsUuid request.fs → refusal_of (call.Makes name request) state ≡ None → (notes : List Note) (new : Machines)
+  make_cut : (name : List ℕ) (request : MkfsRequest) → IsSoundRequest request → refusal_of (call.Makes name request) state ≡ None → (notes : List Note) (new : Machines)
       → AtNumber (number_of name state) state (λ h host. MakesCut h (asked request host.uuid (length state.memory)) request.force request.halt name host state notes new)
       → CutCallReads (call.Makes name request) state s new.memory
   unfolding refusal_of
-  make_cut name request uuid free notes new x = by_number (number_of name state) refl x
+  make_cut name request good free notes new x = by_number (number_of name state) refl x
     where
       by_host : (h : ℕ) → number_of name state ≡ Some h → (o : Option HostState) → slice_get state.hosts h ≡ o
           → OnHost o (λ host. MakesCut h (asked request host.uuid (length state.memory)) request.force request.halt name host state notes new)
@@ -90,7 +89,7 @@ module _ (start : Image) (state : Machines) (journal : List Note) (kept : Reache
           subst (λ (z : HostState). MakesCut h (asked request z.uuid (length state.memory)) request.force request.halt name z state notes new) own x in
           subst (λ (z : HostState). CutReads (asked request z.uuid (length state.memory)) s new.memory) (sym own)
           (subst (λ (m : Machines). CutReads (asked request d.host.uuid (length state.memory)) s m.memory) (sym y.left_is)
-          (maker_cut h d request uuid may y.line y.left y.cuts))
+          (maker_cut h d request good may y.line y.left y.cuts))
 
       by_number : (o : Option ℕ) → number_of name state ≡ o
           → AtNumber o state (λ h host. MakesCut h (asked request host.uuid (length state.memory)) request.force request.halt name host state notes new)
@@ -121,8 +120,8 @@ module _ (start : Image) (state : Machines) (journal : List Note) (kept : Reache
 
 -- of an event
 pub event_cut : (start : Image) (e : Event) → IsSoundEvent e → (old new : Session) (journal notes : List Note) → Reached start old.machines journal → BreaksEvent e old notes new → CutEventReads e old (past_of start journal).state new.machines.memory
-event_cut start (event.Mkfs name fs unit log force halt) sound old new journal notes kept x =
-    call_cut start old.machines journal kept (call.Makes name (mkfs_request fs unit log force halt)) sound notes new.machines x.0
+event_cut start (event.Mkfs name fs unit log format force halt) sound old new journal notes kept x =
+    call_cut start old.machines journal kept (call.Makes name (mkfs_request fs unit log format force halt)) sound notes new.machines x.0
 event_cut start (event.Host name uuid) sound old new journal notes kept x = absurd x
 event_cut start (event.Begin name what) sound old new journal notes kept x = absurd x
 event_cut start (event.Run name what) sound old new journal notes kept x = absurd x

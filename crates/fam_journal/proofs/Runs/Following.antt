@@ -7,7 +7,6 @@ use Rattle.std.proofs.lemmas.List.{append-nil, append_assoc}
 use Rattle.std.proofs.lemmas.Option.{same_Some}
 use Rattle.fam_base.specs.Image.{Image}
 use Rattle.fam_commands.specs.Classes.{is_mount}
-use Rattle.fam_format.specs.Params.{IsUuid}
 use Rattle.fam_machine.specs.declared.request.MkfsRequest.{MkfsRequest}
 use Rattle.fam_machine.specs.Mkfs.{asked}
 use Rattle.fam_machine.specs.MkfsRequest.{mkfs_request}
@@ -18,7 +17,7 @@ use Rattle.fam_journal.specs.declared.event.Event.TheVariants as event
 use Rattle.fam_journal.specs.declared.refusal.Refusal.{Refusal}
 use Rattle.fam_journal.specs.declared.refusal.Refusal.TheVariants as why
 use Rattle.fam_journal.specs.Calls as call
-use Rattle.fam_journal.specs.Calls.{ActsAt, ActsOf, Acts, AtNumber, BreaksOff, ByRefusal, Call, Completes, CutsAt, Does, MakesOrHalts, OnHost, DoesOperations, Unfinished, begins_refusal, line_refusal, makes_refusal, name_of, number_of, on_host, refusal_of, umounts_refusal}
+use Rattle.fam_journal.specs.Calls.{ActsAt, ActsOf, Acts, AtNumber, BreaksOff, ByRefusal, Call, Completes, CutsAt, Does, MakesOrHalts, OnHost, DoesOperations, Unfinished, begins_refusal, line_refusal, makes_refusal, name_of, number_of, on_host, refusal_of, umounts_refusal, IsSoundRequest}
 use Rattle.fam_journal.specs.Ends.{AllDone, CutEventReads, Ending, EventsDone, MkfsFails, EndsOutOfMemory, EndsOutOfMemoryBroken, ReadsAs, SinkFails, SourceFails}
 use Rattle.fam_journal.specs.Events.{BreaksEvent, DoesEvent, Continues, IsBegun, RefusesEvent, MayNotStep, PartOf, Session, first_session}
 use Rattle.fam_journal.specs.Follows.{Follows, FollowsBroken}
@@ -71,10 +70,10 @@ operates_kept start h (suc count) state journal kept notes new (inr o) =
 
 module _ (start : Image) (state : Machines) (journal : List Note) (kept : Reached start state journal) (notes : List Note) (new : Machines) where
   -- a file system is made, or its maker halts
-  make_kept : (request : MkfsRequest) → IsUuid request.fs → (h : ℕ) (d : Declared start state (record { hosts = kept.views; journal = journal }) h) → makes_refusal request.unit request.log h state ≡ None
+  make_kept : (request : MkfsRequest) → IsSoundRequest request → (h : ℕ) (d : Declared start state (record { hosts = kept.views; journal = journal }) h) → makes_refusal request.unit request.log h state ≡ None
       → (halt : Option ℕ) → MakesOrHalts halt h (asked request d.host.uuid (length state.memory)) request.force d.host state notes new → Reached start new (journal ++ notes)
-  make_kept request uuid h d may None x = kept_as start journal notes _ new _ x.notes_are x.left (made_kept start state journal kept h d request uuid may)
-  make_kept request uuid h d may (Some k) x = kept_as start journal notes _ new _ x.notes_are x.left (halts_kept start state journal kept h d request uuid may k)
+  make_kept request good h d may None x = kept_as start journal notes _ new _ x.notes_are x.left (made_kept start state journal kept h d request good may)
+  make_kept request good h d may (Some k) x = kept_as start journal notes _ new _ x.notes_are x.left (halts_kept start state journal kept h d request good may k)
 
   -- of a declared host
   act_kept : (c : Call) → IsSoundCall c → refusal_of c state ≡ None → (h : ℕ) → number_of (name_of c) state ≡ Some h → (d : Declared start state (record { hosts = kept.views; journal = journal }) h) → ActsAt c h d.host state notes new → Reached start new (journal ++ notes)
@@ -172,7 +171,7 @@ module _ (start : Image) (files : Files) where
 
   pub event_kept : (e : Event) → IsSoundEvent e → (old new : Session) (journal notes : List Note) → Reached start old.machines journal → DoesEvent files e old notes new → Reached start new.machines (journal ++ notes)
   event_kept (event.Host name uuid) sound old new journal notes kept x = does_kept start old.machines journal kept notes new.machines (call.Declares name uuid) sound x.0
-  event_kept (event.Mkfs name fs unit log force halt) sound old new journal notes kept x = does_kept start old.machines journal kept notes new.machines (call.Makes name (mkfs_request fs unit log force halt)) sound x.0
+  event_kept (event.Mkfs name fs unit log format force halt) sound old new journal notes kept x = does_kept start old.machines journal kept notes new.machines (call.Makes name (mkfs_request fs unit log format force halt)) sound x.0
   event_kept (event.Begin name what) sound old new journal notes kept (inl x) = begun_kept name what old new journal notes kept x
   event_kept (event.Begin name what) sound old new journal notes kept (inr x) = refused_event_kept name what old new journal notes kept x
   event_kept (event.Run name what) sound old new journal notes kept (inl x) = goes_kept Completes completes_kept name what old new journal notes kept x
@@ -189,7 +188,7 @@ module _ (start : Image) (files : Files) where
 
   part_kept : (e : Event) → IsSoundEvent e → (old new : Session) (journal notes : List Note) → Reached start old.machines journal → PartOf files e old notes new → Reached start new.machines (journal ++ notes)
   part_kept (event.Host name uuid) sound old new journal notes kept x = absurd x
-  part_kept (event.Mkfs name fs unit log force halt) sound old new journal notes kept x = absurd x
+  part_kept (event.Mkfs name fs unit log format force halt) sound old new journal notes kept x = absurd x
   part_kept (event.Begin name what) sound old new journal notes kept x = absurd x
   part_kept (event.Run name what) sound old new journal notes kept x = goes_kept Unfinished unfinished_kept name what old new journal notes kept x
   part_kept (event.Step name count) sound old new journal notes kept x = unfinished_kept x.host old.machines journal kept notes new.machines x.does.does
@@ -244,7 +243,7 @@ cut_notes c old new notes x = by_number (number_of (name_of c) old) x.1
 
 broken_notes : (e : Event) (old new : Session) (notes : List Note) → BreaksEvent e old notes new → (name : List ℕ) × (cause : Refusal) × (notes ≡ Refused name cause ∷ [])
 broken_notes (event.Host name uuid) old new notes x = absurd x
-broken_notes (event.Mkfs name fs unit log force halt) old new notes x = cut_notes (call.Makes name (mkfs_request fs unit log force halt)) old.machines new.machines notes x.0
+broken_notes (event.Mkfs name fs unit log format force halt) old new notes x = cut_notes (call.Makes name (mkfs_request fs unit log format force halt)) old.machines new.machines notes x.0
 broken_notes (event.Begin name what) old new notes x = absurd x
 broken_notes (event.Run name what) old new notes x = absurd x
 broken_notes (event.Step name count) old new notes x = absurd x

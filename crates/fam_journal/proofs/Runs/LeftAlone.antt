@@ -72,8 +72,8 @@ module _ (start : Image) (files : Files) (origin : Origin) (damage : Damage) (ga
   -- one event, done whole
   event_stays : (e : Event) (old new : Session) (journal notes : List Note) → IsBadAt old.machines journal → NoneEnds notes → DoesEvent files e old notes new → new.machines.memory ≡ old.machines.memory
   event_stays (event.Host name uuid) old new journal notes bad none x = call_stays (call.Declares name uuid) old.machines new.machines journal notes bad none x.0
-  event_stays (event.Mkfs name fs unit log force halt) old new journal notes bad none x =
-      call_stays (call.Makes name (mkfs_request fs unit log force halt)) old.machines new.machines journal notes bad none x.0
+  event_stays (event.Mkfs name fs unit log format force halt) old new journal notes bad none x =
+      call_stays (call.Makes name (mkfs_request fs unit log format force halt)) old.machines new.machines journal notes bad none x.0
   event_stays (event.Begin name what) old new journal notes bad none (inl x) = begun_stays name what old new journal notes bad none x
   event_stays (event.Begin name what) old new journal notes bad none (inr x) = refused_event_stays name what old new journal notes bad none x
   event_stays (event.Run name what) old new journal notes bad none (inl x) = goes_stay Completes completes_stay name what old new journal notes bad none x
@@ -91,7 +91,7 @@ module _ (start : Image) (files : Files) (origin : Origin) (damage : Damage) (ga
   -- and in part
   part_stays : (e : Event) (old new : Session) (journal notes : List Note) → IsBadAt old.machines journal → NoneEnds notes → PartOf files e old notes new → new.machines.memory ≡ old.machines.memory
   part_stays (event.Host name uuid) old new journal notes bad none x = absurd x
-  part_stays (event.Mkfs name fs unit log force halt) old new journal notes bad none x = absurd x
+  part_stays (event.Mkfs name fs unit log format force halt) old new journal notes bad none x = absurd x
   part_stays (event.Begin name what) old new journal notes bad none x = absurd x
   part_stays (event.Run name what) old new journal notes bad none x = goes_stay Unfinished unfinished_stays name what old new journal notes bad none x
   part_stays (event.Step name count) old new journal notes bad none x = unfinished_stays x.host old.machines new.machines journal notes bad x.does.does

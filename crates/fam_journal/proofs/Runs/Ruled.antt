@@ -21,12 +21,12 @@ use Rattle.fam_rules.specs.Asks.{File, ask, entries_of}
 use Rattle.fam_rules.specs.Decide.{decide}
 use Rattle.fam_rules.specs.Reply as reply
 use Rattle.fam_rules.specs.Reply.{Reply}
-use Rattle.fam_journal.specs.Complete.{AreRuled, HasRuled, IsAppendAnswer, AsksPrefix, IsDamagedAnswer, IsDamagedClient, IsFaultAnswer, IsRuled, IsSoundAnswer}
-use Rattle.fam_journal.specs.Legal.{AnswerAllowed, CauseAllowed, IsAskedOf, IsDecided, LegalBehind, OfHost, ReplyAllowed, damaged_master}
+use Rattle.fam_journal.specs.Complete.{AreRuled, HasRuled, IsAppendAnswer, AsksPrefix, IsDamagedAnswer, IsDamagedClient, IsDamagedLong, IsFaultAnswer, IsRuled, IsSoundAnswer}
+use Rattle.fam_journal.specs.Legal.{AnswerAllowed, CauseAllowed, DamagedSuper, IsAskedOf, IsDecided, LegalBehind, NamesLong, OfHost, ReplyAllowed, damaged_master}
 use Rattle.fam_journal.specs.Machines.{notes_of}
 use Rattle.fam_journal.specs.Notes.{Replied, Note}
 use Rattle.fam_journal.specs.Past as past
-use Rattle.fam_journal.proofs.Settled.Owners.{OwnsFault}
+use Rattle.fam_journal.proofs.Settled.Owners.{OwnsDamaged, OwnsFault}
 use Rattle.fam_format.specs.declared.faults.SuperFault.{SuperFault}
 use Rattle.fam_journal.specs.Past.{Given, Halted, Origin, Damage, State, Bad, Sound, HostPast, Past, past_after, past_behind, with_pending}
 
@@ -175,7 +175,7 @@ module _ (p : Params) (history : List File) (pending : Option File) (host : Host
 
   decided : (why : Cause) (cmd : Cmd) → host.cmd ≡ Some cmd → IsDecided p host history pending (Err why) → IsAppendAnswer p history pending host cmd (reply.NotAppended why)
   decided why cmd told says =
-      inr (says.none, subst (λ (c : Cmd). decide p host.uuid (entries_of history) c ≡ Some (Err why)) (same_Some says.cmd cmd (sym says.told ∙ told)) says.is)
+      inr (inr (says.none, subst (λ (c : Cmd). decide p host.uuid (entries_of history) c ≡ Some (Err why)) (same_Some says.cmd cmd (sym says.told ∙ told)) says.is))
 
   refused : (why : Cause) (cmd : Cmd) → host.cmd ≡ Some cmd → CauseAllowed why host (Sound p history pending) → IsAppendAnswer p history pending host cmd (reply.NotAppended why)
   refused (cause.NotMaster me master) cmd told says =
@@ -184,6 +184,8 @@ module _ (p : Params) (history : List File) (pending : Option File) (host : Host
         other = λ e. says.other (says.me_is ∙ e ∙ owner);
         is = ap₂ cause.NotMaster says.me_is (sym owner);
       }
+  refused (cause.LongPath limit) cmd told says =
+      inr (inl record { limit = limit; names = subst (λ (q : Params). NamesLong q host limit) says.super says.names; is = refl })
   refused cause.BadStripe cmd told says = decided cause.BadStripe cmd told says
   refused (cause.Exists kind) cmd told says = decided (cause.Exists kind) cmd told says
   refused cause.NoParent cmd told says = decided cause.NoParent cmd told says
@@ -214,28 +216,34 @@ no_master : (origin : Origin) (fault : SuperFault) → damaged_master origin (pa
 no_master (Given image) fault = refl
 no_master Halted fault = refl
 
+-- nor parameters
+no_super : (p : Params) (origin : Origin) (fault : SuperFault) → DamagedSuper p origin (past.NoSuperblock fault) → ⊥
+no_super p (Given image) fault super = super
+no_super p Halted fault super = super
+
 module _ (origin : Origin) (damage : Damage) (host : HostPast) where
-  fault_case : (cmd : Cmd) (given : Reply) → (cmd ≡ Fsck → ⊥) → IsFaultAnswer damage given → (HasWish cmd → (master : List ℕ) → damaged_master origin damage ≡ Some master → host.uuid ≡ master) → IsDamagedAnswer origin damage host cmd given
+  fault_case : (cmd : Cmd) (given : Reply) → (cmd ≡ Fsck → ⊥) → IsFaultAnswer damage given → OwnsDamaged cmd host origin damage → IsDamagedAnswer origin damage host cmd given
   fault_case Logplay given other is owns = is
   fault_case Mount given other is owns = is
-  fault_case (Mkdir path attr) given other is owns = inl record { is = is; own = owns (_, refl) }
-  fault_case (Creat path size attr stripe fill) given other is owns = inl record { is = is; own = owns (_, refl) }
-  fault_case (Cp path attr stripe bytes) given other is owns = inl record { is = is; own = owns (_, refl) }
+  fault_case (Mkdir path attr) given other is owns = inl record { is = is; own = owns.own (_, refl); fits = owns.fits }
+  fault_case (Creat path size attr stripe fill) given other is owns = inl record { is = is; own = owns.own (_, refl); fits = owns.fits }
+  fault_case (Cp path attr stripe bytes) given other is owns = inl record { is = is; own = owns.own (_, refl); fits = owns.fits }
   fault_case (Verify path against) given other is owns = is
   fault_case (Read path offset count) given other is owns = is
   fault_case (Check entries) given other is owns = is
   fault_case Fsck given other is owns = absurd (other refl)
 
-  client_case : (cmd : Cmd) (given : Reply) → HasWish cmd → IsDamagedClient origin damage host given → IsDamagedAnswer origin damage host cmd given
-  client_case Logplay given wish is = absurd (let none = wish.1 in cc)
-  client_case Mount given wish is = absurd (let none = wish.1 in cc)
-  client_case (Mkdir path attr) given wish is = inr is
-  client_case (Creat path size attr stripe fill) given wish is = inr is
-  client_case (Cp path attr stripe bytes) given wish is = inr is
-  client_case (Verify path against) given wish is = absurd (let none = wish.1 in cc)
-  client_case (Read path offset count) given wish is = absurd (let none = wish.1 in cc)
-  client_case (Check entries) given wish is = absurd (let none = wish.1 in cc)
-  client_case Fsck given wish is = absurd (let none = wish.1 in cc)
+  -- a refusal
+  refused_case : (cmd : Cmd) (given : Reply) → HasWish cmd → IsDamagedClient origin damage host given ⊎ IsDamagedLong origin damage host given → IsDamagedAnswer origin damage host cmd given
+  refused_case Logplay given wish is = absurd (let none = wish.1 in cc)
+  refused_case Mount given wish is = absurd (let none = wish.1 in cc)
+  refused_case (Mkdir path attr) given wish is = inr is
+  refused_case (Creat path size attr stripe fill) given wish is = inr is
+  refused_case (Cp path attr stripe bytes) given wish is = inr is
+  refused_case (Verify path against) given wish is = absurd (let none = wish.1 in cc)
+  refused_case (Read path offset count) given wish is = absurd (let none = wish.1 in cc)
+  refused_case (Check entries) given wish is = absurd (let none = wish.1 in cc)
+  refused_case Fsck given wish is = absurd (let none = wish.1 in cc)
 
   own_fault : (own : Damage) (given : Reply) → own ≡ damage → IsFaultAnswer own given → IsFaultAnswer damage given
   own_fault own given e is = subst (λ (d : Damage). IsFaultAnswer d given) e is
@@ -243,12 +251,14 @@ module _ (origin : Origin) (damage : Damage) (host : HostPast) where
   damaged_ruled : (gate : ℕ) (cmd : Cmd) (given : Reply) → Fits cmd given → OwnsFault cmd host (Bad origin damage gate) given → ReplyAllowed given host (Bad origin damage gate) → IsDamagedAnswer origin damage host cmd given
   damaged_ruled gate cmd (reply.Appended seq) fits owns says = absurd says
   damaged_ruled gate cmd (reply.NotAppended (cause.NotMaster me master)) fits owns says =
-      client_case cmd _ fits record {
+      refused_case cmd _ fits (inl record {
         master = master;
         master_is = says.master_is;
         other = λ e. says.other (says.me_is ∙ e);
         is = ap (λ (u : List ℕ). reply.NotAppended (cause.NotMaster u master)) says.me_is;
-      }
+      })
+  damaged_ruled gate cmd (reply.NotAppended (cause.LongPath limit)) fits owns says =
+      refused_case cmd _ fits (inr record { params = says.params; super = says.super; limit = limit; names = says.names; is = refl })
   damaged_ruled gate cmd (reply.NotAppended cause.BadStripe) fits owns says = absurd says
   damaged_ruled gate cmd (reply.NotAppended (cause.Exists kind)) fits owns says = absurd says
   damaged_ruled gate cmd (reply.NotAppended cause.NoParent) fits owns says = absurd says
@@ -267,7 +277,10 @@ module _ (origin : Origin) (damage : Damage) (host : HostPast) where
   damaged_ruled gate cmd (reply.Reports report) fits owns says = subst (λ (c : Cmd). IsDamagedAnswer origin damage host c (reply.Reports report)) (sym fits) (ap reply.Reports says)
   damaged_ruled gate cmd (reply.NoSuperblock fault) fits owns says =
       fault_case cmd _ fits (own_fault (past.NoSuperblock fault) (reply.NoSuperblock fault) says refl)
-      (λ wish master is. absurd (let none : damaged_master origin damage ≡ None = sym (ap (damaged_master origin) says) ∙ no_master origin fault in cc))
+      record {
+        own = λ wish master is. absurd (let none : damaged_master origin damage ≡ None = sym (ap (damaged_master origin) says) ∙ no_master origin fault in cc);
+        fits = λ p limit super names. no_super p origin fault (subst (DamagedSuper p origin) (sym says) super);
+      }
   damaged_ruled gate cmd (reply.BadHeader fault) fits owns says = fault_case cmd _ fits (own_fault (past.BadHeader fault) (reply.BadHeader fault) says refl) (owns.header fault refl)
   damaged_ruled gate cmd (reply.BadSlot i reason) fits owns says = fault_case cmd _ fits (own_fault (past.BadSlot i reason) (reply.BadSlot i reason) says refl) (owns.slot i reason refl)
 

@@ -291,7 +291,7 @@ module _ (one_listing : OneListing) where
 
   one_event : (files : Files) (e : Event) (old : Session) (a b : List Note) (m n : Session) → IsFaultless a → IsFaultless b → DoesEvent files e old a m → DoesEvent files e old b n → AreSame a b m n
   one_event files (event.Host name uuid) old a b m n clean_a clean_b x y = one_plain files old a b m n clean_a clean_b (call.Declares name uuid) x y
-  one_event files (event.Mkfs name fs unit log force halt) old a b m n clean_a clean_b x y = one_plain files old a b m n clean_a clean_b (call.Makes name (mkfs_request fs unit log force halt)) x y
+  one_event files (event.Mkfs name fs unit log format force halt) old a b m n clean_a clean_b x y = one_plain files old a b m n clean_a clean_b (call.Makes name (mkfs_request fs unit log format force halt)) x y
   one_event files (event.Begin name what) old a b m n clean_a clean_b (inl x) (inl y) = one_begun files old a b m n clean_a clean_b name what x y
   one_event files (event.Begin name what) old a b m n clean_a clean_b (inl x) (inr y) = absurd (begun_or_refused files name what old a b m n x y)
   one_event files (event.Begin name what) old a b m n clean_a clean_b (inr x) (inl y) = absurd (begun_or_refused files name what old b a n m y x)

@@ -22,11 +22,12 @@ use Rattle.fam_protocol.specs.Bad.{MayReplyBad, MaySayBad, fault_of}
 use Rattle.fam_protocol.specs.Steps.{turn_settles}
 use Rattle.fam_journal.proofs.Settled.ReplyCases.{replied_by}
 use Rattle.fam_journal.specs.Kept.{IsCleared, origin_lines, settled_bad, settled_of}
-use Rattle.fam_journal.specs.Legal.{DamageAllowed, cleared_report, FoundAllowed, LegalBehind, OfHost, ReplyAllowed, ReportAllowed, master_of, master_read}
+use Rattle.fam_journal.specs.Legal.{DamageAllowed, cleared_report, FoundAllowed, HasSuper, LegalBehind, OfHost, ReplyAllowed, ReportAllowed, master_of, master_read}
 use Rattle.fam_journal.specs.Machines.{notes_of}
 use Rattle.fam_journal.specs.Past as past
 use Rattle.fam_journal.specs.Past.{Damage, FewLines, Halted, Origin, State, Bad, Sound, HostPast, past_behind, replied, state_read}
 use Rattle.fam_journal.proofs.Settled.BadStates.{not_super}
+use Rattle.fam_journal.proofs.Settled.LongPaths.{names_long}
 
 -- Nothing is settled.
 
@@ -52,7 +53,7 @@ bad_settles now start hosts h i d g turn = ap (λ (s : State). settled_of s now)
 
 -- What is legal of an image that was handed in.
 
-module _ (first start : Image) (state : State) (hosts : List HostPast) (h : ℕ) (told : HostPast) (host_is : slice_get hosts h ≡ Some told) (t : Task) (me : told.uuid ≡ t.me) (state_is : state ≡ state_read start (reading_of (line_at start) (line_bytes * length start))) (bad : (p : Params) (entries : List Entry) → reading_of (line_at start) (line_bytes * length start) ≢ read.Sound p entries) where
+module _ (first start : Image) (state : State) (hosts : List HostPast) (h : ℕ) (told : HostPast) (host_is : slice_get hosts h ≡ Some told) (t : Task) (cmd_is : told.cmd ≡ Some t.cmd) (me : told.uuid ≡ t.me) (state_is : state ≡ state_read start (reading_of (line_at start) (line_bytes * length start))) (bad : (p : Params) (entries : List Entry) → reading_of (line_at start) (line_bytes * length start) ≢ read.Sound p entries) where
   abbrev have : ℕ
   have = line_bytes * length start
 
@@ -78,6 +79,12 @@ module _ (first start : Image) (state : State) (hosts : List HostPast) (h : ℕ)
   master_by p (read.BadSlot i reason) super is = ap master_read super
   master_by p (read.Sound q entries) super is = absurd (bad q entries is)
 
+  super_by : (p : Params) (r : Reading) → super_in (line_at start) have ≡ Ok p → reading_of (line_at start) have ≡ r → HasSuper p (state_read start r)
+  super_by p (read.NoSuperblock fault) super is = absurd (not_super (line_at start) p fault have super is)
+  super_by p (read.BadHeader fault) super is = super
+  super_by p (read.BadSlot i reason) super is = super
+  super_by p (read.Sound q entries) super is = absurd (bad q entries is)
+
   report_by : (given : Rattle.fam_rules.specs.declared.answers.Report.Report) (r : Reading) → reading_of (line_at start) have ≡ r → given ≡ Rattle.fam_rules.specs.Reports.report_of (line_at start) have → ReportAllowed given told (state_read start r)
   report_by given (read.NoSuperblock fault) is same = same
   report_by given (read.BadHeader fault) is same = same
@@ -89,6 +96,11 @@ module _ (first start : Image) (state : State) (hosts : List HostPast) (h : ℕ)
     me_is = a.me_is ∙ sym me;
     master_is = ap master_of state_is ∙ master_by a.params (reading_of (line_at start) have) a.super refl ∙ ap Some (sym a.master_is);
     other = a.other;
+  }
+  reply_legal (reply.NotAppended (refused.LongPath limit)) a = record {
+    params = a.params;
+    super = subst (HasSuper a.params) (sym state_is) (super_by a.params (reading_of (line_at start) have) a.super refl);
+    names = names_long a.params t told limit cmd_is me a.is;
   }
   reply_legal (reply.NotAppended refused.BadStripe) a = absurd a
   reply_legal (reply.NotAppended (refused.Exists kind)) a = absurd a
@@ -134,6 +146,7 @@ module _ (first : Image) (now : Lines) (have : ℕ) (damage : Damage) (gate : �
 
   reply_cleared : (given : Reply) → MayReplyBad given now have t → ReplyAllowed given told (Bad Halted damage gate)
   reply_cleared (reply.NotAppended (refused.NotMaster own master)) a = absurd (not_super now a.params (super.NoSuper 0) have a.super none)
+  reply_cleared (reply.NotAppended (refused.LongPath limit)) a = absurd (not_super now a.params (super.NoSuper 0) have a.super none)
   reply_cleared (reply.NotAppended refused.BadStripe) a = absurd a
   reply_cleared (reply.NotAppended (refused.Exists kind)) a = absurd a
   reply_cleared (reply.NotAppended refused.NoParent) a = absurd a

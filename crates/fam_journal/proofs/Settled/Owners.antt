@@ -1,9 +1,10 @@
 -- On a damaged image: a task that appends comes to a fault behind the superblock only where its host is the one that the
--- superblock names.
-use Rattle.std.proofs.Common.{◌≡◌, ℕ, ◌*◌, ◌⊎◌, List, length, Some, inl, inr, refl, ap, sym, ◌∙◌, subst}
-use Rattle.std.specs.Prelude.{⊤, unwrap_or}
+-- superblock names, and its path fits.
+use Rattle.std.proofs.Common.{◌≡◌, ℕ, ◌*◌, ◌⊎◌, List, length, Option, Some, None, inl, inr, refl, ap, sym, ◌∙◌, subst}
+use Rattle.std.specs.Prelude.{⊤, unwrap_or, Ok}
 use Rattle.std.proofs.lemmas.Option.{same_Some}
 use Rattle.fam_base.specs.declared.cmd.Cmd.{Cmd}
+use Rattle.fam_base.specs.declared.entry.Params.{Params}
 use Rattle.fam_base.specs.Image.{Image, line_at}
 use Rattle.fam_format.specs.declared.faults.LogFault.{LogFault}
 use Rattle.fam_format.specs.declared.faults.Reason.{Reason}
@@ -14,7 +15,9 @@ use Rattle.fam_commands.specs.declared.phase.Phase.TheVariants as at
 use Rattle.fam_machine.specs.Operations.{given_by}
 use Rattle.fam_commands.specs.Stands.{turn_given}
 use Rattle.fam_commands.specs.Task.{Task, op_of}
-use Rattle.fam_commands.specs.Turns.{Ends}
+use Rattle.fam_commands.specs.Turns.{Ends, host_refusal}
+use Rattle.fam_commands.specs.Kept.{Kept}
+use Rattle.fam_rules.specs.Decide.{wish_of}
 use Rattle.fam_rules.specs.Place.{line_bytes}
 use Rattle.fam_rules.specs.Reply as reply
 use Rattle.fam_rules.specs.Reply.{Reply}
@@ -24,16 +27,22 @@ use Rattle.fam_protocol.specs.Bad.{AtDamagedPhase, ReadsSuper}
 use Rattle.fam_protocol.specs.SharedState.{SharedState}
 use Rattle.fam_protocol.specs.Invariant.{Hosts, IsDamaged, InvariantBy}
 use Rattle.fam_commands.proofs.BeforeWrites.{EndsAt, IsBehindSuper, SaysAt, turn_says}
+use Rattle.fam_commands.proofs.Steps.Ties.{Tied}
 use Rattle.fam_journal.specs.Kept.{settled_bad, settled_of}
 use Rattle.fam_journal.specs.Laws.{IsOwn}
-use Rattle.fam_journal.specs.Legal.{damaged_master, given_master, master_read}
+use Rattle.fam_journal.specs.Legal.{DamagedSuper, GivenSuper, NamesLong, damaged_master, given_master, master_read}
 use Rattle.fam_journal.specs.Past as past
-use Rattle.fam_journal.specs.Past.{Damage, FewLines, Given, Halted, State, Bad, Sound, HostPast}
+use Rattle.fam_journal.specs.Past.{Damage, FewLines, Given, Halted, Origin, State, Bad, Sound, HostPast}
+use Rattle.fam_journal.proofs.Settled.LongPaths.{behind_free, none_long}
 
--- where the command appends, its host is the one that a damaged image's superblock names
+-- where the command appends, its host is the one that a damaged image's superblock names, and its path fits
+pub record OwnsDamaged (cmd : Cmd) (host : HostPast) (origin : Origin) (damage : Damage) : Type 0 where
+  pub own : HasWish cmd → (master : List ℕ) → damaged_master origin damage ≡ Some master → host.uuid ≡ master
+  pub fits : (p : Params) (limit : ℕ) → DamagedSuper p origin damage → NamesLong p host limit → ⊥
+
 abbrev pub Owns : Cmd → HostPast → State → Type 0
 Owns cmd host (Sound p history pending) = ⊤
-Owns cmd host (Bad origin damage gate) = HasWish cmd → (master : List ℕ) → damaged_master origin damage ≡ Some master → host.uuid ≡ master
+Owns cmd host (Bad origin damage gate) = OwnsDamaged cmd host origin damage
 
 -- so it is where a fault behind the superblock is answered
 pub record OwnsFault (cmd : Cmd) (host : HostPast) (state : State) (given : Reply) : Type 0 where
@@ -103,11 +112,16 @@ behind_known at.SendGate image have h t s behind a = absurd a
 behind_known at.FenceGate image have h t s behind a = absurd a
 
 module _ (lines : ℕ) (hosts : Hosts) (shared : SharedState) (h : ℕ) (r : Run) (run : hosts.run h ≡ Some r) (behind : IsBehindSuper r.task.phase) where
+  known : (image : Image) → IsDamaged (line_at image) lines hosts shared → ReadsSuper (line_at image) (line_bytes * lines) r.task
+  known image stage = behind_known r.task.phase (line_at image) (line_bytes * lines) h r.task shared behind (stage.tasks h r run).phase
+
+  -- the superblock of the image has the task's parameters
+  super_known : (image : Image) → length image ≡ lines → IsDamaged (line_at image) lines hosts shared → super_in (line_at image) (line_bytes * length image) ≡ Ok r.task.params
+  super_known image same stage = ap (λ (n : ℕ). super_in (line_at image) (line_bytes * n)) same ∙ (known image stage).super
+
   by_super : (image : Image) → length image ≡ lines → IsDamaged (line_at image) lines hosts shared → HasWish r.task.cmd → (master : List ℕ) → master_read (super_in (line_at image) (line_bytes * length image)) ≡ Some master → r.task.me ≡ master
   by_super image same stage wish master is =
-      let known = behind_known r.task.phase (line_at image) (line_bytes * lines) h r.task shared behind (stage.tasks h r run).phase in
-      known.master wish.0 wish.1
-      ∙ same_Some r.task.params.master master (sym (ap master_read (ap (λ (n : ℕ). super_in (line_at image) (line_bytes * n)) same ∙ known.super)) ∙ is)
+      (known image stage).master wish.0 wish.1 ∙ same_Some r.task.params.master master (sym (ap master_read (super_known image same stage)) ∙ is)
 
   owned : (image : Image) (damage : Damage) → length image ≡ lines → InvariantBy (settled_bad (line_at image) damage) lines hosts shared → HasWish r.task.cmd → (master : List ℕ) → given_master image damage ≡ Some master → r.task.me ≡ master
   owned image (FewLines n) same stage wish master is = absurd cc
@@ -115,16 +129,36 @@ module _ (lines : ℕ) (hosts : Hosts) (shared : SharedState) (h : ℕ) (r : Run
   owned image (past.BadHeader fault) same stage wish master is = by_super image same stage wish master is
   owned image (past.BadSlot i reason) same stage wish master is = by_super image same stage wish master is
 
-  owns : (cmd : Cmd) (told : HostPast) → r.task.cmd ≡ cmd → told.uuid ≡ r.task.me → (state : State) → ((i : Image) (d : Damage) (g : ℕ) → state ≡ Bad (Given i) d g → IsOwn lines i d g) → (now : Lines) → InvariantBy (settled_of state now) lines hosts shared → Owns cmd told state
-  owns cmd told cmds me (Sound p history pending) own now stage = tt
-  owns cmd told cmds me (Bad Halted damage gate) own now stage = λ wish master is. absurd cc
-  owns cmd told cmds me (Bad (Given image) damage gate) own now stage = λ wish master is.
-      me ∙ owned image damage (own image damage gate refl).lines_are stage (subst HasWish (sym cmds) wish) master is
+  module _ {kept : Option Kept} {cmd : Cmd} {me : List ℕ} {words : List ℕ} {made : ℕ} (tied : Tied cmd me lines kept r.task words made) (told : HostPast) (cmd_is : told.cmd ≡ Some cmd) (uuid_is : told.uuid ≡ r.task.me) where
+    short_by : (image : Image) → length image ≡ lines → IsDamaged (line_at image) lines hosts shared → (p : Params) (limit : ℕ) → super_in (line_at image) (line_bytes * length image) ≡ Ok p → NamesLong p told limit → ⊥
+    short_by image same stage p limit super names =
+        let read : Ok r.task.params ≡ Ok p = sym (super_known image same stage) ∙ super in
+        let params : r.task.params ≡ p = cc in
+        none_long p r.task.cmd r.task.me told limit (cmd_is ∙ ap Some (sym tied.cmd_is))
+        (subst (λ (q : Params). host_refusal (wish_of r.task.cmd) q r.task.me ≡ None) params (behind_free r.task.phase r.task words made behind tied.tie)) names
 
-pub owns_fault : (lines : ℕ) (hosts : Hosts) (shared : SharedState) (h : ℕ) (r : Run) → hosts.run h ≡ Some r → (cmd : Cmd) (told : HostPast) → r.task.cmd ≡ cmd → told.uuid ≡ r.task.me
+    short : (image : Image) (damage : Damage) → length image ≡ lines → InvariantBy (settled_bad (line_at image) damage) lines hosts shared → (p : Params) (limit : ℕ) → GivenSuper p image damage → NamesLong p told limit → ⊥
+    short image (FewLines n) same stage p limit super names = super
+    short image (past.NoSuperblock fault) same stage p limit super names = super
+    short image (past.BadHeader fault) same stage p limit super names = short_by image same stage p limit super names
+    short image (past.BadSlot i reason) same stage p limit super names = short_by image same stage p limit super names
+
+    owns : (state : State) → ((i : Image) (d : Damage) (g : ℕ) → state ≡ Bad (Given i) d g → IsOwn lines i d g) → (now : Lines) → InvariantBy (settled_of state now) lines hosts shared → Owns cmd told state
+    owns (Sound p history pending) own now stage = tt
+    owns (Bad Halted damage gate) own now stage = record { own = λ wish master is. absurd cc; fits = λ p limit super names. super }
+    owns (Bad (Given image) damage gate) own now stage =
+        let lines_are : length image ≡ lines = (own image damage gate refl).lines_are in
+        record {
+          own = λ wish master is. uuid_is ∙ owned image damage lines_are stage (subst HasWish (sym tied.cmd_is) wish) master is;
+          fits = short image damage lines_are stage;
+        }
+
+pub owns_fault : (lines : ℕ) (hosts : Hosts) (shared : SharedState) (h : ℕ) (r : Run) → hosts.run h ≡ Some r
+    → {kept : Option Kept} {cmd : Cmd} {me : List ℕ} {words : List ℕ} {made : ℕ} → Tied cmd me lines kept r.task words made
+    → (told : HostPast) → told.cmd ≡ Some cmd → told.uuid ≡ r.task.me
     → (state : State) → ((i : Image) (d : Damage) (g : ℕ) → state ≡ Bad (Given i) d g → IsOwn lines i d g) → (now : Lines) → InvariantBy (settled_of state now) lines hosts shared
     → (word : ℕ) (given : Reply) → turn_given r.task word ≡ Ends given → OwnsFault cmd told state given
-owns_fault lines hosts shared h r run cmd told cmds me state own now stage word given is = record {
-  header = λ fault e. owns lines hosts shared h r run (header_behind r.task word given is fault e) cmd told cmds me state own now stage;
-  slot = λ i reason e. owns lines hosts shared h r run (slot_behind r.task word given is i reason e) cmd told cmds me state own now stage;
+owns_fault lines hosts shared h r run tied told cmd_is uuid_is state own now stage word given is = record {
+  header = λ fault e. owns lines hosts shared h r run (header_behind r.task word given is fault e) tied told cmd_is uuid_is state own now stage;
+  slot = λ i reason e. owns lines hosts shared h r run (slot_behind r.task word given is i reason e) tied told cmd_is uuid_is state own now stage;
 }

@@ -27,6 +27,7 @@ use Rattle.fam_journal.specs.Kept.{run_of, settled_of}
 use Rattle.fam_journal.specs.Legal.{FoundAllowed, WritesAllowed, InBounds, IsAskedOf, IsDecided, IsReportOf, LegalBehind, OfHost, ReplyAllowed, CauseAllowed}
 use Rattle.fam_journal.specs.Machines.{notes_of}
 use Rattle.fam_journal.specs.Past.{State, Sound, HostPast, Past, cmd_of, filled_bytes, past_behind, replied, reported_count, shows_count, with_pending}
+use Rattle.fam_journal.proofs.Settled.LongPaths.{names_long}
 use Rattle.fam_journal.proofs.Settled.Settles.{acknowledged, acknowledges_settles, finds_settles, shows_settles, length-pending}
 
 module _ (p : Params) (history : List File) (pending : Option File) (start : Image) (hosts : List HostPast) (h : ℕ) (told : HostPast) (host_is : slice_get hosts h ≡ Some told) (t : Task) (cmd_is : told.cmd ≡ Some t.cmd) (me : told.uuid ≡ t.me) (have : ℕ) (uuid : ℕ → Option (List ℕ)) (master : Option ℕ) where
@@ -113,6 +114,7 @@ module _ (p : Params) (history : List File) (pending : Option File) (start : Ima
 
   cause_allowed : (why : Refused) → MayRefuse why sys t all (length history) → CauseAllowed why told (Sound p history pending)
   cause_allowed (refused.NotMaster own other) a = record { me_is = a.me_is ∙ sym me; master_is = ap Some (sym a.master_is); other = a.other }
+  cause_allowed (refused.LongPath limit) a = record { params = p; super = refl; names = names_long p t told limit cmd_is me a }
   cause_allowed refused.BadStripe a = decided (Err refused.BadStripe) (sym a.settled_is) a.is
   cause_allowed (refused.Exists kind) a = decided (Err (refused.Exists kind)) (sym a.settled_is) a.is
   cause_allowed refused.NoParent a = decided (Err refused.NoParent) (sym a.settled_is) a.is

@@ -1,11 +1,11 @@
 -- Copies of file systems, as the clause of the top call tells them.
 use Rattle.std.proofs.Common.{◌≡◌, ◌≤◌, ℕ, List, Option, Some, None, Result, inl, inr, refl, sym, ap, subst, arith}
-use Rattle.std.specs.Prelude.{◌&&◌, Bool, true, false, IfErr}
+use Rattle.std.specs.Prelude.{◌&&◌, Bool, true, false, IfErr, IsTrue}
 use Rattle.std.proofs.lemmas.Bool.{false≢true}
 use Rattle.fam_base.specs.declared.entry.Params.{Params}
 use Rattle.fam_dup.specs.declared.fault.DupFault.{DupFault}
 use Rattle.fam_dup.specs.Ends.{AreAsked, DupEnds, IsCaused, NamesLine}
-use Rattle.fam_format.specs.Params.{is_log_length, is_unit}
+use Rattle.fam_format.specs.Params.{is_format, is_log_length, is_unit}
 use Rattle.fam_journal.specs.declared.refusal.Refusal.TheVariants as why
 use Rattle.fam_machine.specs.declared.request.MkfsRequest.{MkfsRequest}
 use Rattle.fam_machine.specs.Mkfs.{asked, is_geometry}
@@ -21,11 +21,11 @@ both_true true b is = (refl, is)
 both_true false b is = absurd (false≢true is)
 
 -- parameters of a good unit and log are such as a copy may have
-pub are_asked : (request : MkfsRequest) (me : List ℕ) (lines size : ℕ) (p : Params) → p ≡ asked request me lines → lines ≡ size → is_geometry request.unit request.log ≡ true → AreAsked p size
-are_asked request me lines size p is count good =
+pub are_asked : (request : MkfsRequest) (me : List ℕ) (lines size : ℕ) (p : Params) → p ≡ asked request me lines → lines ≡ size → IsTrue (is_format request.format) → is_geometry request.unit request.log ≡ true → AreAsked p size
+are_asked request me lines size p is count format good =
     let parts = both_true (is_unit request.unit) (is_log_length request.unit request.log) good in
     subst (λ (q : Params). AreAsked q size) (sym is)
-    (subst (λ (n : ℕ). AreAsked (asked request me lines) n) count (record { unit = parts.0; log_length = parts.1; slots = refl; device = refl }))
+    (subst (λ (n : ℕ). AreAsked (asked request me lines) n) count (record { format = format; unit = parts.0; log_length = parts.1; slots = refl; device = refl }))
 
 -- Neither image was asked.
 

@@ -153,7 +153,7 @@ module _ (name : List ℕ) (request : MkfsRequest) (lines : ℕ) (unhalted : req
   making_end hosts notes None (inr x) = only ends_mkfs (Refused name (why.Dirty (record { 0 = x.dirty }))) notes x.notes_are refl
   making_end hosts notes (Some cause) x = only ends_mkfs (Refused name cause) notes x refl
 
-  pub mkfs_end : (hosts : List HostForm) (journal : List Note) → FollowsForm lines (event.Mkfs name request.fs request.unit request.log request.force request.halt ∷ []) hosts journal → last_passes ends_mkfs journal ≡ true
+  pub mkfs_end : (hosts : List HostForm) (journal : List Note) → FollowsForm lines (event.Mkfs name request.fs request.unit request.log request.format request.force request.halt ∷ []) hosts journal → last_passes ends_mkfs journal ≡ true
   mkfs_end hosts journal f =
       let alone : journal ≡ f.0 = f.4 ∙ ap (λ (ns : List Note). f.0 ++ ns) f.3 ∙ append-nil f.0 in
       subst (λ (ns : List Note). last_passes ends_mkfs ns ≡ true) (sym alone) (making_end hosts f.0 (refusal_told (call.Makes name request) lines hosts) f.2)

@@ -146,7 +146,7 @@ running_faultless h hosts (note ∷ notes) x runs =
 
 part_faultless : (e : Event) → IsShotEvent e → (lines : ℕ) (hosts : List HostForm) (notes : List Note) → EventPartForm e lines hosts notes → IsFaultless notes
 part_faultless (event.Host name uuid) is lines hosts notes x = absurd x
-part_faultless (event.Mkfs name fs unit log force halt) is lines hosts notes x = absurd x
+part_faultless (event.Mkfs name fs unit log format force halt) is lines hosts notes x = absurd x
 part_faultless (event.Begin name what) is lines hosts notes x = absurd is
 part_faultless (event.Run name what) is lines hosts notes x =
     let rest = running_faultless x.host (forms_after hosts (Start x.host x.cmd)) x.rest x.follow.operations x.follow.runs in

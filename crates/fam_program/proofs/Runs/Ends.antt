@@ -100,9 +100,9 @@ module _ (b : Base) (count : ℕ) (n m : Now) (far : Far b count n) (e : Event) 
   -- the media failed in a mkfs
   broken_caused : (e : Event) → slice_get b.events count ≡ Some e → (lines : ℕ) (hosts : List HostForm) (notes : List Note) → EventBreaksForm e lines hosts notes → m.world.journal ≡ n.world.journal ++ notes → EndsBroken b.events m.world.journal
   broken_caused (event.Host name uuid) at lines hosts notes form joined = absurd form
-  broken_caused (event.Mkfs name fs unit log force halt) at lines hosts notes form joined = record {
+  broken_caused (event.Mkfs name fs unit log format force halt) at lines hosts notes form joined = record {
     count = count;
-    event = event.Mkfs name fs unit log force halt;
+    event = event.Mkfs name fs unit log format force halt;
     event_is = at;
     prefix = n.world.journal;
     name = name;

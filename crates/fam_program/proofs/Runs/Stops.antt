@@ -122,7 +122,7 @@ module _ (name : List ℕ) (request : MkfsRequest) (lines : ℕ) (hosts : List H
 -- an event that is done
 pub step_goes : (e : Event) → IsShotEvent e → (lines : ℕ) (hosts : List HostForm) (notes : List Note) → EventForm e lines hosts notes → GoesOn notes
 step_goes (event.Host name uuid) is lines hosts notes x = declared name uuid notes (refusal_told (call.Declares name uuid) lines hosts) x
-step_goes (event.Mkfs name fs unit log force halt) is lines hosts notes x = made name (mkfs_request fs unit log force halt) lines hosts notes (refusal_told (call.Makes name (mkfs_request fs unit log force halt)) lines hosts) x
+step_goes (event.Mkfs name fs unit log format force halt) is lines hosts notes x = made name (mkfs_request fs unit log format force halt) lines hosts notes (refusal_told (call.Makes name (mkfs_request fs unit log format force halt)) lines hosts) x
 step_goes (event.Begin name what) is lines hosts notes x = absurd is
 step_goes (event.Run name what) is lines hosts notes x = begun name what lines hosts notes (may_begin name (mounts what) (shown_forms lines hosts)) x
 step_goes (event.Step name count) is lines hosts notes x = absurd is
@@ -137,7 +137,7 @@ step_goes (event.Fetch name line mask) is lines hosts notes x = absurd is
 -- a part of an event
 part_goes : (e : Event) → IsShotEvent e → (lines : ℕ) (hosts : List HostForm) (notes : List Note) → EventPartForm e lines hosts notes → GoesOn notes
 part_goes (event.Host name uuid) is lines hosts notes x = absurd x
-part_goes (event.Mkfs name fs unit log force halt) is lines hosts notes x = absurd x
+part_goes (event.Mkfs name fs unit log format force halt) is lines hosts notes x = absurd x
 part_goes (event.Begin name what) is lines hosts notes x = absurd is
 part_goes (event.Run name what) is lines hosts notes x = started name what lines hosts notes UnfinishedForm (λ h fs ns y. y.operations) x
 part_goes (event.Step name count) is lines hosts notes x = absurd is
@@ -193,7 +193,7 @@ none_stops (note ∷ next ∷ notes) goes last =
 -- a mkfs in which the media failed has one note
 pub breaks_goes : (e : Event) (lines : ℕ) (hosts : List HostForm) (notes : List Note) → EventBreaksForm e lines hosts notes → GoesOn notes
 breaks_goes (event.Host name uuid) lines hosts notes x = absurd x
-breaks_goes (event.Mkfs name fs unit log force halt) lines hosts notes x = alone (Refused name (why.MediaFault (record { 0 = x.1.0 }))) notes x.1.1
+breaks_goes (event.Mkfs name fs unit log format force halt) lines hosts notes x = alone (Refused name (why.MediaFault (record { 0 = x.1.0 }))) notes x.1.1
 breaks_goes (event.Begin name what) lines hosts notes x = absurd x
 breaks_goes (event.Run name what) lines hosts notes x = absurd x
 breaks_goes (event.Step name count) lines hosts notes x = absurd x

@@ -2,7 +2,6 @@
 use Rattle.std.proofs.Common.{ℕ, suc, ◌≡◌, inl, inr, ◌+◌, ◌-◌, ◌*◌, ◌<◌, ◌≤◌, Bool, true, false, cond, List, [], ◌∷◌, ◌++◌, length, take, Option, Some, None, refl, sym, ◌∙◌, ap, subst, arith}
 use Rattle.std.specs.Prelude.{slice_index, nat_lt, Result, Ok, Err}
 use Rattle.std.proofs.lemmas.Bool.{ltb-true, ltb-false}
-use Rattle.fam_base.specs.PathOrder.{path_eq}
 use Rattle.fam_base.specs.declared.cmd.Cmd.{Cmd}
 use Rattle.fam_base.specs.declared.cmd.Cmd.TheVariants.{Fsck}
 use Rattle.fam_base.specs.declared.entry.Params.{Params}
@@ -17,7 +16,7 @@ use Rattle.fam_format.specs.Log.{log_fault, gate_fault}
 use Rattle.fam_format.specs.Tree.{join_fault}
 use Rattle.fam_format.specs.Slot.{entry_of}
 use Rattle.fam_format.specs.Reading.{Reading, Lines, Sound, super_in, gate_in, slot_in, slot_words, slot_or, joined_or, read_slots, reading_of}
-use Rattle.fam_format.proofs.RoundTrip.{same_words, same_words_pass}
+use Rattle.fam_format.proofs.Formats.{shape}
 use Rattle.fam_commands.specs.declared.phase.Part.{Part}
 use Rattle.fam_commands.specs.declared.phase.Part.TheVariants.{Superblock, Header, Slot, File as FileLines}
 use Rattle.fam_commands.specs.declared.phase.Phase.{Phase}
@@ -25,12 +24,12 @@ use Rattle.fam_commands.specs.declared.phase.Phase.TheVariants as at
 use Rattle.fam_commands.specs.Kept.{used}
 use Rattle.fam_commands.specs.Task.{Task, part_count, part_line}
 use Rattle.fam_commands.specs.Turns.{Turn, Goes, Marks, Finds, Writes, Ends, slots_read, slot_or_decide, magic_turn, host_refusal, host_turn, super_turn, header_turn, gate_loaded, finds_or_goes, gate_turn, join_turn, slot_turn, survey_turn, check_turn, decide_turn, line_or, line_turn, with_word, word_turn}
-use Rattle.fam_rules.specs.declared.answers.Refused.TheVariants.{NotMaster}
 use Rattle.fam_rules.specs.declared.answers.Refused.TheVariants as refused
-use Rattle.fam_rules.specs.Decide.{Wish, wish_of}
+use Rattle.fam_rules.specs.Decide.{Wish, wish_of, early_refusal}
 use Rattle.fam_rules.specs.Place.{line_bytes}
 use Rattle.fam_rules.specs.Reply.{Reply, NotAppended}
 use Rattle.fam_rules.specs.Reply as reply
+use Rattle.fam_rules.proofs.RefusalTests.{EarlyCases, may_ask, another, too_long, early_cases}
 use Rattle.fam_rules.specs.Reports.{report_of, report_by, survey_slots, survey_slot}
 use Rattle.fam_protocol.specs.SharedState.{SharedState}
 use Rattle.fam_protocol.specs.Lines.{Fresh}
@@ -110,7 +109,7 @@ module _ (image : Lines) (have : ℕ) (uuid : ℕ → Option (List ℕ)) (host :
         task = record { me = me; lines = lines; phase = ((none_moved image have t (at.Drop Superblock 0) [] none, e), omega arith, is_loaded image (record t { phase = at.Drop Superblock 0; words = [] }) Superblock tt 0 0 refl) };
       }
 
-  -- which host appends
+  -- which host appends, and with which path
   host_says : (p : Params) → IsBare t → super_in image have ≡ Ok p → Turned (host_turn t p (host_refusal (wish_of t.cmd) p t.me))
   host_says p none super = go (wish_of t.cmd) refl
     where
@@ -124,13 +123,15 @@ module _ (image : Lines) (have : ℕ) (uuid : ℕ → Option (List ℕ)) (host :
         phase = ((record { entries = none.entries; survey = none.survey; unused = none.unused }, record { super = super; master = master }), omega arith, is_loaded image next Header tt 0 0 refl);
       }
 
-      test : (b : Bool) → path_eq t.me p.master ≡ b → Turned (host_turn t p (cond b None (Some (NotMaster t.me p.master))))
-      test true e = record { may = tt; task = goes (λ w is. same_words t.me p.master e) }
-      test false e = record { may = record { params = p; super = super; me_is = refl; master_is = refl; other = λ same. absurd (cc (e, same_words_pass t.me)) }; task = tt }
+      test : (w : Wish) → wish_of t.cmd ≡ Some w → EarlyCases p t.me w.path → Turned (host_turn t p (early_refusal p t.me w.path))
+      test w wish (may_ask same short passed) = rw passed (record { may = tt; task = goes (λ v is. same) })
+      test w wish (another other refusal) = rw refusal (record { may = record { params = p; super = super; me_is = refl; master_is = refl; other = other }; task = tt })
+      test w wish (too_long same long refusal) =
+          rw refusal (record { may = record { params = p; super = super; is = record { wish = w; wished = wish; is = record { master = same; limit_is = refl; long = long } } }; task = tt })
 
       go : (o : Option Wish) → wish_of t.cmd ≡ o → Turned (host_turn t p (host_refusal o p t.me))
       go None e = record { may = tt; task = goes (λ w is. absurd cc) }
-      go (Some w) e = test (path_eq t.me p.master) refl
+      go (Some w) e = test w e (early_cases p t.me w.path)
 
   -- lines 1 and 2
   pub super_says : IsBare t → HasMagic image → t.words ≡ image 1 ++ image 2 → Turned (super_turn t (super_body_of t.words (line_bytes * t.lines)))
@@ -160,7 +161,7 @@ module _ (image : Lines) (have : ℕ) (uuid : ℕ → Option (List ℕ)) (host :
   next_slot before next i count r fits words = go (nat_lt i (slots_read before)) refl
     where
       go : (b : Bool) → nat_lt i (slots_read before) ≡ b → AtDamagedPhase (cond b (at.Drop (Slot i) 0) at.Decide) image have host next s
-      go true e = ((r, omega (arith, ltb-true i (slots_read before) e, count)), omega arith, is_loaded image next (Slot i) tt 0 0 words)
+      go true e = ((r, omega (arith, ltb-true i (slots_read before) e, count)), omega (arith, (shape next.params).lines), is_loaded image next (Slot i) tt 0 0 words)
       go false e =
           let all : i ≡ slots_read next = omega (arith, ltb-false i (slots_read before) e, count, fits) in
           subst (λ (n : ℕ). ReadsSlots image have n next) all r
@@ -323,10 +324,15 @@ module _ (t : Task) (phase : Phase) (words : List ℕ) where
   words_moved image (Slot i) = refl
   words_moved image FileLines = refl
 
--- Of a task, an answer goes by its host alone.
-module _ (image : Lines) (have : ℕ) (t t' : Task) (same : t.me ≡ t'.me) where
+-- Of a task, an answer goes by its host and its command alone.
+module _ (image : Lines) (have : ℕ) (t t' : Task) (same : t.me ≡ t'.me) (asks : t.cmd ≡ t'.cmd) where
   reply_moved : (r : Reply) → MayReplyBad r image have t → MayReplyBad r image have t'
   reply_moved (NotAppended (refused.NotMaster me master)) a = record { params = a.params; super = a.super; me_is = a.me_is ∙ same; master_is = a.master_is; other = a.other }
+  reply_moved (NotAppended (refused.LongPath limit)) a = record {
+    params = a.params;
+    super = a.super;
+    is = record { wish = a.is.wish; wished = ap wish_of (sym asks) ∙ a.is.wished; is = record { master = sym same ∙ a.is.is.master; limit_is = a.is.is.limit_is; long = a.is.is.long } };
+  }
   reply_moved (NotAppended refused.BadStripe) a = a
   reply_moved (NotAppended (refused.Exists kind)) a = a
   reply_moved (NotAppended refused.NoParent) a = a
@@ -421,7 +427,7 @@ module _ (image : Lines) (have : ℕ) (uuid : ℕ → Option (List ℕ)) (host :
           let last : 8 * j + (k + 1) ≡ 8 * j + 8 = omega (arith, ltb-false k 7 e) in
           let turn =
           line_says image have uuid host s (with_word t word) bare me lines part j (part_moved image have t t.phase (t.words ++ word ∷ []) part on) (omega (arith, below, lines_moved t t.phase (t.words ++ word ∷ []) part)) (words ∙ ap (λ n. take n (part_words image t part)) last ∙ ap (take (8 * j + 8)) (sym (words_moved t t.phase (t.words ++ word ∷ []) image part))) in
-          record { may = may_moved image have (with_word t word) t refl (line_turn (with_word t word) part j) turn.may; task = turn.task }
+          record { may = may_moved image have (with_word t word) t refl refl (line_turn (with_word t word) part j) turn.may; task = turn.task }
 
   -- its line was dropped
   pub drop_says : (part : Part) (j : ℕ) → OnBadPart part image have t → j < part_count t part → HasLoaded image t part j 0 → Fresh (s.memory (part_line t part j)) (s.copy host (part_line t part j)) → BadTurn (Goes (record t { phase = at.Word part j 0 })) image have uuid host t s

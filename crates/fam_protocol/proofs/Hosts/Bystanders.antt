@@ -1,6 +1,8 @@
 -- What is known of a task stays where memory and its own host's cache stay, whatever the other caches do.
-use Rattle.std.proofs.Common.{◌≡◌, ℕ, List, Option, Some, sym, ap, subst, ◌∙◌}
+use Rattle.std.proofs.Common.{◌≡◌, ◌<◌, ℕ, List, Option, Some, sym, ap, subst, ◌∙◌}
 use Rattle.fam_format.specs.Layout.{geometry, gate_line, slot_line}
+use Rattle.fam_format.specs.Slot.{spelling}
+use Rattle.fam_base.specs.declared.entry.Params.{Params}
 use Rattle.fam_machine.specs.declared.cell.Cell.{Cell}
 use Rattle.fam_commands.specs.declared.phase.Part.{Part}
 use Rattle.fam_commands.specs.declared.phase.Part.TheVariants.{Superblock, Header, Slot, File as FileLines}
@@ -86,7 +88,7 @@ module _ (sys sys' : System) (host : ℕ) (floor : Option ℕ) (t : Task) (s : S
     entry = h.entry;
     bytes = h.bytes;
     content = h.content;
-    words = h.words;
+    words = h.words ∙ ap (λ (p : Params). spelling (geometry p) h.file.entry t.gate) (sym params);
   }
 
   data_kept : (count : ℕ) → HasData count host t s → HasData count host t (with_copies s copy)
@@ -115,7 +117,7 @@ module _ (sys sys' : System) (host : ℕ) (floor : Option ℕ) (t : Task) (s : S
   unfolding writing_kept
   stores_slot_kept j k h = record {
     writing = writing_kept h.writing;
-    line = h.line;
+    line = subst (λ (p : Params). j < (geometry p).lines) (sym params) h.line;
     contents = all_data_kept h.contents;
     before = asked_kept j h.before;
     here = holding_kept k (slot_part t.words j) (slot_line t.params t.gate j) h.here;
@@ -123,11 +125,11 @@ module _ (sys sys' : System) (host : ℕ) (floor : Option ℕ) (t : Task) (s : S
 
   awaits_slot_kept : AwaitsSlot sys host t s all settled → AwaitsSlot sys' host t (with_copies s copy) all settled
   unfolding writing_kept
-  awaits_slot_kept h = record { writing = writing_kept h.writing; contents = all_data_kept h.contents; slot = asked_kept (geometry sys.params).lines h.slot }
+  awaits_slot_kept h = record { writing = writing_kept h.writing; contents = all_data_kept h.contents; slot = subst (λ (p : Params). HasAskedLines (geometry p).lines host t (with_copies s copy)) (sym params) (asked_kept (geometry sys.params).lines h.slot) }
 
   may_publish_kept : MayPublish sys host t s all settled → MayPublish sys' host t (with_copies s copy) all settled
   unfolding writing_kept
-  may_publish_kept h = record { writing = writing_kept h.writing; contents = all_data_kept h.contents; slot = slots_kept (geometry sys.params).lines h.slot }
+  may_publish_kept h = record { writing = writing_kept h.writing; contents = all_data_kept h.contents; slot = subst (λ (p : Params). HasWrittenLines (geometry p).lines host t (with_copies s copy)) (sym params) (slots_kept (geometry sys.params).lines h.slot) }
 
   published_kept : HasPublished sys host t s all → HasPublished sys' host t (with_copies s copy) all
   published_kept h = record {

@@ -1,9 +1,9 @@
 -- A maker that halts behind its first send leaves an image without a superblock, whatever was there.
-use Rattle.std.proofs.Common.{◌≡◌, ◌≢◌, ℕ, ◌*◌, List, Some, None, inl, inr, refl, sym, ap, subst, ◌∙◌}
+use Rattle.std.proofs.Common.{◌≡◌, ◌≢◌, ℕ, ◌*◌, List, Some, inl, inr, refl, ap, subst, ◌∙◌}
 use Rattle.std.proofs.lemmas.Bool.{cases_eq, false≢true}
 use Rattle.fam_base.specs.declared.entry.Params.{Params}
 use Rattle.fam_base.specs.declared.entry.Entry.{Entry}
-use Rattle.fam_format.specs.Reading.{Reading, Sound, reading_of}
+use Rattle.fam_format.specs.Reading.{Sound, reading_of}
 use Rattle.fam_machine.specs.OneLine.{IsDirty}
 use Rattle.fam_rules.specs.Place.{line_bytes}
 use Rattle.fam_rules.proofs.TornHead.{none_read}

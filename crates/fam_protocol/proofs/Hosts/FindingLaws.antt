@@ -28,8 +28,8 @@ use Rattle.fam_rules.specs.Place.{line_bytes}
 use Rattle.fam_rules.specs.Reply.{Reply, Appended, NotAppended, Played, Mounted, Same, Differs, Length, Bytes, NotFound, IsDirectory, Checks, Reports, NoSuperblock, BadHeader, BadSlot}
 use Rattle.fam_rules.specs.Reports.{report_of}
 use Rattle.fam_rules.specs.Written.{file_line}
-use Rattle.fam_protocol.specs.After.{Run, Named, HasNamed, HoldsNamed, AppendsNamed, AnswersPrefix, RefusesWhole, ReportsPrefix, IsClient, MayRefuse, MayReply}
-use Rattle.fam_protocol.specs.Bad.{IsBadClient, MayReplyBad, MaySayBad, Still, fault_of}
+use Rattle.fam_protocol.specs.After.{Run, Named, HasNamed, HoldsNamed, AppendsNamed, AnswersPrefix, RefusesWhole, ReportsPrefix, IsClient, NamesLongPath, MayRefuse, MayReply}
+use Rattle.fam_protocol.specs.Bad.{IsBadClient, NamesBadLongPath, MayReplyBad, MaySayBad, Still, fault_of}
 use Rattle.fam_protocol.specs.Core.{Core, System}
 use Rattle.fam_protocol.specs.Findings.{DamagedStep, HasLoadedGate, IsCurrent, IsFoundCount, IsLoadedSlot, IsLoadedWord, IsOfDecision, IsOfEntries, IsOfFault, SoundStep, SoundTask}
 use Rattle.fam_protocol.specs.Lines.{gate_of}
@@ -150,6 +150,7 @@ module _ (sys : System) (r : Run) (all : List File) (settled : ℕ) where
 
   refused_by : (why : Refused) → IsOfDecision why → MayRefuse why sys r.task all settled → RefusesWhole sys.params r.task all settled why
   refused_by (refused.NotMaster me master) has may = absurd has
+  refused_by (refused.LongPath limit) has may = absurd has
   refused_by refused.BadStripe has may = may
   refused_by (refused.Exists kind) has may = may
   refused_by refused.NoParent has may = may
@@ -184,6 +185,7 @@ module _ (image : Lines) (have : ℕ) (t : Task) where
 
   not_refused_by : (r : Refused) → MayReplyBad (NotAppended r) image have t → IsOfDecision r → ⊥
   not_refused_by (refused.NotMaster me master) may has = absurd has
+  not_refused_by (refused.LongPath limit) may has = absurd has
   not_refused_by refused.BadStripe may has = may
   not_refused_by (refused.Exists kind) may has = may
   not_refused_by refused.NoParent may has = may
@@ -261,6 +263,10 @@ module _ (p : Params) (all : List File) (settled : ℕ) (step : SoundStep p all 
   pub client : (me master : List ℕ) → turn_given step.run.task step.word ≡ Ends (NotAppended (refused.NotMaster me master)) → IsClient p step.run.task me master
   client me master is = (says (Ends (NotAppended (refused.NotMaster me master))) is).may
 
+  -- a refusal of the master's path
+  pub long : (limit : ℕ) → turn_given step.run.task step.word ≡ Ends (NotAppended (refused.LongPath limit)) → NamesLongPath p step.run.task limit
+  long limit is = (says (Ends (NotAppended (refused.LongPath limit))) is).may
+
   -- a sound file system shows no fault
   pub no_fault : (reply : Reply) → turn_given step.run.task step.word ≡ Ends reply → IsOfFault reply → ⊥
   no_fault reply is has = no_fault_by _ step.run all settled reply (says (Ends reply) is).may has
@@ -296,6 +302,10 @@ module _ (image : Lines) (lines : ℕ) (step : DamagedStep image lines) where
   -- another host than the superblock's is refused
   pub bad_client : (me master : List ℕ) → turn_given step.run.task step.word ≡ Ends (NotAppended (refused.NotMaster me master)) → IsBadClient image (line_bytes * lines) step.run.task me master
   bad_client me master is = says_bad (Ends (NotAppended (refused.NotMaster me master))) is
+
+  -- and a path for which a slot has no room
+  pub bad_long : (limit : ℕ) → turn_given step.run.task step.word ≡ Ends (NotAppended (refused.LongPath limit)) → NamesBadLongPath image (line_bytes * lines) step.run.task limit
+  bad_long limit is = says_bad (Ends (NotAppended (refused.LongPath limit))) is
 
   -- memory stays
   pub bad_same : Still image (line_bytes * lines) step.after

@@ -4,8 +4,9 @@ use Rattle.std.proofs.Common.{ℕ, ◌+◌, ◌*◌, ◌≤◌, ◌<◌, ◌≡�
 use Rattle.std.specs.Prelude.{slice_index, Option}
 use Rattle.fam_base.specs.declared.entry.Params.{Params}
 use Rattle.fam_base.specs.declared.entry.Entry.{Entry}
-use Rattle.fam_format.specs.Layout.{gate_line, slot_line}
+use Rattle.fam_format.specs.Layout.{gate_line, slot_line, geometry}
 use Rattle.fam_format.proofs.EntryLawsProofs.{spelling_count}
+use Rattle.fam_format.proofs.Formats.{shape}
 use Rattle.fam_machine.specs.declared.cell.Cell.{Cell}
 use Rattle.fam_machine.specs.declared.cell.Cell.TheVariants.{Absent, Clean, Dirty}
 use Rattle.fam_commands.specs.declared.phase.Phase.{Phase}
@@ -75,13 +76,13 @@ module _ (sys : System) (s s' : SharedState) (all : List File) (settled : ℕ) (
   data_line : (w : IsWriting sys host t s all settled) (j : ℕ) → line_bytes * j < w.file.entry.size → IsEntryLine sys.params t.gate w.file.entry (line_of t.entry j)
   data_line w j lt = inr (j, lt, ap (λ (o : Option Entry). line_of o j) w.entry)
 
-  new_line : (w : IsWriting sys host t s all settled) (j : ℕ) → j < 8 → IsEntryLine sys.params t.gate w.file.entry (slot_line t.params t.gate j)
+  new_line : (w : IsWriting sys host t s all settled) (j : ℕ) → j < (geometry sys.params).lines → IsEntryLine sys.params t.gate w.file.entry (slot_line t.params t.gate j)
   new_line w j lt = inl (j, lt, ap (λ (p : Params). slot_line p t.gate j) w.params)
 
   in_file : (w : IsWriting sys host t s all settled) (b : ℕ) → line_bytes * b < size_of t.entry → line_bytes * b < w.file.entry.size
   in_file w b lt = subst (λ (o : Option Entry). line_bytes * b < size_of o) w.entry lt
 
-  words_long : (w : IsWriting sys host t s all settled) → length t.words ≡ 64
+  words_long : (w : IsWriting sys host t s all settled) → length t.words ≡ (geometry sys.params).words
   words_long w = ap length w.words ∙ spelling_count sys.params w.file.entry t.gate
 
   -- two lines of the new file are two, and none is one of the slot
@@ -90,13 +91,14 @@ module _ (sys : System) (s s' : SharedState) (all : List File) (settled : ℕ) (
       (files_apart sys.params all core.head.sound core.history t.gate t.gate a b w.file w.file w.last w.last la lb
       (sym (ap (λ (o : Option Entry). line_of o a) w.entry) ∙ e ∙ ap (λ (o : Option Entry). line_of o b) w.entry)).1
 
-  data_no_slot : (w : IsWriting sys host t s all settled) (a j : ℕ) → line_bytes * a < w.file.entry.size → j < 8 → line_of t.entry a ≡ slot_line t.params t.gate j → ⊥
+  data_no_slot : (w : IsWriting sys host t s all settled) (a j : ℕ) → line_bytes * a < w.file.entry.size → j < (geometry sys.params).lines → line_of t.entry a ≡ slot_line t.params t.gate j → ⊥
   data_no_slot w a j la lj e =
       slot_no_file sys.params t.gate w.file.entry (line_of t.entry a) core.head.sound (omega (arith, core.room, w.pending)) (core.history t.gate w.file w.last).proper
       (j, lj, e ∙ ap (λ (p : Params). slot_line p t.gate j) w.params) (a, la, ap (λ (o : Option Entry). line_of o a) w.entry)
 
-  slot_once : (a b : ℕ) → a < 8 → b < 8 → slot_line t.params t.gate a ≡ slot_line t.params t.gate b → a ≡ b
-  slot_once a b la lb e = (slots_apart t.params t.gate t.gate a b la lb e).1
+  slot_once : (w : IsWriting sys host t s all settled) (a b : ℕ) → a < (geometry sys.params).lines → b < (geometry sys.params).lines → slot_line t.params t.gate a ≡ slot_line t.params t.gate b → a ≡ b
+  slot_once w a b la lb e =
+      (slots_apart sys.params t.gate t.gate a b la lb (sym (ap (λ (p : Params). slot_line p t.gate a) w.params) ∙ e ∙ ap (λ (p : Params). slot_line p t.gate b) w.params)).1
 
   store_data : (j k : ℕ) → k < 8 → (d : StoresData j k sys host t s all settled) → LeavesAt host (line_of t.entry j) s s' (s.memory (line_of t.entry j)) (stored k (slice_index (data_words t j) k) (s.memory (line_of t.entry j)) (s.copy host (line_of t.entry j)))
       → Leaves (at.StoreData j k) sys host floor word t s s' all settled
@@ -126,7 +128,7 @@ module _ (sys : System) (s s' : SharedState) (all : List File) (settled : ℕ) (
       let line = slot_line t.params t.gate j in
       let value = slice_index t.words (8 * j + k) in
       let of = new_line d.writing j d.line in
-      let long : 8 * j + 8 ≤ length t.words = omega (arith, d.line, words_long d.writing) in
+      let long : 8 * j + 8 ≤ length t.words = omega (arith, d.line, words_long d.writing, (shape sys.params).words) in
       record {
         core = core_stored sys s s' all settled core host t d.writing line k value of left;
         given = (
@@ -137,7 +139,7 @@ module _ (sys : System) (s s' : SharedState) (all : List File) (settled : ℕ) (
             contents = λ count b below small. finished_other sys s s' all settled core host t d.writing line k value of left (data_words t b) (line_of t.entry b)
                 (λ e. data_no_slot d.writing b j (in_file d.writing b small) d.line e) (d.contents count b below small);
             before = λ b below. asked_other sys s s' all settled core host t d.writing line k value of left (slot_part t.words b) (slot_line t.params t.gate b)
-                (λ e. omega (arith, below, slot_once b j (omega (arith, below, d.line)) d.line e)) (d.before b below);
+                (λ e. omega (arith, below, slot_once d.writing b j (omega (arith, below, d.line)) d.line e)) (d.before b below);
             here = holding_here sys s s' all settled core host t d.writing line k value of left k (slot_part t.words j) refl (sym (part_word t.words j k lt)) lt (part_length t.words j long) d.here;
           },
         );
@@ -169,7 +171,7 @@ module _ (sys : System) (s s' : SharedState) (all : List File) (settled : ℕ) (
     contents = d.contents;
     slot = λ b lt.
         let line = slot_line t.params t.gate b in
-        let long : 8 * b + 8 ≤ length t.words = omega (arith, lt, ap length d.writing.words ∙ spelling_count sys.params d.writing.file.entry t.gate) in
+        let long : 8 * b + 8 ≤ length t.words = omega (arith, lt, ap length d.writing.words ∙ spelling_count sys.params d.writing.file.entry t.gate, (shape sys.params).words) in
         finished_then (slot_part t.words b) (s'.memory line) (s'.copy host line) (part_length t.words b long) ((fenced f).core.wide.memory line) (d.slot b lt).0 (not_dirty_then (s'.copy host line) (d.slot b lt).1 (f.none_asked line));
   }
 

@@ -83,7 +83,7 @@ module _ (lines : ℕ) (enough : least_lines ≤ lines) (p : Params) (sound : So
   -- a line of a slot that is read
   slot_part_within : (t : Task) (i j : ℕ) → t.params ≡ p → t.gate ≤ p.slots → i < slots_read t → j < part_count t (Slot i) → part_line t (Slot i) j < lines
   slot_part_within t i j same gate below within =
-      subst (λ (q : Params). slot_line q i j < lines) (sym same) (slot_within i j (omega (arith, slots_within t same gate, below)) within)
+      subst (λ (q : Params). slot_line q i j < lines) (sym same) (slot_within i j (omega (arith, slots_within t same gate, below)) (subst (λ (q : Params). j < (geometry q).lines) same within))
 
 module _ (lines : ℕ) (enough : least_lines ≤ lines) (sys : System) (s : SharedState) (all : List File) (settled : ℕ) (core : Core sys s all settled) (have : sys.have ≡ line_bytes * lines) (host : ℕ) (floor : Option ℕ) (t : Task) where
   device_within : sys.params.device ≤ line_bytes * lines

@@ -12,7 +12,7 @@ use Rattle.fam_format.specs.declared.faults.LogFault.{LogFault}
 use Rattle.fam_format.specs.declared.faults.Reason.{Reason}
 use Rattle.fam_format.specs.Layout.{device_limit, log_line}
 use Rattle.fam_format.specs.Log.{log_fault, gate_fault}
-use Rattle.fam_format.specs.Params.{SoundParams, is_unit, is_log_length, need}
+use Rattle.fam_format.specs.Params.{SoundParams, is_unit, is_log_length, need, is_format}
 use Rattle.fam_format.specs.Super.{magic_fault, crc_fault, version_fault, offset_fault, unit_fault, length_fault, device_fault, small_fault, rest_fault, params_of, super_body_of, super_of}
 use Rattle.fam_format.specs.Tree.{join_fault}
 use Rattle.fam_format.specs.Reading.{Reading, Sound, Lines, super_in, gate_in, slot_in, joined_or, slot_or, read_slots, read_below, read_log, read_super, reading_of}
@@ -29,6 +29,7 @@ pub record IsRead (have : ℕ) (p : Params) : Type 0 where
 
 -- the tests that say so
 record Passes (w : List ℕ) (have : ℕ) : Type 0 where
+  version : version_fault w ≡ None
   unit : unit_fault w ≡ None
   log_length : length_fault w ≡ None
   device : device_fault w have ≡ None
@@ -41,6 +42,7 @@ read_passes w have limit pass =
     let device : (params_of w).device ≤ have = least_none have _ _ pass.device in
     record {
       sound = record {
+        format = true_none (is_format (params_of w).format) _ pass.version;
         unit = true_none (is_unit (params_of w).unit) _ pass.unit;
         log_length = true_none (is_log_length (params_of w).unit (params_of w).log_length) _ pass.log_length;
         slots = refl;
@@ -66,7 +68,7 @@ super_is_sound word w have p limit read =
     let small = no_stop (small_fault w) _ _ device.1 in
     let rest = no_stop (rest_fault w) (Ok (params_of w)) p small.1 in
     let params : params_of w ≡ p = cc (rest.1) in
-    subst (IsRead have) params (read_passes w have limit record { unit = unit.0; log_length = log_length.0; device = device.0; small = small.0 })
+    subst (IsRead have) params (read_passes w have limit record { version = version.0; unit = unit.0; log_length = log_length.0; device = device.0; small = small.0 })
 
 -- The slots.
 

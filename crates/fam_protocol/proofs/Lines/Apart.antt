@@ -10,6 +10,7 @@ use Rattle.fam_format.specs.Params.{SoundParams}
 use Rattle.fam_format.specs.Slot.{Proper}
 use Rattle.fam_format.specs.ReadingLaws.{Joins}
 use Rattle.fam_format.proofs.JoinLaws.{joins_from}
+use Rattle.fam_format.proofs.Formats.{shape, times, slot_ends}
 use Rattle.fam_rules.specs.Asks.{File, entries_of}
 use Rattle.fam_rules.specs.Place.{line_bytes, place, AreApart, IsFreeAfter, IsLaidOut}
 use Rattle.fam_rules.specs.Written.{file_line}
@@ -60,11 +61,14 @@ line_begins p e j sound proper below =
 
 -- a slot has no line twice, and no line of another slot
 pub slots_apart : (p : Params) (i k a b : ℕ) → a < (geometry p).lines → b < (geometry p).lines → slot_line p i a ≡ slot_line p k b → (i ≡ k) × (a ≡ b)
-slots_apart p i k a b a_below b_below same = (omega arith, omega arith)
+slots_apart p i k a b a_below b_below same =
+    let here = times p i in
+    let there = times p k in
+    (omega (arith, here, there), omega (arith, here, there))
 
 -- slots end where the log ends
 pub slot_before : (p : Params) (i a : ℕ) → SoundParams p → i < p.slots → a < (geometry p).lines → line_bytes * slot_line p i a + line_bytes ≤ log_end p
-slot_before p i a sound below within = omega (arith, sound.slots)
+slot_before p i a sound below within = omega (arith, slot_ends p.format p.log_length i (omega (arith, sound.slots)))
 
 -- and files begin behind the log
 pub file_behind : (p : Params) (e : Entry) (j : ℕ) → SoundParams p → Proper p e → line_bytes * j < e.size → log_end p ≤ line_bytes * file_line e j
@@ -77,9 +81,9 @@ slot_no_file p i e l sound below proper (a, a_below, slot) (j, j_below, file) =
 
 -- a line of an entry is behind the gate's
 pub line_behind : (p : Params) (i : ℕ) (e : Entry) (l : ℕ) → SoundParams p → i < p.slots → Proper p e → IsEntryLine p i e l → gate_line < l
-line_behind p i e l sound below proper (inl (a, a_below, slot)) = omega arith
+line_behind p i e l sound below proper (inl (a, a_below, slot)) = omega (arith, (shape p).lines)
 line_behind p i e l sound below proper (inr (j, j_below, file)) =
-    omega (arith, slot_before p 0 0 sound (omega arith) (omega arith), file_behind p e j sound proper j_below)
+    omega (arith, (shape p).lines, slot_before p 0 0 sound (omega arith) (omega (arith, (shape p).lines)), file_behind p e j sound proper j_below)
 
 -- so it is none of the head
 pub line_no_head : (p : Params) (i : ℕ) (e : Entry) (l : ℕ) → SoundParams p → i < p.slots → Proper p e → IsEntryLine p i e l → IsHeadLine l → ⊥

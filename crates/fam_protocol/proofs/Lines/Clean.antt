@@ -6,7 +6,7 @@ use Rattle.std.proofs.lemmas.Option.{slice_get_cases}
 use Rattle.fam_base.specs.declared.cmd.Cmd.{Cmd}
 use Rattle.fam_base.specs.declared.cmd.Cmd.TheVariants.{Logplay, Mount, Mkdir, Creat, Cp, Verify, Read, Check, Fsck}
 use Rattle.fam_base.specs.declared.entry.Entry.{Entry}
-use Rattle.fam_format.specs.Layout.{log_line, slot_line}
+use Rattle.fam_format.specs.Layout.{log_line, slot_line, geometry}
 use Rattle.fam_machine.specs.OneLine.{IsDirty}
 use Rattle.fam_commands.specs.Task.{first_line, line_of, wanted_end, wanted_lines, wanted_start}
 use Rattle.fam_rules.specs.Asks.{File}
@@ -64,7 +64,7 @@ module _ (sys : System) (s : SharedState) (all : List File) (settled : ℕ) (cor
       go (inr e) = absurd (omega (arith, e.0, lt, core.high))
 
   -- a line of a slot below the top
-  pub slot_quiet : (i j : ℕ) → i < top_of sys s → j < 8 → NobodyDirty s (slot_line sys.params i j)
+  pub slot_quiet : (i j : ℕ) → i < top_of sys s → j < (geometry sys.params).lines → NobodyDirty s (slot_line sys.params i j)
   slot_quiet i j lt small h = let e = published_entry i lt in core.clean i e.0 h _ e.1 lt (inl (j, small, refl))
 
   -- a wanted line of a file whose entry is below the top

@@ -6,8 +6,9 @@ use Rattle.std.specs.Prelude.{◌==◌}
 use Rattle.std.proofs.lemmas.Option.{same_Some}
 use Rattle.fam_base.specs.declared.entry.Params.{Params}
 use Rattle.fam_format.specs.Slot.{entry_of}
-use Rattle.fam_format.specs.Layout.{gate_line, log_line, slot_line}
+use Rattle.fam_format.specs.Layout.{gate_line, log_line, slot_line, geometry}
 use Rattle.fam_format.specs.Reading.{slot_words}
+use Rattle.fam_format.proofs.Formats.{shape}
 use Rattle.fam_machine.specs.declared.cell.Cell.{Cell}
 use Rattle.fam_machine.specs.declared.cell.Cell.TheVariants.{Absent, Clean, Dirty}
 use Rattle.fam_machine.specs.OneLine.{IsDirty, current}
@@ -39,10 +40,10 @@ pub same : (a b : ℕ) → Same a b
 same a b = told a b (eqb_tells a b)
 
 -- memory that has the same lines of a slot has the same slot
-pub slot_same : (memory memory' : ℕ → List ℕ) (p : Params) (i : ℕ) → ((j : ℕ) → j < 8 → memory' (slot_line p i j) ≡ memory (slot_line p i j)) → slot_words memory' p i ≡ slot_words memory p i
+pub slot_same : (memory memory' : ℕ → List ℕ) (p : Params) (i : ℕ) → ((j : ℕ) → j < (geometry p).lines → memory' (slot_line p i j) ≡ memory (slot_line p i j)) → slot_words memory' p i ≡ slot_words memory p i
 unfolding slot_words
 slot_same memory memory' p i lines =
-    map_range_same _ _ 0 64 (λ k _ lt. ap (λ (w : List ℕ). slice_index w (k % 8)) (lines (k / 8) (omega (arith, lt))))
+    map_range_same _ _ 0 (geometry p).words (λ k _ lt. ap (λ (w : List ℕ). slice_index w (k % 8)) (lines (k / 8) (omega (arith, lt, (shape p).words))))
 
 -- memory that has the same lines of an entry holds it too
 pub stands_same : (memory memory' : ℕ → List ℕ) (p : Params) (i : ℕ) (f : File) → ((l : ℕ) → IsEntryLine p i f.entry l → memory' l ≡ memory l) → EntryStands p memory i f → EntryStands p memory' i f

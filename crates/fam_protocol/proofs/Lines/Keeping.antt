@@ -3,7 +3,7 @@ use Rattle.std.proofs.Common.{ℕ, ◌+◌, ◌-◌, ◌*◌, ◌/◌, ◌%◌, 
 use Rattle.std.specs.Prelude.{slice_index, Option, Some}
 use Rattle.fam_base.specs.declared.entry.Params.{Params}
 use Rattle.fam_base.specs.declared.entry.Entry.{Entry}
-use Rattle.fam_format.specs.Layout.{gate_line, slot_line}
+use Rattle.fam_format.specs.Layout.{gate_line, slot_line, geometry}
 use Rattle.fam_commands.specs.declared.phase.Part.{Part}
 use Rattle.fam_commands.specs.declared.phase.Part.TheVariants.{Superblock, Header, Slot, File as FileLines}
 use Rattle.fam_commands.specs.declared.phase.Phase.{Phase}
@@ -56,7 +56,7 @@ module _ (sys : System) (s s' : SharedState) (all : List File) (settled : ℕ) (
   part_quiet Superblock j n t on sure lt = super_quiet sys s all settled core (1 + n) (omega (arith, lt))
   part_quiet Header j n t on sure lt = header_quiet sys s all settled core
   part_quiet (Slot i) j n t on sure lt =
-      subst (λ (p : Params). NobodyDirty s (slot_line p i n)) (sym on.0.params) (slot_quiet sys s all settled core i n (omega (arith, sure, on.1.gate.high, core.order)) (omega (arith, lt)))
+      subst (λ (p : Params). NobodyDirty s (slot_line p i n)) (sym on.0.params) (slot_quiet sys s all settled core i n (omega (arith, sure, on.1.gate.high, core.order)) (subst (λ (p : Params). n < (geometry p).lines) on.0.params lt))
   part_quiet FileLines j n t on sure lt =
       let f = on.1.file in
       file_quiet sys s all settled core t.cmd t.entry f.i f.file (first_line t.cmd + n) f.is (omega (arith, f.below, on.1.all_read.gate.high, core.order)) f.entry

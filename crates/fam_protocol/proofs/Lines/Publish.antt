@@ -12,6 +12,7 @@ use Rattle.fam_format.specs.Layout.{geometry, gate_line, log_line, slot_line}
 use Rattle.fam_format.specs.Reading.{slot_in, slot_words}
 use Rattle.fam_format.specs.Slot.{entry_of, spelling}
 use Rattle.fam_format.proofs.EntryLawsProofs.{spelling_count, spelling_read}
+use Rattle.fam_format.proofs.Formats.{shape}
 use Rattle.fam_machine.specs.declared.cell.Cell.{Cell}
 use Rattle.fam_machine.specs.OneLine.{IsDirty, current, stored}
 use Rattle.fam_commands.specs.Task.{Task, content_of, data_words, line_of, size_of}
@@ -38,12 +39,12 @@ list_by_index ws n is =
     (λ i lt. get_or-map-range_with_len (λ k. slice_index ws k) 0 n i i 0 (omega (arith, lt, length-map-range_with_len (λ k. slice_index ws k) 0 n)) (omega arith))
 
 -- a slot whose lines are the parts of words has these words
-pub slot_of_parts : (memory : ℕ → List ℕ) (p : Params) (i : ℕ) (ws : List ℕ) → length ws ≡ 64 → ((j : ℕ) → j < 8 → memory (slot_line p i j) ≡ slot_part ws j) → slot_words memory p i ≡ ws
+pub slot_of_parts : (memory : ℕ → List ℕ) (p : Params) (i : ℕ) (ws : List ℕ) → length ws ≡ (geometry p).words → ((j : ℕ) → j < (geometry p).lines → memory (slot_line p i j) ≡ slot_part ws j) → slot_words memory p i ≡ ws
 unfolding slot_words
 slot_of_parts memory p i ws long lines =
-    map_range_same _ (λ k. slice_index ws k) 0 64 (λ k _ lt.
-    ap (λ (w : List ℕ). slice_index w (k % 8)) (lines (k / 8) (omega (arith, lt))) ∙ part_word ws (k / 8) (k % 8) (omega arith) ∙ ap (λ (n : ℕ). slice_index ws n) (omega arith))
-    ∙ list_by_index ws 64 long
+    map_range_same _ (λ k. slice_index ws k) 0 (geometry p).words (λ k _ lt.
+    ap (λ (w : List ℕ). slice_index w (k % 8)) (lines (k / 8) (omega (arith, lt, (shape p).words))) ∙ part_word ws (k / 8) (k % 8) (omega arith) ∙ ap (λ (n : ℕ). slice_index ws n) (omega arith))
+    ∙ list_by_index ws (geometry p).words long
 
 module _ (sys : System) (s s' : SharedState) (all : List File) (settled : ℕ) (core : Core sys s all settled) (host : ℕ) (t : Task) (may : MayPublish sys host t s all settled)
     (done : LeavesAt host gate_line s s' (s.memory gate_line) (stored 0 (t.gate + 1) (s.memory gate_line) (s.copy host gate_line))) where

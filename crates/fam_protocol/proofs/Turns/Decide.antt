@@ -11,6 +11,7 @@ use Rattle.fam_base.specs.declared.entry.Entry.{Entry}
 use Rattle.fam_format.specs.Layout.{geometry, gate_line}
 use Rattle.fam_format.specs.Slot.{spelling}
 use Rattle.fam_format.specs.Tree.{replay}
+use Rattle.fam_format.proofs.Formats.{shape}
 use Rattle.fam_commands.specs.declared.phase.Phase.TheVariants as at
 use Rattle.fam_commands.specs.Task.{Task, content_of}
 use Rattle.fam_commands.specs.Turns.{decide_turn, append_turn, first_store}
@@ -119,6 +120,7 @@ module _ (sys : System) (host : ℕ) (floor : Option ℕ) (named : Option Named)
 
     may_refuse : (r : Refused) → decide_wish t.params t.me t.entries w ≡ Err r → MayRefuse r sys (commanded t cmd) all settled
     may_refuse (refused.NotMaster a b) e = absurd ((refused_for sys.params t.me (entries_of all) w (refused.NotMaster a b) (decided _ e)).2 me_is)
+    may_refuse (refused.LongPath limit) e = record { wish = w; wished = asks; is = refused_for sys.params t.me (entries_of all) w (refused.LongPath limit) (decided _ e) }
     may_refuse refused.BadStripe e = record { settled_is = settled_is; is = decides _ e }
     may_refuse (refused.Exists kind) e = record { settled_is = settled_is; is = decides _ e }
     may_refuse refused.NoParent e = record { settled_is = settled_is; is = decides _ e }
@@ -146,14 +148,14 @@ module _ (sys : System) (host : ℕ) (floor : Option ℕ) (named : Option Named)
       entry = refl;
       bytes = refl;
       content = is.command.content;
-      words = refl;
+      words = ap (λ (p : Params). spelling (geometry p) e t.gate) g.0.params;
     }
 
     at_store : (e : Entry) (b : Bool) → (e.size == 0) ≡ b → AtPhase (cond b (at.StoreSlot 0 0) (at.StoreData 0 0)) sys host floor (writer e) s (all ++ new_file (writer e) e ∷ []) settled
     unfolding writer writes
     at_store e true none =
         let empty : e.size ≡ 0 = grind (arith, nat_tests) in
-        (omega arith, record { writing = writes e; line = omega arith; contents = λ count b lt within. absurd (omega arith); before = λ b lt. absurd (omega arith); here = tt })
+        (omega arith, record { writing = writes e; line = omega (arith, (shape sys.params).lines); contents = λ count b lt within. absurd (omega arith); before = λ b lt. absurd (omega arith); here = tt })
     at_store e false some =
         let bytes : 0 < e.size = grind (arith, nat_tests) in
         (omega arith, record { writing = writes e; line = omega arith; before = λ b lt. absurd (omega arith); here = tt })

@@ -10,6 +10,7 @@ use Rattle.fam_base.specs.declared.entry.Params.{Params}
 use Rattle.fam_format.specs.declared.faults.LogFault.{LogFault}
 use Rattle.fam_format.specs.Layout.{gate_line}
 use Rattle.fam_format.specs.Log.{gate_fault}
+use Rattle.fam_format.proofs.Formats.{shape}
 use Rattle.fam_commands.specs.declared.phase.Part.TheVariants.{Slot}
 use Rattle.fam_commands.specs.declared.phase.Phase.TheVariants as at
 use Rattle.fam_commands.specs.Kept.{Kept, used}
@@ -75,7 +76,7 @@ at_next sys host floor s all settled t i n count head gate le read words = go (n
     go : (b : Bool) → nat_lt i n ≡ b → AtPhase (cond b (at.Drop (Slot i) 0) at.Decide) sys host floor t s all settled
     go true e =
         let below : i < n = grind (arith, nat_tests) in
-        ((head, record { gate = gate; below = omega (arith, count); read = read }), omega arith, λ sure. words ∙ loaded_none s.memory t (Slot i))
+        ((head, record { gate = gate; below = omega (arith, count); read = read }), omega (arith, (shape t.params).lines), λ sure. words ∙ loaded_none s.memory t (Slot i))
     go false e =
         let last : i ≡ n = grind (arith, nat_tests) in
         (head, record { gate = gate; read = subst (λ (k : ℕ). HasRead t.cmd k t all) (last ∙ count) read })

@@ -1,13 +1,11 @@
 -- The turns before the gate is loaded: the magic, the superblock, the header, and lines that are dropped.
 use Rattle.std.proofs.Common.{ℕ, refl, [], ◌++◌, ◌+◌, ◌*◌, ◌≤◌, ◌<◌, ◌≡◌, List, Bool, true, false, cond, sym, ◌∙◌, ap, subst, arith, nat_lt}
 use Rattle.std.specs.Prelude.{Option, Some, None, Result, Ok}
-use Rattle.std.specs.Cmp.Lexicographic.{pointwise_decides}
-use Rattle.std.proofs.lemmas.Bool.Decides.{nat_tests, Decides-eqb}
+use Rattle.std.proofs.lemmas.Bool.Decides.{nat_tests}
 use Rattle.fam_base.specs.declared.entry.Params.{Params}
-use Rattle.fam_base.specs.PathOrder.{path_eq}
 use Rattle.fam_format.specs.declared.faults.SuperFault.{SuperFault}
 use Rattle.fam_format.specs.declared.faults.LogFault.{LogFault}
-use Rattle.fam_format.specs.Layout.{log_line, gate_line}
+use Rattle.fam_format.specs.Layout.{geometry, log_line, gate_line}
 use Rattle.fam_format.specs.Log.{log_fault}
 use Rattle.fam_format.specs.Stop.{stop}
 use Rattle.fam_format.specs.Super.{magic_fault, super_body_of, super_of}
@@ -18,11 +16,12 @@ use Rattle.fam_commands.specs.declared.phase.Phase.{Phase}
 use Rattle.fam_commands.specs.declared.phase.Phase.TheVariants as at
 use Rattle.fam_commands.specs.Task.{Task, part_count, part_line}
 use Rattle.fam_commands.specs.Turns.{Turn, Goes, turn_at, line_or, line_turn, magic_turn, super_turn, host_turn, host_refusal, header_turn}
-use Rattle.fam_rules.specs.declared.answers.Refused.TheVariants.{NotMaster}
+use Rattle.fam_rules.specs.declared.answers.Refused.TheVariants.{NotMaster, LongPath}
 use Rattle.fam_rules.specs.Asks.{File}
-use Rattle.fam_rules.specs.Decide.{Wish, wish_of}
+use Rattle.fam_rules.specs.Decide.{Wish, wish_of, early_refusal}
 use Rattle.fam_rules.specs.Place.{line_bytes}
 use Rattle.fam_rules.specs.Reply.{NotAppended}
+use Rattle.fam_rules.proofs.RefusalTests.{EarlyCases, may_ask, another, too_long, early_cases}
 use Rattle.fam_protocol.specs.SharedState.{SharedState}
 use Rattle.fam_protocol.specs.Lines.{Fresh, FreshGate}
 use Rattle.fam_protocol.specs.Core.{System, Core}
@@ -100,25 +99,24 @@ module _ (sys : System) (host : ℕ) (floor : Option ℕ) (named : Option Named)
           )
       go false e = last (grind (arith, nat_tests))
 
-  -- the superblock is read: the host may go on, or isn't the master
+  -- the superblock is read: the host may go on, or isn't the master, or its path is too long
   host_goes : (t : Task) (wish : Option Wish) → IsTask sys host t → NoSlot t → wish_of t.cmd ≡ wish → ((w : Wish) → wish ≡ Some w → sys.master ≡ Some host) → After (host_turn t sys.params None) sys host floor named t s all settled
   host_goes t wish is none asks master =
       let t' : Task = record t { params = sys.params; phase = at.Drop Header 0; words = [] } in
       goes sys host floor named s all settled core t t' (record { command = is.command; me = is.me; lines = is.lines })
       ((record { entries = none.entries; survey = none.survey }, record { params = refl; master = λ w e. master w (sym asks ∙ e) }), omega arith, λ _. loaded_none s.memory t' Header)
 
-  host_decides : (t : Task) (w : Wish) (b : Bool) → IsTask sys host t → NoSlot t → wish_of t.cmd ≡ Some w → path_eq t.me sys.params.master ≡ b → After (host_turn t sys.params (cond b None (Some (NotMaster t.me sys.params.master)))) sys host floor named t s all settled
-  host_decides t w true is none asks same =
-      let me : t.me ≡ sys.params.master = (pointwise_decides Decides-eqb t.me sys.params.master).0 same in
-      host_goes t (Some w) is none asks (λ v e. core.named.only host (is.me ∙ ap Some me))
-  host_decides t w false is none asks other =
-      ends sys host floor named s all settled core t (NotAppended (NotMaster t.me sys.params.master))
-      (record { me_is = refl; master_is = refl; other = λ e. absurd (let same : path_eq t.me sys.params.master ≡ true = (pointwise_decides Decides-eqb t.me sys.params.master).1 e in cc) })
-      (omega arith)
+  host_decides : (t : Task) (w : Wish) → IsTask sys host t → NoSlot t → wish_of t.cmd ≡ Some w → EarlyCases sys.params t.me w.path → After (host_turn t sys.params (early_refusal sys.params t.me w.path)) sys host floor named t s all settled
+  host_decides t w is none asks (may_ask same short passed) = rw passed (host_goes t (Some w) is none asks (λ v e. core.named.only host (is.me ∙ ap Some same)))
+  host_decides t w is none asks (another other refusal) =
+      rw refusal (ends sys host floor named s all settled core t (NotAppended (NotMaster t.me sys.params.master)) (record { me_is = refl; master_is = refl; other = other }) (omega arith))
+  host_decides t w is none asks (too_long same long refusal) =
+      let limit : ℕ = (geometry sys.params).path_limit in
+      rw refusal (ends sys host floor named s all settled core t (NotAppended (LongPath limit)) (record { wish = w; wished = asks; is = record { master = same; limit_is = refl; long = long } }) (omega arith))
 
   host_turned : (t : Task) (wish : Option Wish) → IsTask sys host t → NoSlot t → wish_of t.cmd ≡ wish → After (host_turn t sys.params (host_refusal wish sys.params t.me)) sys host floor named t s all settled
   host_turned t None is none asks = host_goes t None is none asks (λ w e. absurd (cc))
-  host_turned t (Some w) is none asks = host_decides t w (path_eq t.me sys.params.master) is none asks refl
+  host_turned t (Some w) is none asks = host_decides t w is none asks (early_cases sys.params t.me w.path)
 
   super_read : (t : Task) → IsTask sys host t → NoSlot t → t.words ≡ s.memory 1 ++ s.memory 2 → After (super_turn t (super_body_of t.words (line_bytes * t.lines))) sys host floor named t s all settled
   super_read t is none words =

@@ -115,6 +115,7 @@ module _ (t : Task) (p : Phase) (w : List ℕ) where
 
     may_refuse_moved : (r : Refused) → MayRefuse r sys (moved t p w) all settled → MayRefuse r sys t all settled
     may_refuse_moved (refused.NotMaster me master) h = record { me_is = h.me_is; master_is = h.master_is; other = h.other }
+    may_refuse_moved (refused.LongPath limit) h = record { wish = h.wish; wished = h.wished; is = h.is }
     may_refuse_moved refused.BadStripe h = refused_moved refused.BadStripe h
     may_refuse_moved (refused.Exists kind) h = refused_moved (refused.Exists kind) h
     may_refuse_moved refused.NoParent h = refused_moved refused.NoParent h

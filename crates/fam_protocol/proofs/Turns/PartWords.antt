@@ -7,7 +7,8 @@ use Rattle.std.proofs.lemmas.List.FromFn.{take-map-range_with_len, map-range_wit
 use Rattle.fam_base.specs.declared.cmd.Cmd.{Cmd}
 use Rattle.fam_base.specs.declared.cmd.Cmd.TheVariants.{Verify}
 use Rattle.fam_format.specs.Layout.{log_line}
-use Rattle.fam_format.specs.Reading.{slot_words}
+use Rattle.fam_format.specs.Reading.{slot_words, slot_word}
+use Rattle.fam_format.proofs.Formats.{shape}
 use Rattle.fam_commands.specs.declared.phase.Part.{Part}
 use Rattle.fam_commands.specs.declared.phase.Part.TheVariants.{Superblock, Header, Slot, File as FileLines}
 use Rattle.fam_commands.specs.Task.{Task, part_count, part_line}
@@ -114,4 +115,4 @@ header_words_are memory t long = eight_is (memory log_line) long
 -- the words of a slot
 pub slot_words_are : (memory : ℕ → List ℕ) (t : Task) (i : ℕ) → part_words memory t (Slot i) ≡ slot_words memory t.params i
 unfolding slot_words
-slot_words_are memory t i = refl
+slot_words_are memory t i = ap (λ (n : ℕ). map (slot_word memory t.params i) (range_with_len 0 n)) (sym (shape t.params).words)

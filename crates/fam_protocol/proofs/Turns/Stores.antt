@@ -1,10 +1,12 @@
 -- The turns of an append: what comes behind a store and a sending.
-use Rattle.std.proofs.Common.{ℕ, refl, ◌+◌, ◌*◌, ◌≤◌, ◌<◌, ◌≡◌, ◌⊎◌, List, Bool, true, false, cond, sym, ap, subst, arith, inl, inr, nat_lt}
+use Rattle.std.proofs.Common.{ℕ, refl, ◌+◌, ◌*◌, ◌≤◌, ◌<◌, ◌≡◌, ◌⊎◌, List, Bool, true, false, cond, sym, ap, subst, arith, inl, inr, nat_lt, ltb-true, ltb-false}
 use Rattle.std.proofs.lemmas.Bool.{cases_eq}
 use Rattle.std.proofs.lemmas.Bool.Decides.{nat_tests}
 use Rattle.fam_base.specs.declared.entry.Entry.{Entry}
 use Rattle.std.specs.Prelude.{Option, Some}
 use Rattle.fam_format.specs.Layout.{geometry, slot_line}
+use Rattle.fam_format.proofs.Formats.{shape}
+use Rattle.fam_base.specs.declared.entry.Params.{Params}
 use Rattle.fam_commands.specs.declared.phase.Phase.{Phase}
 use Rattle.fam_commands.specs.declared.phase.Phase.TheVariants as at
 use Rattle.fam_commands.specs.Task.{Task, data_words, line_of, size_of}
@@ -105,7 +107,7 @@ module _ (sys : System) (host : ℕ) (floor : Option ℕ) (named : Option Named)
             omega arith,
             record {
               writing = writing_moved sys host s all settled t p g.0.writing;
-              line = omega arith;
+              line = omega (arith, (shape sys.params).lines);
               contents = data_all (j + 1) host t s last (data_more j host t s g.0.before g.1);
               before = λ b lt. absurd (omega arith);
               here = tt;
@@ -138,7 +140,7 @@ module _ (sys : System) (host : ℕ) (floor : Option ℕ) (named : Option Named)
             omega arith,
             record {
               writing = writing_moved sys host s all settled t p g.0.writing;
-              line = grind (arith, nat_tests);
+              line = subst (λ (p : Params). j + 1 < (geometry p).lines) g.0.writing.params (ltb-true (j + 1) (geometry t.params).lines e);
               contents = g.0.contents;
               before = slot_more j host t s g.0.before g.1;
               here = tt;
@@ -146,7 +148,8 @@ module _ (sys : System) (host : ℕ) (floor : Option ℕ) (named : Option Named)
           )
       go false e =
           let p : Phase = at.FenceSlot in
-          let last : j + 1 ≡ 8 = let lt = g.0.line in grind (arith, nat_tests) in
+          let past : (geometry sys.params).lines ≤ j + 1 = subst (λ (p : Params). (geometry p).lines ≤ j + 1) g.0.writing.params (ltb-false (j + 1) (geometry t.params).lines e) in
+          let last : j + 1 ≡ (geometry sys.params).lines = let lt = g.0.line in omega arith in
           goes sys host floor named s all settled core t (moved t p t.words) (task_moved t p t.words sys host is)
           (record {
             writing = writing_moved sys host s all settled t p g.0.writing;

@@ -28,7 +28,7 @@ use crate::history::History;
 use crate::replies::refusal_answer;
 use crate::survey::report_of;
 use crate::wanted::{wanted_end, wanted_start};
-use fam_base::{ByteText, Cmd, Content, Entry, Kind, OutOfMemory};
+use fam_base::{Boxed, ByteText, Cmd, Content, Entry, Kind, OutOfMemory};
 use fam_commands::{Part, Phase};
 use fam_entry::spell;
 use fam_fsck::check;
@@ -133,7 +133,7 @@ impl Task {
             Cmd::Cp { .. } => self.append(),
             Cmd::Verify { .. } => self.verify(),
             Cmd::Read { .. } => self.read(),
-            Cmd::Check { .. } => Ok(self.check()),
+            Cmd::Check { .. } => self.check(),
             Cmd::Fsck => Ok(self.report()),
         }
     }
@@ -171,20 +171,23 @@ impl Task {
     }
 
     /// Answers how the tree of all entries differs from the listing.
-    fn check(&mut self) -> Turn
+    fn check(&mut self) -> Result<Turn, OutOfMemory>
         requires phase { self.old.phase ≡ at.Decide }
         requires check { IsCheck self.old.cmd }
-        ensures turn { Tells (turns.decide_turn self.old.cmd self.old) result self.new }
+        ensures turn { IfOk result (λ turn. Tells (turns.decide_turn self.old.cmd self.old) turn self.new) }
         ensures kept { self.new.kept ≡ self.old.kept }
+        ensures err { OnErr result (self.new ≡ self.old) }
+        ensures want { OnErr result (WantsMemory self.old (turns.decide_turn self.old.cmd self.old)) }
     {
         let Cmd::Check { listing } = &self.cmd else {
             unreachable!();
         };
+        let found = checked(self.alloc, &self.history, listing.as_slice());
         let answer = Answer::Checked {
             m: self.history.count(),
-            checked: checked(self.alloc, &self.history, listing.as_slice()),
+            checked: Boxed::new(self.alloc, found)?,
         };
-        done(&mut self.phase, answer)
+        Ok(done(&mut self.phase, answer))
     }
 
     /// Answers with the report over all slots.
@@ -229,11 +232,13 @@ impl Task {
         ensures kept { self.new.kept ≡ self.old.kept }
         ensures err { OnErr result (self.new ≡ self.old) }
     {
+        let noted = Boxed::new(self.alloc, *entry)?;
         self.contents = new_contents(&self.cmd, entry.size)?;
-        self.buffer.hold(&spell(entry, self.gate));
+        let slot = spell(entry, self.gate, self.params.format);
+        self.buffer.hold(slot.words());
         self.entry = Some(*entry);
         self.phase = first_store(entry.size);
-        Ok(Turn::Note(TaskNote::Writes(self.gate, *entry)))
+        Ok(Turn::Note(TaskNote::Writes(self.gate, noted)))
     }
 
     /// Looks for the file that is compared.

@@ -69,7 +69,7 @@ impl Task {
         ensures want { OnErr result (WantsMemory self.old (turns.slot_turn self.old slot
             (entry_of self.old.params self.old.words slot))) }
     {
-        let words = self.buffer.slot();
+        let words = self.buffer.as_slice();
         match self.history.read_slot(&self.params, self.gate, words)? {
             Some(reason) => Ok(Some(reason)),
             None => {
@@ -90,7 +90,7 @@ impl Task {
         ensures err { OnErr result (self.new ≡ self.old) }
         ensures want { OnErr result (ShowWants self.old.params self.old.gate slot self.old.words) }
     {
-        let words = self.buffer.slot();
+        let words = self.buffer.as_slice();
         show(self.alloc, &mut self.scan, &self.params, self.gate, words)?;
         self.buffer.clear();
         self.phase = slot_or_decide(slot + 1, self.params.slots);

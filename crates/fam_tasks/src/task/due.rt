@@ -5,7 +5,7 @@ ghost use Rattle.fam_commands.specs.declared.phase.Part.TheVariants as part;
 ghost use Rattle.fam_commands.specs.declared.phase.Phase.TheVariants as at;
 ghost use Rattle.fam_tasks.specs.Due.{IsDue};
 
-use super::{SlotDue, Task};
+use super::{SlotDue, Task, lines_of_a_slot};
 use fam_base::{Cmd, LineNo};
 use fam_commands::{Part, Phase};
 
@@ -52,7 +52,11 @@ impl Task {
         ensures { IsDue result self.now }
     {
         self.is_sound();
-        Due::Slot(SlotDue { slot, line })
+        Due::Slot(SlotDue {
+            slot,
+            line,
+            lines: lines_of_a_slot(&self.params),
+        })
     }
 
     /// A line of a file, which is dropped next, and may be compared.

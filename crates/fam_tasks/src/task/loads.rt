@@ -16,12 +16,12 @@ ghost use Rattle.fam_tasks.specs.declared.answer.TaskNote.TheVariants.{Mark};
 ghost use Rattle.fam_tasks.specs.declared.answer.Turn.TheVariants.{Go, Note};
 ghost use Rattle.fam_tasks.specs.Tells.{Tells, is_reading};
 
-use super::{LAST_LINE, Task, done, slot_or_decide};
+use super::{Task, done, last_line, slot_or_decide};
 use crate::answer::{Answer, TaskNote, Turn};
 use crate::buffer::Buffer;
-use crate::commands::{appends, is_fsck, is_refused, slots_told};
+use crate::commands::{appends, check_host, is_fsck, slots_told};
 use crate::history::History;
-use crate::replies::{log_answer, super_answer};
+use crate::replies::{log_answer, refusal_answer, super_answer};
 use fam_base::{Cmd, Params};
 use fam_commands::{Part, Phase};
 use fam_format::{LAST_WORD, LINE_BYTES, LINE_WORDS, SuperFault};
@@ -184,12 +184,8 @@ impl Task {
                 done(&mut self.phase, answer)
             }
             Ok(params) => {
-                if is_refused(&self.cmd, &params, &self.me) {
-                    let answer = Answer::NotMaster {
-                        me: self.me,
-                        master: params.master,
-                    };
-                    return done(&mut self.phase, answer);
+                if let Err(refused) = check_host(&self.cmd, &params, &self.me) {
+                    return done(&mut self.phase, refusal_answer(refused));
                 }
                 self.params = params;
                 self.buffer.clear();
@@ -231,14 +227,14 @@ impl Task {
             Go self.new }
     {
         self.buffer.push(word);
-        self.phase = if line < LAST_LINE {
-            Phase::Drop {
+        if line < last_line(&self.params) {
+            self.phase = Phase::Drop {
                 part: Part::Slot(slot),
                 line: line + 1,
-            }
+            };
         } else {
-            Phase::Check { slot }
-        };
+            self.phase = Phase::Check { slot };
+        }
     }
 
     /// The gate's line was dropped.

@@ -1,6 +1,6 @@
 //! A line of a slot, which is dropped and whose words are all taken at once: of a long log nearly all operations are such.
 
-ghost use Rattle.std.specs.Prelude.{◌≡◌, ◌+◌, ◌<◌, ◌++◌, nat_lt, if◌then◌else◌};
+ghost use Rattle.std.specs.Prelude.{◌≡◌, ◌+◌, ◌^◌, ◌<◌, ◌++◌, nat_lt, if◌then◌else◌};
 ghost use Rattle.fam_base.specs.Image.{eight};
 ghost use Rattle.fam_format.specs.Layout.{geometry};
 ghost use Rattle.fam_commands.specs.declared.phase.Part.TheVariants as part;
@@ -8,10 +8,9 @@ ghost use Rattle.fam_commands.specs.declared.phase.Phase.TheVariants as at;
 ghost use Rattle.fam_tasks.specs.Rest.{DropsLine};
 ghost use Rattle.fam_tasks.specs.SlotLines.{IsSlotLine, LoadsSlotLine};
 
-use super::{LAST_LINE, Task};
+use super::{Task, last_line};
 use fam_base::{Line, LineNo};
 use fam_commands::{Part, Phase};
-use fam_format::SLOT_LINES;
 use fam_replay::line_of_slot;
 
 /// Which line of which slot a task drops next, before it loads the line's words.
@@ -20,13 +19,15 @@ pub struct SlotDue {
     pub slot: u64,
     /// Counted from 0 in the slot.
     pub line: u64,
+    /// How many lines each slot has.
+    pub lines: u64,
 }
 
 /// Moves from a line that is dropped next to the one behind it.
 #[inline(always)]
 fn move_on(phase: &mut Phase, part: Part, number: u64)
     requires phase { phase.old ≡ at.Drop part number }
-    requires below { number < LAST_LINE }
+    requires fits { number + 1 < 2 ^ 64 }
     ensures { phase.new ≡ at.Drop part (number + 1) }
 {
     let _ = part;
@@ -64,9 +65,11 @@ impl Task {
     #[inline(always)]
     pub fn load_line_of_slot(&mut self, due: SlotDue, line: LineNo, words: &Line)
         requires due { self.old.phase ≡ at.Drop (part.Slot due.slot) due.line }
+        requires lines { due.lines ≡ (geometry self.old.params).lines }
         requires line { IsSlotLine line self.old }
         ensures loads { LoadsSlotLine line (eight words.now) self.old self.new }
-        ensures next { due.line + 1 < SLOT_LINES → self.new.phase ≡ at.Drop (part.Slot due.slot) (due.line + 1) }
+        ensures params { self.new.params ≡ self.old.params }
+        ensures next { due.line + 1 < due.lines → self.new.phase ≡ at.Drop (part.Slot due.slot) (due.line + 1) }
     {
         let _ = line;
         self.is_sound();
@@ -84,7 +87,7 @@ impl Task {
         } }
     {
         self.buffer.push_line(words);
-        if number < LAST_LINE {
+        if number < last_line(&self.params) {
             move_on(&mut self.phase, Part::Slot(slot), number);
         } else {
             self.phase = Phase::Check { slot };

@@ -9,7 +9,7 @@ ghost use Rattle.fam_machine.specs.Operations.{IsWithin};
 ghost use Rattle.fam_tasks.specs.declared.answer.Turn.TheVariants.{Go};
 ghost use Rattle.fam_tasks.specs.Tells.{Tells};
 
-use super::{LAST_LINE, Task};
+use super::{Task, last_line};
 use crate::answer::Turn;
 use fam_commands::Phase;
 use fam_content::lines_of;
@@ -114,7 +114,7 @@ impl Task {
         requires { self.old.phase ≡ at.SendSlot line }
         ensures { Tells (turn_of self.old None) Go self.new }
     {
-        self.phase = if line < LAST_LINE {
+        self.phase = if line < last_line(&self.params) {
             Phase::StoreSlot {
                 line: line + 1,
                 word: 0,

@@ -6,7 +6,7 @@ ghost use Rattle.fam_format.specs.Params.{SoundParams};
 use fam_base::{Entry, Extent, Extents, Kind, Line, LineNo, MapKind, Params, Path};
 use fam_dup::{DupFault, DupRefusal, dup};
 use fam_entry::{spell, spell_log};
-use fam_format::{GATE_LINE, LINE_BYTES, LOG_LINE, SLOT_LINES};
+use fam_format::{FIRST_FORMAT, GATE_LINE, LINE_BYTES, LOG_LINE, SLOT_LINES};
 use fam_media::{Media, MemMedia};
 use fam_plan::Plan;
 use fam_replay::line_of_slot;
@@ -19,6 +19,7 @@ use uuid::Uuid;
 /// A file system of this unit and log on a media of so many lines.
 fn params_on(lines: u64, unit: u64, log_length: u64, slots: u64) -> Params {
     Params {
+        format: FIRST_FORMAT,
         log_length,
         slots,
         unit,
@@ -53,11 +54,13 @@ fn put(media: &mut MemMedia, line: LineNo, words: &Line) {
 
 /// Writes the slot of an entry.
 fn put_slot(media: &mut MemMedia, params: &Params, slot: u64, entry: &Entry) {
-    let words = spell(entry, slot);
+    let spelling = spell(entry, slot, params.format);
     for j in 0..SLOT_LINES {
         let first = 8 * j as usize;
         let mut line = [0; 8];
-        line.copy_from_slice(&words[first..first + 8]);
+        if let Some(part) = spelling.words().get(first..first + 8) {
+            line.copy_from_slice(part);
+        }
         if slot < 1000 {
             put(media, line_of_slot(params, slot, j), &line);
         }
@@ -96,8 +99,10 @@ fn two_files(alloc: Global) -> Result<MemMedia, Fail> {
 }
 
 /// Copies onto a media, with units of 4 KiB and a log of 64 KiB.
+#[tactic(auto, unfolding(fam_format::specs::Layout::shape_of))]
 fn copied(alloc: Global, from: &mut MemMedia, to: &mut MemMedia) -> Result<u64, DupFault> {
     let params = Params {
+        format: FIRST_FORMAT,
         log_length: 65_536,
         slots: 127,
         unit: 4_096,
@@ -148,10 +153,12 @@ fn a_copy_without_room_writes_nothing(rt: HostRuntime) -> Result<(), Fail> {
 }
 
 /// A log of 64 KiB on a device of 4 MiB.
+#[tactic(auto, unfolding(fam_format::specs::Layout::shape_of))]
 fn small_log() -> Params
     ensures { SoundParams result }
 {
     Params {
+        format: FIRST_FORMAT,
         log_length: 65_536,
         slots: 127,
         unit: 4_096,

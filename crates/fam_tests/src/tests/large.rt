@@ -8,6 +8,7 @@ ghost use Rattle.fam_rules.specs.Decide.{wish_of};
 
 use fam_alloc::{AllocMap, UsedUnits};
 use fam_base::{Attr, BadPath, Cmd, Content, Entry, Extent, Extents, Kind, MapKind, Params, Path};
+use fam_format::FIRST_FORMAT;
 use fam_plan::Plan;
 use fam_tree::{ApplyFault, Tree};
 use std::test::Fail;
@@ -111,10 +112,12 @@ fn units_that_are_used_are_skipped(rt: HostRuntime) -> Result<(), Fail> {
 }
 
 /// A device of 64 MiB, 16,384 units, with a log of 1 MiB: the first 768 units are superblock and log.
+#[tactic(auto, unfolding(fam_format::specs::Layout::shape_of))]
 fn long_log() -> Params
     ensures { SoundParams result }
 {
     Params {
+        format: FIRST_FORMAT,
         log_length: 1_048_576,
         slots: 2_047,
         unit: 4_096,

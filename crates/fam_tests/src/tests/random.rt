@@ -2,11 +2,13 @@
 //! plain one.
 
 ghost use Rattle.std.specs.Prelude.{◌≡◌, ◌<◌, ◌≤◌};
+ghost use Rattle.fam_format.specs.Layout.{geometry};
 ghost use Rattle.fam_format.specs.Params.{SoundParams};
 
 use fam_base::{BadPath, Entry, Extent, Extents, Kind, MapKind, OutOfMemory, Params, Path};
 use fam_crc::{crc_more, crc_words};
-use fam_entry::{SLOT_WORDS, spell};
+use fam_entry::spell;
+use fam_format::{FIRST_FORMAT, SLOT_WORDS};
 use fam_fsck::Fsck;
 use fam_plain::{plain_crc, plain_crc_words, plain_report};
 use fam_rules::Report;
@@ -21,11 +23,14 @@ use uuid::Uuid;
 const SLOTS: usize = 15;
 
 /// A device of 538 units of 4,096 bytes, with a log of 15 slots: the first 514 units are superblock and log.
+#[tactic(auto, unfolding(fam_format::specs::Layout::shape_of))]
 fn small() -> Params
     ensures sound { SoundParams result }
     ensures slots { result.slots ≡ 15 }
+    ensures words { (geometry result).words ≡ SLOT_WORDS }
 {
     Params {
+        format: FIRST_FORMAT,
         log_length: 8_192,
         slots: 15,
         unit: 4_096,
@@ -148,6 +153,17 @@ fn damaged(generator: &mut Xoshiro256PlusPlus, words: &[u64; SLOT_WORDS]) -> [u6
     words
 }
 
+/// The words of an entry in a slot of the first format.
+fn spelled(entry: &Entry, number: u64) -> [u64; SLOT_WORDS] {
+    match spell(entry, number, FIRST_FORMAT)
+        .words()
+        .as_array::<SLOT_WORDS>()
+    {
+        Some(words) => *words,
+        None => [0; SLOT_WORDS],
+    }
+}
+
 /// The words of a slot: mostly an entry of its number.
 fn slot(generator: &mut Xoshiro256PlusPlus, number: u64) -> Result<[u64; SLOT_WORDS], BadPath> {
     let entry = if draw(generator, 2) == 0 {
@@ -157,9 +173,9 @@ fn slot(generator: &mut Xoshiro256PlusPlus, number: u64) -> Result<[u64; SLOT_WO
     };
     match draw(generator, 12) {
         0 => Ok([0; SLOT_WORDS]),
-        1 => Ok(spell(&entry, draw(generator, 15))),
-        2 => Ok(damaged(generator, &spell(&entry, number))),
-        _ => Ok(spell(&entry, number)),
+        1 => Ok(spelled(&entry, draw(generator, 15))),
+        2 => Ok(damaged(generator, &spelled(&entry, number))),
+        _ => Ok(spelled(&entry, number)),
     }
 }
 
@@ -181,6 +197,7 @@ fn reported(
 ) -> Result<Report, OutOfMemory>
     requires sound { SoundParams params.now }
     requires slots { params.now.slots ≡ 15 }
+    requires words { (geometry params.now).words ≡ SLOT_WORDS }
 {
     let mut fsck = Fsck::new(alloc, params, gate)?;
     for i in 0..params.slots {

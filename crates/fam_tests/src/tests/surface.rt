@@ -1,6 +1,7 @@
 //! Calls of the public surface that the program doesn't make.
 
 use fam_base::{Cmd, HostName, Params, Path};
+use fam_format::FIRST_FORMAT;
 use fam_journal::{HostId, Refusal};
 use fam_media::MemMedia;
 use fam_super::{Role, role};
@@ -88,6 +89,7 @@ fn a_path_is_printed_with_escapes(rt: HostRuntime) -> Result<(), Fail> {
 fn the_superblock_names_the_master(rt: HostRuntime) {
     let master = Uuid::from_bytes([1; 16]);
     let params = Params {
+        format: FIRST_FORMAT,
         log_length: 65_536,
         slots: 127,
         unit: 4_096,

@@ -26,9 +26,9 @@ returns c = record {
         | inl memory ↦ inl memory
         | inr x ↦ inr (ask_ends start host what files out given (top.image start told_start) top.uuids.0 x)
       ];
-  mkfs = λ me random out given system fs unit log force files start none top told_start told.
+  mkfs = λ me random out given system fs unit log format force files start none top told_start told.
       let host = host_or me system in
-      let request = mkfs_request (fs_or random fs) unit log force None in
+      let request = mkfs_request (fs_or random fs) unit log format force None in
       elim (shot_run out none host (Makes request) start files told_start told (top.image start told_start) top.uuids.0 top.uuids.1 script_events storm given top.ends) [
         | inl memory ↦ inl memory
         | inr x ↦ inr (mkfs_ends start host request files out given (top.image start told_start) top.uuids.0 refl x)

@@ -1,6 +1,7 @@
 //! Making a file system.
 
-ghost use Rattle.std.specs.Prelude.{◌≡◌, ◌*◌, ◌<◌, ◌≤◌, ◌++◌, ◌∷◌, [], OnErr, vec_capacity, Bool, None, Some, ℕ, List, IfErr, IfOk, IfSome, IsErrOf, OnOk, option_map, vec_len};
+ghost use Rattle.std.specs.Prelude.{◌≡◌, ◌*◌, ◌<◌, ◌≤◌, ◌++◌, ◌∷◌, [], OnErr, vec_capacity, Bool, None, Some, ℕ, List, IfErr, IfOk, IfSome, IsErrOf, IsTrue, OnOk, option_map, vec_len};
+ghost use Rattle.fam_format.specs.Params.{is_format};
 ghost use Rattle.fam_rules.specs.Place.{line_bytes};
 ghost use Rattle.fam_machine.specs.Mkfs.{early_refusal};
 ghost use Rattle.fam_machine.specs.Mkfs as spec;
@@ -162,8 +163,8 @@ fn note_end(
 }
 
 impl World {
-    /// A host makes a file system with the UUID `fs`, units of so many bytes and a log of so many bytes, on the whole
-    /// media. The first of these refuses it: `NoHost`; `BadGeometry` and `TooSmall`, by the numbers; `Busy`, the first
+    /// A host makes a file system with the UUID `fs`, units of so many bytes and a log of so many bytes, in this format, on
+    /// the whole media. The first of these refuses it: `NoHost`; `BadGeometry` and `TooSmall`, by the numbers; `Busy`, the first
     /// host that has a task or keeps something of the log; `Dirty`, the first other host with a line that memory may
     /// lack; `HasSuper`, where a superblock reads in lines 0, 1 and 2 and `force` is false. `MediaFault` comes where the
     /// media failed, and the operations before it were done. All room is taken first.
@@ -174,11 +175,13 @@ impl World {
         fs: Uuid,
         unit: u64,
         log: u64,
+        format: u64,
         force: bool,
     ) -> Result<(), WorldFault>
-        ensures answered { IfAnswered result (λ answered. MakeCall (Makes name.now (mkfs_request fs unit log force None)) (M.size media.old)
+        requires { IsTrue (is_format format) }
+        ensures answered { IfAnswered result (λ answered. MakeCall (Makes name.now (mkfs_request fs unit log format force None)) (M.size media.old)
             answered (change M.state media.old media.new) self.old self.new) }
-        ensures untouched { IsUntouched (Makes name.now (mkfs_request fs unit log force None)) (M.size media.old) self.old media.old media.new }
+        ensures untouched { IsUntouched (Makes name.now (mkfs_request fs unit log format force None)) (M.size media.old) self.old media.old media.new }
         ensures undone { IsErrOf result WorldFault.OutOfMemory → media.new ≡ media.old }
         ensures err { IsErrOf result WorldFault.OutOfMemory → self.new ≡ self.old }
         ensures size { M.size media.new ≡ M.size media.old }
@@ -187,6 +190,7 @@ impl World {
             fs,
             unit,
             log,
+            format,
             force,
             halt: None,
         };
@@ -204,12 +208,14 @@ impl World {
         fs: Uuid,
         unit: u64,
         log: u64,
+        format: u64,
         force: bool,
         k: u64,
     ) -> Result<(), WorldFault>
-        ensures answered { IfAnswered result (λ answered. MakeCall (Makes name.now (mkfs_request fs unit log force (Some k))) (M.size media.old)
+        requires { IsTrue (is_format format) }
+        ensures answered { IfAnswered result (λ answered. MakeCall (Makes name.now (mkfs_request fs unit log format force (Some k))) (M.size media.old)
             answered (change M.state media.old media.new) self.old self.new) }
-        ensures untouched { IsUntouched (Makes name.now (mkfs_request fs unit log force (Some k))) (M.size media.old) self.old media.old media.new }
+        ensures untouched { IsUntouched (Makes name.now (mkfs_request fs unit log format force (Some k))) (M.size media.old) self.old media.old media.new }
         ensures undone { IsErrOf result WorldFault.OutOfMemory → media.new ≡ media.old }
         ensures err { IsErrOf result WorldFault.OutOfMemory → self.new ≡ self.old }
         ensures size { M.size media.new ≡ M.size media.old }
@@ -218,6 +224,7 @@ impl World {
             fs,
             unit,
             log,
+            format,
             force,
             halt: Some(k),
         };
@@ -231,6 +238,7 @@ impl World {
         name: &HostName,
         request: &MkfsRequest,
     ) -> Result<(), WorldFault>
+        requires { IsTrue (is_format request.now.format) }
         ensures answered { IfAnswered result (λ answered. MakeCall (Makes name.now request.now) (M.size media.old)
             answered (change M.state media.old media.new) self.old self.new) }
         ensures untouched { IsUntouched (Makes name.now request.now) (M.size media.old) self.old media.old media.new }

@@ -16,10 +16,11 @@ use crate::fault::WorldFault;
 use crate::find::{declared, declared_before, entries_kept, is_mount, may_begin, mounted, running};
 use crate::hosts::{Host, begin_task, end_task, forget, lose};
 use crate::notes::{add, make_room, refused};
-use fam_base::{Cmd, HostName, OutOfMemory};
+use fam_base::{Boxed, Cmd, HostName, OutOfMemory};
 use fam_cache::HostCache;
 use fam_journal::{HostId, Refusal};
 use fam_notes::Note;
+use std::alloc::Global;
 use uuid::Uuid;
 
 /// Makes room for one more host.
@@ -44,11 +45,11 @@ fn add_host(hosts: &mut Vec<Host>, host: Host)
 }
 
 /// A command twice: one for the journal, and one for the task.
-fn two_copies(cmd: &Cmd) -> Result<(Cmd, Cmd), OutOfMemory>
+fn two_copies(alloc: Global, cmd: &Cmd) -> Result<(Boxed<Cmd>, Cmd), OutOfMemory>
     ensures noted { IfOk result (λ copies. copies.0 ≡ cmd.now) }
     ensures own { IfOk result (λ copies. copies.1 ≡ cmd.now) }
 {
-    let noted = cmd.copy()?;
+    let noted = Boxed::new(alloc, cmd.copy()?)?;
     let own = cmd.copy()?;
     Ok((noted, own))
 }
@@ -120,7 +121,7 @@ impl World {
             Ok(at) => at,
             Err(cause) => return Err(refused(&mut self.journal, name, cause)),
         };
-        let Ok((noted, own)) = two_copies(cmd) else {
+        let Ok((noted, own)) = two_copies(self.alloc, cmd) else {
             return Err(WorldFault::OutOfMemory);
         };
         begin_task(self.alloc, &mut self.hosts, at, lines, own);

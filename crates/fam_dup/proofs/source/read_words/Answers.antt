@@ -1,12 +1,13 @@
 use Rattle.std.proofs.Common.{◌∙◌, ap, arith}
 use Rattle.fam_base.specs.Image.{line_at}
+use Rattle.fam_format.proofs.Formats.{slot_short}
 use Rattle.fam_rules.proofs.LinesApart.{slot_within}
 use Rattle.fam_dup.proofs.Slots.{words_all, words_more}
 use Rattle.fam_dup.proofs.source.read_words.Goals as goal
 
 pub read_from-requires : goal.read_from-requires
 read_from-requires g c = record {
-  within = omega (arith, slot_within c.args.params.now c.args.slot c.lines.line (g.M.Media.size c.args.from.now) c.requires.sound c.requires.slot c.lines-test.true c.requires.device, c.line_of_slot.ensures, c.lines.invariant.steady.size);
+  within = omega (arith, slot_within c.args.params.now c.args.slot c.lines.line (g.M.Media.size c.args.from.now) c.requires.sound c.requires.slot (omega (arith, c.lines-test.true, c.shape_of-line-end.ensures.lines)) c.requires.device, c.line_of_slot.ensures, c.lines.invariant.steady.size);
 }
 
 pub lines-preserved : goal.lines-preserved
@@ -24,4 +25,4 @@ lines-preserved g c =
 
 pub returns-clause-words : goal.returns-clause-words
 returns-clause-words g c = λ image told.
-    words_all (line_at image) c.args.params.now c.args.slot c.lines.words c.lines.line c.lines.invariant.count (omega arith) (c.lines.invariant.words image told)
+    words_all (line_at image) c.args.params.now c.args.slot c.lines.words c.lines.line (omega (arith, c.lines.invariant.count, slot_short c.args.params.now)) (omega (arith, c.lines-test.false, c.shape_of-line-end.ensures.lines)) (c.lines.invariant.words image told)

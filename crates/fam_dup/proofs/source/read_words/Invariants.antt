@@ -8,7 +8,7 @@ use Rattle.fam_dup.proofs.source.read_words.Given as goal
 -- the words of the lines so far
 abbrev pub invariant-lines : goal.invariant-lines
 invariant-lines g l = record {
-  count : length l.words ≡ 64;
+  count : length l.words ≡ 128;
   words : IfModelled (g.M.Media.state l.fn.from).image (λ image. (k : ℕ) → k < 8 * l.line → get_or l.words k 0 ≡ slot_word (line_at image) l.params l.slot k);
   same : (g.M.Media.state l.from).image ≡ (g.M.Media.state l.fn.from).image;
   steady : IsSteady g.M.Media.size g.M.Media.state l.fn.from l.from;

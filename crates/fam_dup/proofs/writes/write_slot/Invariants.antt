@@ -10,7 +10,7 @@ use Rattle.fam_dup.proofs.writes.write_slot.Given as goal
 -- the lines so far were written
 abbrev pub invariant-lines : goal.invariant-lines
 invariant-lines g l = record {
-  passed : ArePassed (slot_puts l.params l.seq l.copy) (puts_from (slot_line l.params l.seq) (slot_part (spelling (geometry l.params) l.copy l.seq)) l.j (8 - l.j))
+  passed : ArePassed (slot_puts l.params l.seq l.copy) (puts_from (slot_line l.params l.seq) (slot_part (spelling (geometry l.params) l.copy l.seq)) l.j ((geometry l.params).lines - l.j))
       (g.N.Media.state l.fn.to).image (g.N.Media.state l.to).image;
   steady : IsSteady g.N.Media.size g.N.Media.state l.fn.to l.to;
 }

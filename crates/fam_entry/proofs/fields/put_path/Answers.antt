@@ -17,7 +17,7 @@ returns c =
     let short : tail ≤ 8 = omega arith in
     let eight : length bytes ≡ 8 = ap length c.to_le_bytes-bytes.ensures in
     let count : length ys ≡ tail = ap length c.copy_from_slice.ensures.after ∙ length-take-le tail bytes (omega (arith, eight, short)) in
-    let within : at + tail ≤ 168 = omega (arith, c.requires.few) in
+    let within : at + tail ≤ 512 = omega (arith, c.requires.few) in
     let size : tail ≡ tail = refl in
     record {
       bytes = λ k below.

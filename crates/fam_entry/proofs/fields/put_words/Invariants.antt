@@ -5,7 +5,7 @@ use Rattle.fam_entry.proofs.fields.put_words.Given as goal
 
 abbrev pub invariant-loop-i : goal.invariant-loop-i
 invariant-loop-i l = record {
-  count : length l.field ≡ 168;
+  count : length l.field ≡ 512;
   bytes : (k : ℕ) → k < 8 * l.i → get_or l.field k 0 ≡ byte_from path_word l.words k;
   behind : (k : ℕ) → 8 * l.i ≤ k → get_or l.field k 0 ≡ get_or l.initial.field k 0;
 }

@@ -1,4 +1,4 @@
-use Rattle.std.proofs.Common.{◌≡◌, ℕ, ◌-◌, ◌<◌, ◌≤◌, false}
+use Rattle.std.proofs.Common.{length, ◌≡◌, ℕ, ◌-◌, ◌<◌, ◌≤◌, false}
 use Rattle.fam_format.specs.Slot.{is_stray, extents_word}
 use Rattle.fam_entry.proofs.reading.check_rest.Given as goal
 
@@ -9,4 +9,4 @@ invariant-loop-i l = record {
 }
 
 abbrev pub decreases-loop-i : goal.decreases-loop-i
-decreases-loop-i l = 63 - l.i
+decreases-loop-i l = length l.words - 1 - l.i

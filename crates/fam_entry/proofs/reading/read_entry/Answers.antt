@@ -1,12 +1,13 @@
-use Rattle.std.proofs.Common.{Result, Ok, Err, sym, ap, ◌∙◌}
+use Rattle.std.proofs.Common.{arith, Result, Ok, Err, sym, ap, ◌∙◌}
 use Rattle.fam_base.specs.declared.entry.Entry.{Entry}
 use Rattle.fam_format.specs.declared.faults.Reason.{Reason}
+use Rattle.fam_format.proofs.Formats.{slot_long}
 use Rattle.fam_entry.proofs.Found.{entry_found, entry_only}
 use Rattle.fam_entry.proofs.PathField.{zero_at}
 use Rattle.fam_entry.proofs.reading.read_entry.Goals as goal
 
 pub check-requires-clause-empty : goal.check-requires-clause-empty
-check-requires-clause-empty c = λ k. zero_at 168 k
+check-requires-clause-empty c = λ k. zero_at 512 k
 
 pub returns-in-Ok-clause-found : goal.returns-in-Ok-clause-found
 returns-in-Ok-clause-found c =
@@ -20,3 +21,6 @@ returns-in-Ok-clause-only c =
 
 pub returns-in-Err-clause-only : goal.returns-in-Err-clause-only
 returns-in-Err-clause-only c = entry_only c.args.params.now c.args.words.now c.args.seq (Err c.in-Err.reason) (sym c.in-Err.ensures.value)
+
+pub checked_entry-requires-clause-long : goal.checked_entry-requires-clause-long
+checked_entry-requires-clause-long c = omega (arith, slot_long c.args.params.now, c.requires.count)

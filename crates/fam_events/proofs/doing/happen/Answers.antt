@@ -23,7 +23,7 @@ returns-in-Mkfs-clause-says g c =
     let shelf : ShelfChange = change g.S.Shelf.state c.args.shelf.now c.args.shelf.now in
     let a : WorldChange = world_change g.M.Media.size g.M.Media.state c.args.media.now c.make.new.media c.args.world.now c.make.new.world (g.S.Shelf.state c.args.shelf.now).files c.args.copied.now c.args.copied.now in
     subst (λ (e : Event). EventSays e shelf a c.make.result) (sym c.in-Mkfs.is)
-    (event_says (event.Mkfs c.in-Mkfs.name c.in-Mkfs.fs c.in-Mkfs.unit c.in-Mkfs.log c.in-Mkfs.force c.in-Mkfs.halt) (call.Makes c.in-Mkfs.name (mkfs_request c.in-Mkfs.fs c.in-Mkfs.unit c.in-Mkfs.log c.in-Mkfs.force c.in-Mkfs.halt)) shelf a (mkfs_call c.in-Mkfs.name (mkfs_request c.in-Mkfs.fs c.in-Mkfs.unit c.in-Mkfs.log c.in-Mkfs.force c.in-Mkfs.halt)) refl c.make.result (c.make.ensures.says (g.S.Shelf.state c.args.shelf.now).files c.args.copied.now))
+    (event_says (event.Mkfs c.in-Mkfs.name c.in-Mkfs.fs c.in-Mkfs.unit c.in-Mkfs.log c.in-Mkfs.format c.in-Mkfs.force c.in-Mkfs.halt) (call.Makes c.in-Mkfs.name (mkfs_request c.in-Mkfs.fs c.in-Mkfs.unit c.in-Mkfs.log c.in-Mkfs.format c.in-Mkfs.force c.in-Mkfs.halt)) shelf a (mkfs_call c.in-Mkfs.name (mkfs_request c.in-Mkfs.fs c.in-Mkfs.unit c.in-Mkfs.log c.in-Mkfs.format c.in-Mkfs.force c.in-Mkfs.halt)) refl c.make.result (c.make.ensures.says (g.S.Shelf.state c.args.shelf.now).files c.args.copied.now))
 
 pub returns-in-Step-clause-says : goal.returns-in-Step-clause-says
 returns-in-Step-clause-says g c =

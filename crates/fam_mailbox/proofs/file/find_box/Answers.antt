@@ -1,9 +1,9 @@
-use Rattle.std.proofs.Common.{◌<◌, ℕ, arith, subst, sym}
+use Rattle.std.proofs.Common.{◌<◌, ◌∙◌, ℕ, arith, refl, subst, sym}
 use Rattle.fam_mail.specs.Boxes.{capacity_of}
 use Rattle.fam_media.specs.States.{change}
 use Rattle.fam_rules.specs.Written.{file_line}
-use Rattle.fam_mailbox.specs.Lookups.{IsLookCaused}
-use Rattle.fam_mailbox.proofs.Faults.{box_caused}
+use Rattle.fam_mailbox.specs.Lookups.{IsLookCaused, IsSo}
+use Rattle.fam_mailbox.proofs.Faults.{box_caused, box_so}
 use Rattle.fam_mailbox.proofs.Found.{lines_within}
 use Rattle.fam_mailbox.proofs.file.find_box.Goals as goal
 
@@ -19,3 +19,17 @@ returns-in-Err-check_box-clause-cause g c =
     (g.M.Media.state c.find_file.new.media).image c.in-Err-check_box.fault c.find_file.ensures.steady.later
     (lines_within (g.M.Media.size c.args.media.now) c.in-Ok.entry c.in-Ok.ensures.placed (omega (arith, c.if-entry-lt-LEAST_BOX.false)))
     c.in-Err-check_box.ensures.cause c.in-Err-check_box.ensures.line)
+
+pub returns-then-entry-lt-LEAST_BOX-clause-fault : goal.returns-then-entry-lt-LEAST_BOX-clause-fault
+returns-then-entry-lt-LEAST_BOX-clause-fault g c = λ image is. record {
+  entry = c.in-Ok.entry;
+  file = c.in-Ok.ensures.found image is;
+  size_is = refl;
+  small = omega (arith, c.if-entry-lt-LEAST_BOX.true);
+}
+
+pub returns-in-Err-check_box-clause-fault : goal.returns-in-Err-check_box-clause-fault
+returns-in-Err-check_box-clause-fault g c = λ image is.
+    subst (IsSo c.args.path.now image) (sym c.box_fault.ensures)
+    (box_so c.args.path.now image (g.M.Media.state c.find_file.new.media).image c.in-Ok.entry c.in-Err-check_box.fault (c.find_file.ensures.same ∙ is)
+    (c.in-Ok.ensures.found image is) (omega (arith, c.if-entry-lt-LEAST_BOX.false)) c.in-Err-check_box.ensures.wrong)

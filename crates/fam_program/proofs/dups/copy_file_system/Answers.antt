@@ -14,7 +14,7 @@ returns-then-not-is_geometry-clause-ends g c =
 
 pub dup-ended-requires : goal.dup-ended-requires
 dup-ended-requires g c =
-    record { asked = are_asked c.args.request c.args.me c.lines.result (g.N.Media.size c.args.to.now) c.asked-params.result c.asked-params.ensures c.lines.ensures.count (sym c.is_geometry.ensures ∙ c.if-not-is_geometry.false) }
+    record { asked = are_asked c.args.request c.args.me c.lines.result (g.N.Media.size c.args.to.now) c.asked-params.result c.asked-params.ensures c.lines.ensures.count c.requires (sym c.is_geometry.ensures ∙ c.if-not-is_geometry.false) }
 
 pub returns-clause-ends : goal.returns-clause-ends
 returns-clause-ends g c =

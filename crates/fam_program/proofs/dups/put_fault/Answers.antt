@@ -1,5 +1,8 @@
 use Rattle.fam_program.proofs.dups.put_fault.Goals as goal
 
+pub returns-in-NoSuper-clause-put : goal.returns-in-NoSuper-clause-put
+returns-in-NoSuper-clause-put g c = rw c.in-NoSuper.is c.put_damage.ensures.put
+
 pub returns-in-BadSuper-clause-put : goal.returns-in-BadSuper-clause-put
 returns-in-BadSuper-clause-put g c = rw c.in-BadSuper.is c.put_bad_super.ensures.put
 

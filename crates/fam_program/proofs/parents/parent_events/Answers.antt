@@ -1,5 +1,6 @@
 use Rattle.std.proofs.Common.{ℕ, List, [], ◌∷◌, ◌++◌, map, arith, ap, ap₂, sym, ◌∙◌}
 use Rattle.std.proofs.lemmas.List.{append-nil, append_assoc, nil_from_length}
+use Rattle.fam_journal.specs.declared.event.Ask.{Ask}
 use Rattle.fam_journal.specs.declared.event.Event.{Event}
 use Rattle.fam_journal.specs.declared.event.Event.TheVariants as event
 use Rattle.fam_program.proofs.Commands.Events.{makes}
@@ -15,7 +16,8 @@ pub paths-preserved : goal.paths-preserved
 paths-preserved c =
     let event_is : Event = makes c.args.name c.args.attr c.in-Some.directory in
     let rest : List (List ℕ) = c.next.new.self.rest.items in
-    ap (λ (es : List Event). es ++ map (makes c.args.name c.args.attr) rest) c.in_ok-add-2.ensures
+    ap (λ (es : List Event). es ++ map (makes c.args.name c.args.attr) rest)
+    (c.in_ok-add-2.ensures ∙ ap (λ (what : Ask). c.paths.events.items ++ event.Run c.args.name what ∷ []) c.in_ok-asked.ensures)
     ∙ append_assoc c.paths.events.items (event_is ∷ []) (map (makes c.args.name c.args.attr) rest)
     ∙ ap (λ (ps : List (List ℕ)). c.paths.events.items ++ map (makes c.args.name c.args.attr) ps) (sym c.in-Some.ensures.steps.0)
     ∙ c.paths.invariant

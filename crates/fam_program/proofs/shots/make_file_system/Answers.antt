@@ -25,7 +25,7 @@ pub run_until_stop-ended-requires-clause-fresh : goal.run_until_stop-ended-requi
 run_until_stop-ended-requires-clause-fresh g c = c.new-world.ensures
 
 pub run_until_stop-ended-requires-clause-sound : goal.run_until_stop-ended-requires-clause-sound
-run_until_stop-ended-requires-clause-sound g c = subst AreSoundEvents (sym c.in-Ok.ensures) (tt, (tt, tt))
+run_until_stop-ended-requires-clause-sound g c = subst AreSoundEvents (sym c.in-Ok.ensures) (tt, (c.requires.format, tt))
 
 pub run_until_stop-ended-requires-clause-shot : goal.run_until_stop-ended-requires-clause-shot
 run_until_stop-ended-requires-clause-shot g c = subst AreShotEvents (sym c.in-Ok.ensures) (tt, (tt, tt))
@@ -44,6 +44,6 @@ returns-clause-ends g c =
     let journal : List Note = c.run_until_stop-ended.new.world.journal in
     let shot : OneShot = Makes c.args.request in
     let done : c.last_status-done.result ≡ last_status journal = c.last_status-done.ensures ∙ ap last_status c.journal.ensures in
-    shot_top c.own_name-name.result c.args.me out journal c.put_end.result later shot c.requires c.run_until_stop-ended.result tt
+    shot_top c.own_name-name.result c.args.me out journal c.put_end.result later shot c.requires.whole c.run_until_stop-ended.result tt
     (subst (λ (es : List Event). ShotEnded c.run_until_stop-ended.result out es journal) c.in-Ok.ensures (c.run_until_stop-ended.ensures.ended sink))
     (subst (λ (s : Status). ShotSays c.run_until_stop-ended.result s journal sink c.put_end.result) done c.put_end.ensures.says)

@@ -1,5 +1,7 @@
 use Rattle.std.proofs.Common.{◌≡◌, Err, ap, sym, subst, ◌∙◌, arith}
+use Rattle.fam_base.specs.declared.entry.Params.{Params}
 use Rattle.fam_cache.specs.States.{CacheState}
+use Rattle.fam_format.specs.Layout.{geometry}
 use Rattle.fam_tasks.specs.declared.answer.Turn.{Turn}
 use Rattle.fam_tasks.specs.declared.answer.Turn.TheVariants.{Go}
 use Rattle.fam_run.specs.Led.{HasBrokenOff, HasDone}
@@ -20,6 +22,7 @@ load_line-requires-in-lines g c =
     record {
       lines = led_lines a.media.old.image a.task a.next a.old a.new (done_led a inv.image inv.done) ∙ c.requires.lines ∙ sym inv.steady.size;
       due = inv.phase (omega arith);
+      count = c.requires.count ∙ ap (λ (p : Params). (geometry p).lines) (sym inv.params);
     }
 
 -- src/slots.rt:96:54
@@ -48,6 +51,7 @@ lines-preserved g c =
       done = done_both a inv.image inv.done new.task new.cache.lines (m.state new.media).image (m.state new.media).faults (m.size c.lines.media) (m.state c.lines.media).faults
           (all.image ∙ inv.image) (r.ensures.loaded r.field-0-test);
       phase = λ below. r.ensures.next r.field-0-test below;
+      params = r.ensures.params r.field-0-test ∙ inv.params;
       image = all.image ∙ inv.image;
       steady = record { size = all.steady.size ∙ inv.steady.size; later = omega (arith, inv.steady.later, all.steady.later) };
     }

@@ -10,7 +10,8 @@ use Rattle.fam_run.proofs.slots.load_slot.Given as goal
 abbrev pub invariant-lines : goal.invariant-lines
 invariant-lines g l = record {
   done : HasDone (task_change g.M.Media.size g.M.Media.state l.fn.task l.task l.fn.cache l.cache l.fn.media l.media) Go;
-  phase : l.line < 8 → l.task.phase ≡ at.Drop (Slot l.due.slot) l.line;
+  phase : l.line < l.due.lines → l.task.phase ≡ at.Drop (Slot l.due.slot) l.line;
+  params : l.task.params ≡ l.fn.task.params;
   image : (g.M.Media.state l.media).image ≡ (g.M.Media.state l.fn.media).image;
   steady : IsSteady g.M.Media.size g.M.Media.state l.fn.media l.media;
 }

@@ -1,4 +1,4 @@
-use Rattle.std.proofs.Common.{rules, ℕ, ◌≡◌, ◌≤◌, ◌+◌, List, [], length, vec_capacity, refl, sym, ap, subst, ◌∙◌, arith}
+use Rattle.std.proofs.Common.{rules, ℕ, ◌≡◌, ◌+◌, List, length, sym, ap, subst, arith}
 use Rattle.fam_run.specs.Runs.{StoresRun}
 use Rattle.fam_run.specs.Runs as run
 use Rattle.fam_run.proofs.Gathered.{gathered}

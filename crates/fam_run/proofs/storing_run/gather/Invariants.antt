@@ -1,4 +1,4 @@
-use Rattle.std.proofs.Common.{ℕ, ◌≡◌, ◌≤◌, List, length, vec_capacity}
+use Rattle.std.proofs.Common.{◌≡◌, ◌≤◌, length, vec_capacity}
 use Rattle.fam_run.specs.Runs.{StoresRun}
 use Rattle.fam_run.proofs.storing_run.gather.Given as goal
 

@@ -1,4 +1,4 @@
-use Rattle.std.proofs.Common.{◌≡◌, subst}
+use Rattle.std.proofs.Common.{subst}
 use Rattle.fam_cache.specs.States.{CacheState}
 use Rattle.fam_commands.specs.Task.{Task}
 use Rattle.fam_run.specs.Operation.{said_of}

@@ -1,5 +1,4 @@
-use Rattle.std.proofs.Common.{rules, ℕ, ◌≡◌, ◌<◌, ◌≤◌, List, [], length, arith, refl, subst, ◌∙◌}
-use Rattle.fam_run.specs.Runs.{StoresRun}
+use Rattle.std.proofs.Common.{rules, ◌<◌, length, arith}
 use Rattle.fam_run.proofs.SentRuns.{chain_kept, none_done, run_done, run_kept, run_torn}
 use Rattle.fam_run.proofs.storing_run.store_run.Goals as goal
 

@@ -15,6 +15,9 @@ returns-in-IsDirectory c = rw c.in-IsDirectory.is (c.line_of-in-IsDirectory.ensu
 pub returns-in-Length : goal.returns-in-Length
 returns-in-Length c = rw c.in-Length.is (c.line_of-in-Length.ensures _ c.length_text.ensures)
 
+pub returns-in-LongPath : goal.returns-in-LongPath
+returns-in-LongPath c = rw c.in-LongPath.is (c.line_of-in-LongPath.ensures _ c.format-in-LongPath.ensures.ok)
+
 pub returns-in-LogFull : goal.returns-in-LogFull
 returns-in-LogFull c = rw c.in-LogFull.is (c.line_of-in-LogFull.ensures _ c.format-in-LogFull.ensures.ok)
 

@@ -1,7 +1,8 @@
-use Rattle.std.proofs.Common.{◌≡◌, List, Some, sym, refl, subst, ◌∙◌}
+use Rattle.std.proofs.Common.{◌≡◌, List, Some, sym, refl, ap, subst, ◌∙◌}
 use Rattle.fam_base.specs.declared.entry.Entry.{Entry}
 use Rattle.fam_base.specs.declared.entry.Params.{Params}
 use Rattle.fam_commands.specs.Kept.{Kept}
+use Rattle.fam_format.specs.Layout.{geometry}
 use Rattle.fam_replay.specs.Replay.{IsAgainst}
 use Rattle.fam_replay.specs.Replica.{JoinsNext}
 use Rattle.fam_tasks.proofs.history.reason_behind_kept.Goals as goal
@@ -23,3 +24,7 @@ returns-in-Err-clause-want c k is =
     subst (λ (x : Kept). JoinsNext x.params c.args.words.now x.entries) same
     (subst (λ (p : Params). JoinsNext p c.args.words.now c.in-Some.kept.entries) c.plan.ensures.params
     (subst (λ (list : List Entry). JoinsNext c.plan.result.now.params c.args.words.now list) c.plan.ensures.entries c.in-Err.ensures.want))
+
+pub reason_behind-requires : goal.reason_behind-requires
+reason_behind-requires c =
+    c.requires.count c.in-Some.kept c.in-Some.is ∙ ap (λ (p : Params). (geometry p).words) (sym c.plan.ensures.params)

@@ -21,7 +21,7 @@ pub returns-in-Mkfs-clause-ends : goal.returns-in-Mkfs-clause-ends
 returns-in-Mkfs-clause-ends g c =
     let out : Outside = outside_of g.M.Media.size g.M.Media.state c.args.media.now c.make_file_system.new.media (change g.S.Shelf.state c.args.shelf.now c.make_file_system.new.shelf) (change g.K.Sink.state c.args.out.now c.make_file_system.new.out) in
     subst (λ (s : Shot). TopEnds script_events storm (Some (Single c.args.me (shot_of c.args.random s))) out c.make_file_system.result) (sym c.in-Mkfs.is)
-    (subst (λ (fs : List ℕ). TopEnds script_events storm (Some (Single c.args.me (Makes (mkfs_request fs c.in-Mkfs.unit c.in-Mkfs.log c.in-Mkfs.force None)))) out c.make_file_system.result) c.fs_or.ensures c.make_file_system.ensures.ends)
+    (subst (λ (fs : List ℕ). TopEnds script_events storm (Some (Single c.args.me (Makes (mkfs_request fs c.in-Mkfs.unit c.in-Mkfs.log c.in-Mkfs.format c.in-Mkfs.force None)))) out c.make_file_system.result) c.fs_or.ensures c.make_file_system.ensures.ends)
 
 -- directories along a path
 pub returns-in-Parents-clause-ends : goal.returns-in-Parents-clause-ends

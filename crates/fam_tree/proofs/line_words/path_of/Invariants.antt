@@ -8,7 +8,7 @@ abbrev pub invariant-loop-rest : goal.invariant-loop-rest
 invariant-loop-rest l = record {
   read : (p : List ℕ) → is_path p ≡ true → l.word ≡ escaped p → BytesSoFar p (take l.count l.field) l.rest;
   within : l.count ≤ length l.field;
-  room : length l.field ≡ 168;
+  room : length l.field ≡ 512;
 }
 
 abbrev pub decreases-loop-rest : goal.decreases-loop-rest

@@ -7,4 +7,4 @@ use Rattle.fam_words.proofs.apps.dup.Goals as goal
 -- the arguments, one after the other
 pub returns : goal.returns
 unfolding dup_app
-returns c = IfOk-weaker c.long_option-2.result _ _ (λ made h. h ∙ also _ _ _ (c.in_ok-command-6.ensures ∙ also _ _ _ (c.in_ok-command-5.ensures ∙ also _ _ _ (c.in_ok-command-4.ensures ∙ also _ _ _ (c.in_ok-command-3.ensures ∙ also _ _ _ (c.in_ok-command-2.ensures ∙ also _ _ _ (c.in_ok-command.ensures ∙ also _ _ _ (c.plain-command.ensures)))))))) c.long_option-2.ensures
+returns c = IfOk-weaker c.long_option-3.result _ _ (λ made h. h ∙ also _ _ _ (c.in_ok-command-7.ensures ∙ also _ _ _ (c.in_ok-command-6.ensures ∙ also _ _ _ (c.in_ok-command-5.ensures ∙ also _ _ _ (c.in_ok-command-4.ensures ∙ also _ _ _ (c.in_ok-command-3.ensures ∙ also _ _ _ (c.in_ok-command-2.ensures ∙ also _ _ _ (c.in_ok-command.ensures ∙ also _ _ _ (c.plain-command.ensures))))))))) c.long_option-3.ensures

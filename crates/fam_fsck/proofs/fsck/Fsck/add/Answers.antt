@@ -1,8 +1,10 @@
-use Rattle.std.proofs.Common.{◌≡◌, ◌<◌, ◌≤◌, Result, ap, subst, ◌∙◌}
+use Rattle.std.proofs.Common.{◌≡◌, ◌<◌, ◌≤◌, ℕ, Result, length, sym, ap, subst, ◌∙◌, arith}
 use Rattle.std.specs.Result.{IsOk, OnErr, OnOk}
 use Rattle.fam_base.specs.declared.entry.Entry.{Entry}
 use Rattle.fam_base.specs.declared.entry.Params.{Params}
+use Rattle.fam_format.specs.Layout.{geometry}
 use Rattle.fam_format.specs.Slot.{entry_of}
+use Rattle.fam_format.proofs.Formats.{slot_long}
 use Rattle.fam_format.specs.declared.faults.Reason.{Reason}
 use Rattle.fam_rules.specs.Reports.{Survey}
 use Rattle.fam_entry.specs.Tests.{read_as}
@@ -12,7 +14,14 @@ use Rattle.fam_fsck.proofs.Slots.{slot_below, slot_past}
 use Rattle.fam_fsck.proofs.fsck.Fsck.add.Goals as goal
 
 pub check_entry-read-requires-clause-empty : goal.check_entry-read-requires-clause-empty
-check_entry-read-requires-clause-empty c = λ k. zero_at 168 k
+check_entry-read-requires-clause-empty c = λ k. zero_at 512 k
+
+pub check_entry-read-requires-clause-count : goal.check_entry-read-requires-clause-count
+check_entry-read-requires-clause-count c =
+    c.requires.count ∙ sym (ap (λ (p : Params). (geometry p).words) (c.params.ensures.value ∙ ap (λ (s : Scan). s.params) c.self.view_is))
+
+pub add_below-requires-clause-long : goal.add_below-requires-clause-long
+add_below-requires-clause-long c = omega (arith, slot_long c.args.self.now.params, c.requires.count)
 
 pub returns-then-self-clause-slot : goal.returns-then-self-clause-slot
 returns-then-self-clause-slot c =

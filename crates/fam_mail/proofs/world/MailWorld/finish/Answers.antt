@@ -68,3 +68,9 @@ returns-clause-fits g c =
     let here : HostFits lines (capacity_in v) (host_view y) = subst (λ (n : ℕ). HostFits n (capacity_in v) (host_view y)) c.finish_of.ensures.steady.size c.finish_of.ensures.fits in
     subst (λ (n : ℕ). WorldFits n (mail_view i.entry (set items at y) c.finish_of.new.journal.items)) (sym c.finish_of.ensures.steady.size)
     (fits_put lines v at (host_view x) (host_view y) (map_at host_view items at x at_is) (views (set items at y)) c.finish_of.new.journal.items (map_set host_view (λ (h : HostView). host_view y) items at y x at_is refl) fits here)
+
+pub finish_of-requires-clause-within : goal.finish_of-requires-clause-within
+finish_of-requires-clause-within g c =
+    let i = c.self.inside in
+    let fits : WorldFits (g.M.Media.size c.args.media.now) (mail_view i.entry i.hosts.items i.journal.items) = subst (WorldFits (g.M.Media.size c.args.media.now)) (sym c.self.view_is) c.requires.fits in
+    fits.place

@@ -125,3 +125,11 @@ returns-in-Err-Failed-clause-fits g c =
     host_fits lines (capacity_in v) c.file_line-place.result.0 (host_view x) c.shift.new.cache.lines below c.shift.ensures.held (fits.host at (host_view x) (map_at host_view items at x at_is)) in
     subst (λ (n : ℕ). WorldFits n (mail_view i.entry (set items at y) c.refused-in-Err-Failed.new.journal.items)) (sym c.shift.ensures.steady.size)
     (fits_put lines v at (host_view x) (host_view y) (map_at host_view items at x at_is) (views (set items at y)) c.refused-in-Err-Failed.new.journal.items (map_set host_view (λ (h : HostView). host_view y) items at y x at_is refl) fits here)
+
+pub shift-requires : goal.shift-requires
+shift-requires g c =
+    let lines = g.M.Media.size c.args.media.now in
+    let fits : WorldFits lines (mail_view c.self.inside.entry c.self.inside.hosts.items c.self.inside.journal.items) = subst (WorldFits lines) (sym c.self.view_is) c.requires.fits in
+    record {
+      within = subst (λ (l : ℕ). l < lines) (sym c.file_line-place.ensures.value) (fits.place c.args.line (omega (arith, c.in-Ok.ensures.below, c.capacity.ensures)));
+    }

@@ -87,3 +87,9 @@ returns-clause-err g c = λ full.
     let hosts : views (set items at y) ≡ views items =
     map_set host_view (λ (h : HostView). host_view x) items at y x at_is kept ∙ put_own at (host_view x) (views items) (map_at host_view items at x at_is) in
     ap₂ (λ (hs : List HostView) (ns : List MailNote). record { entry = i.entry; hosts = hs; journal = ns }) hosts quiet ∙ c.self.view_is
+
+pub step_of-requires-clause-within : goal.step_of-requires-clause-within
+step_of-requires-clause-within g c =
+    let i = c.self.inside in
+    let fits : WorldFits (g.M.Media.size c.args.media.now) (mail_view i.entry i.hosts.items i.journal.items) = subst (WorldFits (g.M.Media.size c.args.media.now)) (sym c.self.view_is) c.requires.fits in
+    fits.place

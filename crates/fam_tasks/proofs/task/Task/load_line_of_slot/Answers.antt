@@ -1,4 +1,4 @@
-use Rattle.std.proofs.Common.{ap, ◌∙◌}
+use Rattle.std.proofs.Common.{ap, ◌∙◌, arith}
 use Rattle.fam_base.specs.Image.{eight}
 use Rattle.fam_commands.specs.Task.{Task}
 use Rattle.fam_tasks.proofs.SlotLine.{line_follows, slot_line_loaded}
@@ -10,4 +10,4 @@ returns-clause-loads c =
 
 pub returns-clause-next : goal.returns-clause-next
 returns-clause-next c = λ below.
-    ap (λ (t : Task). t.phase) c.take_line_of_slot.ensures ∙ line_follows c.args.self.now c.args.due.slot c.args.due.line below
+    ap (λ (t : Task). t.phase) c.take_line_of_slot.ensures ∙ line_follows c.args.self.now c.args.due.slot c.args.due.line (omega (arith, below, c.requires.lines))

@@ -1,4 +1,4 @@
-use Rattle.std.proofs.Common.{◌≡◌, ap, inr, length, refl, subst, ◌∙◌}
+use Rattle.std.proofs.Common.{◌≡◌, ap, inl, inr, length, refl, subst, ◌∙◌}
 use Rattle.std.specs.Prelude.{IsSome, option_map}
 use Rattle.fam_format.specs.Tree.{replay}
 use Rattle.fam_commands.specs.Keeping.{read_by}
@@ -29,4 +29,4 @@ returns-in-Ok-clause-kept c =
 pub returns-in-Err-clause-want : goal.returns-in-Err-clause-want
 returns-in-Err-clause-want c =
     let t : Task = c.args.self.now in
-    inr (subst (λ (u : Task). IsSome u.kept) c.self.view_is c.in-Err.ensures.want, (length t.entries, (replay t.entries, refl)))
+    inr (inl (subst (λ (u : Task). IsSome u.kept) c.self.view_is c.in-Err.ensures.want, (length t.entries, (replay t.entries, refl))))
