@@ -7,3 +7,4 @@ pub mod MergeRoom
 pub mod Pairs
 pub mod Surveys
 pub mod Slots
+pub mod FoundLists

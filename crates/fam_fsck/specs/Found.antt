@@ -1,11 +1,13 @@
 -- Entries that read, and what a survey says of them.
-use Rattle.std.specs.Prelude.{ℕ, Bool, true, false, List, [], ◌∷◌, ◌++◌, map, filter, Option, Some, None}
+use Rattle.std.specs.Prelude.{ℕ, ◌≡◌, Bool, true, false, List, [], ◌∷◌, ◌++◌, map, filter, Option, Some, None}
 use Rattle.fam_base.specs.declared.entry.Entry.{Entry}
 use Rattle.fam_base.specs.declared.entry.Params.{Params}
 use Rattle.fam_alloc.specs.Taken.{LieWithin}
-use Rattle.fam_format.specs.Tree.{Tree, with_entry}
+use Rattle.fam_format.specs.Tree.{Tree, with_entry, tree_fault}
 use Rattle.fam_format.specs.declared.faults.Reason.{Reason}
 use Rattle.fam_fsck.specs.declared.found.Found.{Found}
+use Rattle.fam_fsck.specs.declared.found_list.Mark.{Mark}
+use Rattle.fam_fsck.specs.declared.joining.Joined.{Joined}
 
 -- the entry with its number
 abbrev pub pair_of : Found → ℕ × Entry
@@ -36,6 +38,21 @@ tree_after (Some reason) tree e = tree
 -- the entry as it was found
 abbrev pub found_as : ℕ → Entry → Option Reason → Found
 found_as number e fault = record { number = number; entry = e; applies = applies_where fault }
+
+-- an entry with what is told of it beside
+abbrev pub marked : Entry → Mark → Found
+marked e m = record { number = m.number; entry = e; applies = m.applies }
+
+-- entries, each with the mark at its place
+abbrev pub found_of : List Entry → List Mark → List Found
+found_of [] marks = []
+found_of (e ∷ es) [] = []
+found_of (e ∷ es) (m ∷ ms) = marked e m ∷ found_of es ms
+
+-- an entry joined the tree where it applies, and it is noted why it doesn't
+pub record HasJoined (old : Joined) (e : Entry) (new : Joined) : Type 0 where
+  pub fault : new.fault ≡ tree_fault old.tree e
+  pub tree : new.tree ≡ tree_after new.fault old.tree e
 
 -- the entries that were found
 abbrev pub entries_of : List Found → List Entry

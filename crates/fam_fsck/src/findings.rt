@@ -8,12 +8,12 @@ ghost use Rattle.fam_format.specs.Tree.{replay, tree_fault};
 ghost use Rattle.fam_rules.specs.Reports.{is_directory, is_file, overlap_of, used_count};
 ghost use Rattle.fam_fsck.specs.Found.{applied_of, entries_of, first_finds, found_as, pairs_of, with_found};
 
-use crate::found::{Found, count_directories, count_files, last_of, least_overlap};
-use crate::joining::join;
+use crate::found::{count_directories, count_files, least_overlap};
+use crate::found_list::FoundList;
+use crate::joining::Joined;
 use fam_alloc::UsedUnits;
 use fam_base::{Entry, OutOfMemory, Params};
 use fam_format::{LOG_OFFSET, Reason};
-use fam_tree::Tree;
 use std::alloc::Global;
 use std::marker::Model;
 
@@ -21,8 +21,8 @@ use std::marker::Model;
 #[derive(Drop)]
 pub struct Findings {
     params: Params,
-    tree: Tree,
-    found: Vec<Found>,
+    joined: Joined,
+    found: FoundList,
     used: UsedUnits,
     overlap: Option<(u64, u64)>,
 }
@@ -33,9 +33,9 @@ impl Model for Findings {
 
     ghost Value = { Finds };
 
-    ghost view = { λ f. record { params = f.params; found = f.found.items } };
+    ghost view = { λ f. record { params = f.params; found = f.found } };
 
-    ghost invariant = { λ f. AreFindings f.params f.tree f.found.items f.used f.overlap };
+    ghost invariant = { λ f. AreFindings f.params f.joined.tree f.found f.used f.overlap };
 }
 
 impl Findings {
@@ -47,10 +47,11 @@ impl Findings {
         let units = params.device / params.unit;
         let head = (LOG_OFFSET + params.log_length) / params.unit;
         let used = UsedUnits::new(alloc, units, head)?;
+        let found = FoundList::new(alloc)?;
         Ok(Findings {
             params: *params,
-            tree: Tree::new(alloc),
-            found: Vec::new(alloc),
+            joined: Joined::new(alloc),
+            found,
             used,
             overlap: None,
         })
@@ -71,12 +72,13 @@ impl Findings {
         ensures found { IfOk result (λ fault. self.new ≡ with_found self.old (found_as number entry.now fault)) }
         ensures err { OnErr result (self.new ≡ self.old) }
     {
-        let fault = join(&mut self.tree, &mut self.found, number, entry)?;
+        let fault = self.found.join(&mut self.joined, number, entry)?;
         self.overlap = least_overlap(
             self.overlap,
             &self.used,
             &self.found,
-            last_of(&self.found),
+            number,
+            entry,
             self.params.unit,
         );
         self.used.cover(&entry.extents, self.params.unit);

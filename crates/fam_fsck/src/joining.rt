@@ -1,14 +1,15 @@
-//! How an entry that reads is found, and joins the tree where it applies.
+//! How an entry that reads joins the tree where it applies.
 
-ghost use Rattle.std.specs.Prelude.{◌≡◌, [], ◌∷◌, ◌++◌, None, Some, IfOk, OnErr};
+ghost use Rattle.std.specs.Prelude.{◌≡◌, None, Some, IfOk, OnErr};
+ghost use Rattle.std.specs.FinMap as map;
 ghost use Rattle.fam_format.specs.Tree.{tree_fault};
 ghost use Rattle.fam_tree.specs.Faults.{reason_of};
-ghost use Rattle.fam_fsck.specs.Found.{applies_where, found_as, tree_after};
+ghost use Rattle.fam_fsck.specs.Found.{tree_after};
 
-use crate::found::Found;
 use fam_base::{Entry, OutOfMemory};
 use fam_format::Reason;
-use fam_tree::{ApplyFault, Tree};
+use fam_tree::{ApplyFault, Beside, Tree};
+use std::alloc::Global;
 
 /// Why an entry doesn't join, if memory didn't run out.
 fn reason_against(fault: ApplyFault) -> Result<Reason, OutOfMemory>
@@ -41,37 +42,40 @@ fn apply(tree: &mut Tree, entry: &Entry) -> Result<Option<Reason>, OutOfMemory>
     }
 }
 
-/// The entry as it is found.
-#[inline(always)]
-fn found_entry(number: u64, entry: &Entry, fault: &Option<Reason>) -> Found
-    ensures { result ≡ found_as number entry.now fault.now }
-{
-    Found {
-        number,
-        entry: *entry,
-        applies: fault.is_none(),
+/// The tree of the entries that applied, and why the last one that was looked at didn't.
+#[derive(Drop)]
+pub struct Joined {
+    pub tree: Tree,
+    pub fault: Option<Reason>,
+}
+
+impl Joined {
+    /// No entries.
+    pub fn new(alloc: Global) -> Joined
+        ensures { result.tree ≡ map.empty }
+    {
+        Joined {
+            tree: Tree::new(alloc),
+            fault: None,
+        }
     }
 }
 
-/// Finds an entry, which joins the tree where it applies, and says why it doesn't.
-pub fn join(
-    tree: &mut Tree,
-    found: &mut Vec<Found>,
-    number: u64,
-    entry: &Entry,
-) -> Result<Option<Reason>, OutOfMemory>
-    ensures fault { IfOk result (λ fault. fault ≡ tree_fault tree.old entry.now) }
-    ensures after { IfOk result (λ fault. tree.new ≡ tree_after fault tree.old entry.now) }
-    ensures found { IfOk result (λ fault.
-        found.new.items ≡ found.old.items ++ found_as number entry.now fault ∷ []) }
-    ensures err_tree { OnErr result (tree.new ≡ tree.old) }
-    ensures err_found { OnErr result (found.new.items ≡ found.old.items) }
-{
-    if found.reserve(1).is_err() {
-        return Err(OutOfMemory);
+impl Beside for Joined {
+    ghost use Rattle.std.specs.Prelude.{⊤};
+    ghost use Rattle.fam_fsck.specs.Found.{HasJoined};
+
+    ghost may_grow = { λ _ _. ⊤ };
+
+    ghost grown = { HasJoined };
+
+    fn grow(&mut self, entry: &Entry) -> bool {
+        match apply(&mut self.tree, entry) {
+            Ok(fault) => {
+                self.fault = fault;
+                true
+            }
+            Err(_) => false,
+        }
     }
-    let fault = apply(tree, entry)?;
-    // There is room.
-    let _ = found.push(found_entry(number, entry, &fault));
-    Ok(fault)
 }

@@ -5,6 +5,7 @@
 
 mod findings;
 mod found;
+mod found_list;
 mod fsck;
 mod joining;
 mod merge;

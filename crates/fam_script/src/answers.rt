@@ -153,7 +153,7 @@ pub fn answer_text(alloc: Global, answer: &Answer) -> Result<Vec<u8>, OutOfMemor
         Answer::Same { m } => line_of(alloc, format!(in alloc; "same {m}")),
         Answer::Bytes { m, bytes } => bytes_line(alloc, *m, bytes.bytes()),
         Answer::Checked { m, checked } => checked_line(alloc, *m, checked.get()),
-        Answer::Report(report) => report_lines(alloc, report),
+        Answer::Report(report) => report_lines(alloc, &report.get()),
         Answer::NotFound { m } => line_of(alloc, format!(in alloc; "not found {m}")),
         Answer::IsDirectory { m } => line_of(alloc, format!(in alloc; "is a directory {m}")),
         Answer::Differs {

@@ -152,7 +152,7 @@ fn answered(settled: Settled, answer: &Answer) -> Settled
         Answer::Same { m } => shows(settled, *m),
         Answer::Bytes { m, .. } => shows(settled, *m),
         Answer::Checked { m, .. } => shows(settled, *m),
-        Answer::Report(report) => reports(settled, report),
+        Answer::Report(report) => reports(settled, &report.get()),
         Answer::NoSuper(_) => settled,
         Answer::BadSuper { .. } => settled,
         Answer::BadLog { .. } => settled,

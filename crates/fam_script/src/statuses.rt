@@ -41,7 +41,7 @@ fn answer_status(answer: &Answer) -> Status
         Answer::Same { .. } => Status::Done,
         Answer::Bytes { .. } => Status::Done,
         Answer::Checked { checked, .. } => sound_status(is_checked_equal(checked.get())),
-        Answer::Report(report) => sound_status(is_sound(report)),
+        Answer::Report(report) => sound_status(is_sound(&report.get())),
         Answer::NoSuper(_) => Status::Damaged,
         Answer::BadSuper { .. } => Status::Damaged,
         Answer::BadLog { .. } => Status::Damaged,

@@ -4,6 +4,7 @@ pub mod Contents
 pub mod ContentsInvariant
 pub mod Survey
 pub mod History
+pub mod Reported
 pub mod Tells
 pub mod Rest
 pub mod Due

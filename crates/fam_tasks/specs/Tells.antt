@@ -5,7 +5,8 @@ use Rattle.fam_format.specs.Tree.{Tree}
 use Rattle.fam_format.specs.declared.faults.Reason.{Reason}
 use Rattle.fam_rules.specs.declared.answers.Refused.TheVariants.{NoSpace}
 use Rattle.fam_rules.specs.declared.answers.Checked.{Checked}
-use Rattle.fam_rules.specs.Reply.{Checks, NotAppended, Played, Reply}
+use Rattle.fam_rules.specs.declared.answers.Report.{Report}
+use Rattle.fam_rules.specs.Reply.{Checks, NotAppended, Played, Reply, Reports}
 use Rattle.fam_machine.specs.declared.op.Op.{Op}
 use Rattle.fam_machine.specs.declared.op.Op.TheVariants.{Load, Store, WriteBack, Fence, Invalidate, Digest}
 use Rattle.fam_commands.specs.declared.phase.Part.{Part}
@@ -47,15 +48,19 @@ TellsPlayed reply = (m : ℕ) × ((tree : Tree) × (reply ≡ Played m tree))
 abbrev pub TellsChecked : Reply → Type 0
 TellsChecked reply = (m : ℕ) × ((checked : Checked) × (reply ≡ Checks m checked))
 
+-- the answer of a check of the whole file system
+abbrev pub TellsReport : Reply → Type 0
+TellsReport reply = (report : Report) × (reply ≡ Reports report)
+
 -- a turn for which a task may want memory: it goes on, or goes on to append; or it finds no room in the units of a log with
 -- no entry, of which no map was made so far; or it is a logplay of a host that keeps something, whose answer takes a copy;
--- or a check against a listing, whose answer may name a path
+-- or a check against a listing, whose answer may name a path, or one of the whole file system, whose report is large
 abbrev pub WantsMemory : Task → turns.Turn → Type 0
 WantsMemory t (turns.Goes next) = ⊤
 WantsMemory t (turns.Marks next) = ⊥
 WantsMemory t (turns.Finds n next) = ⊥
 WantsMemory t (turns.Writes seq e next) = ⊤
-WantsMemory t (turns.Ends reply) = ((t.entries ≡ []) × TellsNoSpace reply) ⊎ (IsSome t.kept × TellsPlayed reply) ⊎ TellsChecked reply
+WantsMemory t (turns.Ends reply) = ((t.entries ≡ []) × TellsNoSpace reply) ⊎ (IsSome t.kept × TellsPlayed reply) ⊎ TellsChecked reply ⊎ TellsReport reply
 
 -- what a task keeps behind a turn is what its host keeps then
 abbrev pub Keeps : Task → turns.Turn → Task → Type 0

@@ -1,8 +1,9 @@
 //! What a task says: notes on its way, and its answer.
 
+use crate::boxed_report::BoxedReport;
 use fam_base::{Boxed, ByteText, Entry, Kind, LineNo};
 use fam_format::{LogField, Reason, SuperField};
-use fam_rules::{Checked, Report};
+use fam_rules::Checked;
 use fam_tree::Tree;
 use uuid::Uuid;
 
@@ -57,7 +58,7 @@ pub enum Answer {
         checked: Boxed<Checked>,
     },
     /// What a check of the file system finds.
-    Report(Report),
+    Report(BoxedReport),
     /// Word 0 of line 0 is this one, and no superblock's.
     NoSuper(u64),
     /// The first field of the superblock that fails its test.

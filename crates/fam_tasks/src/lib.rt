@@ -7,6 +7,7 @@
 #![tactic(auto)]
 
 mod answer;
+mod boxed_report;
 mod buffer;
 mod commands;
 mod contents;
@@ -18,6 +19,7 @@ mod task;
 mod wanted;
 
 pub use answer::{Answer, TaskNote, Turn};
+pub use boxed_report::BoxedReport;
 pub use fam_base::ByteText;
 pub use fam_machine::Op;
 pub use fam_replay::Replica;

@@ -3,33 +3,17 @@
 ghost use Rattle.std.specs.Prelude.{◌≡◌, Some};
 ghost use Rattle.fam_commands.specs.Turns.{log_fault_reply, super_fault_reply};
 ghost use Rattle.fam_rules.specs.Reply.{BadHeader, NoSuperblock, NotAppended};
-ghost use Rattle.fam_rules.specs.Reports.{empty_report, log_report, super_report};
+ghost use Rattle.fam_rules.specs.Reports.{log_report, super_report};
 ghost use Rattle.fam_tasks.specs.Answers.{reply_of};
 
 use crate::answer::Answer;
+use crate::boxed_report::BoxedReport;
 use fam_base::Cmd;
 use fam_format::{LogFault, SuperFault};
-use fam_rules::{LogState, Refused, Report, SuperState};
-
-/// The report of a file system whose superblock or log isn't sound: nothing more is looked at.
-fn empty_report(superblock: SuperState, log: LogState) -> Report
-    ensures { result ≡ empty_report superblock log }
-{
-    Report {
-        superblock,
-        log,
-        files: 0,
-        directories: 0,
-        used: 0,
-        free: 0,
-        overlap: None,
-        bad: None,
-        past: 0,
-    }
-}
+use fam_rules::{LogState, Refused, SuperState};
 
 /// The report on a damaged superblock.
-fn super_report(fault: SuperFault) -> Report
+fn super_report(fault: SuperFault) -> BoxedReport
     ensures { result ≡ super_report fault }
 {
     let state = match fault {
@@ -44,11 +28,11 @@ fn super_report(fault: SuperFault) -> Report
             wanted,
         },
     };
-    empty_report(state, LogState::Unread)
+    BoxedReport::empty(state, LogState::Unread)
 }
 
 /// The report on a damaged header or gate.
-fn log_report(fault: LogFault) -> Report
+fn log_report(fault: LogFault) -> BoxedReport
     ensures { result ≡ log_report fault }
 {
     let LogFault::BadLog {
@@ -61,7 +45,7 @@ fn log_report(fault: LogFault) -> Report
         found,
         wanted,
     };
-    empty_report(SuperState::Sound, state)
+    BoxedReport::empty(SuperState::Sound, state)
 }
 
 /// The answer that names the superblock's fault.

@@ -23,7 +23,7 @@ pub trait Beside {
 
 /// Nothing that grows.
 #[derive(Drop)]
-pub(crate) struct Nothing;
+pub struct Nothing;
 
 impl Beside for Nothing {
     ghost use Rattle.std.specs.Prelude.{⊤};

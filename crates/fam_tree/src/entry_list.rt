@@ -22,7 +22,7 @@ const PATH_ROOM: usize = 32;
 
 /// Entries in the order in which they were added. An entry takes a row and the bytes of its own path and extents.
 #[derive(Drop)]
-pub(crate) struct EntryList {
+pub struct EntryList {
     rows: Vec<Row>,
     paths: Vec<u8>,
     extents: Vec<Extent>,
@@ -80,7 +80,7 @@ impl Clone for EntryList {
 
 impl EntryList {
     /// No entries, and memory for the rows of so many.
-    pub(crate) fn with_rows(alloc: Global, count: usize) -> Result<EntryList, OutOfMemory>
+    pub fn with_rows(alloc: Global, count: usize) -> Result<EntryList, OutOfMemory>
         ensures { IfOk result (λ list. list ≡ []) }
     {
         match Vec::with_capacity(alloc, count) {
@@ -95,14 +95,14 @@ impl EntryList {
 
     /// How many entries there are.
     #[inline(always)]
-    pub(crate) fn len(&self) -> usize
+    pub fn len(&self) -> usize
         ensures { result ≡ length self.now }
     {
         self.rows.len()
     }
 
     /// The entry at a place.
-    pub(crate) fn at(&self, place: usize) -> Entry
+    pub fn at(&self, place: usize) -> Entry
         requires { place < length self.now }
         ensures { result ≡ entry_at self.now place }
     {
@@ -119,7 +119,7 @@ impl EntryList {
     }
 
     /// The kind of the entry at a place.
-    pub(crate) fn kind_at(&self, place: usize) -> Kind
+    pub fn kind_at(&self, place: usize) -> Kind
         requires { place < length self.now }
         ensures { result ≡ (entry_at self.now place).kind }
     {
@@ -137,7 +137,7 @@ impl EntryList {
 
     /// Puts an entry behind the others, where something else grows by it. Else, and if there is no memory, nothing changes.
     #[inline(always)]
-    pub(crate) fn push<B: Beside>(&mut self, entry: &Entry, beside: &mut B) -> bool
+    pub fn push<B: Beside>(&mut self, entry: &Entry, beside: &mut B) -> bool
         requires { B.may_grow beside.old entry.now }
         ensures added { OnTrue result (self.new ≡ self.old ++ entry.now ∷ []) }
         ensures grown { OnTrue result (B.grown beside.old entry.now beside.new) }

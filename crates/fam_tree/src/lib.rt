@@ -6,6 +6,7 @@
 #![tactic(auto)]
 
 mod beside;
+mod bisection;
 mod byte_order;
 mod chunk;
 mod chunks;
@@ -22,7 +23,8 @@ mod shown;
 mod tree;
 mod tree_iter;
 
-pub use beside::Beside;
+pub use beside::{Beside, Nothing};
+pub use entry_list::EntryList;
 pub use fault::{ApplyFault, ListingFault};
 pub use lines::{print_entry, print_listing};
 pub use listings::read_listing;

@@ -6,6 +6,7 @@ ghost use Rattle.std.specs.Bool.{OnTrue, OnFalse};
 ghost use Rattle.fam_tree.specs.Runs.{AreWithin, InOrder, IsAbsent, IsAt, IsFound, IsGap, IsPut, ends_before, entry_at, place_cmp, run_of};
 
 use crate::beside::Beside;
+use crate::bisection::probe;
 use crate::byte_order::order;
 use crate::chunks::Chunks;
 use fam_base::{Entry, OutOfMemory, Path};
@@ -164,7 +165,7 @@ impl Run {
         let mut low = 0;
         let mut high = places.len();
         while low < high {
-            let middle = low + (high - low) / 2;
+            let middle = probe(low, high, places.len());
             match order_at(entries, places[middle], bytes) {
                 Ordering::Less => low = middle + 1,
                 Ordering::Equal => return Ok(middle),

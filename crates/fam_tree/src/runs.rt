@@ -7,6 +7,7 @@ ghost use Rattle.fam_format.specs.Tree.{with_entry};
 ghost use Rattle.fam_tree.specs.Runs.{AreRunsOf, IsRunFor, entry_at, listed, runs_of, tree_of};
 
 use crate::beside::Beside;
+use crate::bisection::probe;
 use crate::chunks::Chunks;
 use crate::run::Run;
 use fam_base::{Entry, Path};
@@ -23,10 +24,11 @@ fn run_for(entries: &Chunks, runs: &[Run], path: &Path) -> Option<usize>
     ensures none { IfNone result (runs.now ≡ []) }
 {
     let bytes = path.bytes();
+    let last = runs.len().checked_sub(1)?;
     let mut low = 0;
-    let mut high = runs.len().checked_sub(1)?;
+    let mut high = last;
     while low < high {
-        let middle = low + (high - low) / 2;
+        let middle = probe(low, high, last);
         if runs[middle].is_below(entries, bytes) {
             low = middle + 1;
         } else {

@@ -22,6 +22,7 @@ ghost use Rattle.fam_tasks.specs.Tells.{Keeps, Tells, WantsMemory};
 
 use super::{Task, done};
 use crate::answer::{Answer, TaskNote, Turn};
+use crate::boxed_report::BoxedReport;
 use crate::commands::content_used;
 use crate::contents::Contents;
 use crate::history::History;
@@ -134,7 +135,7 @@ impl Task {
             Cmd::Verify { .. } => self.verify(),
             Cmd::Read { .. } => self.read(),
             Cmd::Check { .. } => self.check(),
-            Cmd::Fsck => Ok(self.report()),
+            Cmd::Fsck => self.report(),
         }
     }
 
@@ -191,14 +192,17 @@ impl Task {
     }
 
     /// Answers with the report over all slots.
-    fn report(&mut self) -> Turn
+    fn report(&mut self) -> Result<Turn, OutOfMemory>
         requires phase { self.old.phase ≡ at.Decide }
         requires fsck { is_fsck self.old.cmd ≡ true }
-        ensures turn { Tells (turns.decide_turn cmd.Fsck self.old) result self.new }
+        ensures turn { IfOk result (λ turn. Tells (turns.decide_turn cmd.Fsck self.old) turn self.new) }
         ensures kept { self.new.kept ≡ self.old.kept }
+        ensures err { OnErr result (self.new ≡ self.old) }
+        ensures want { OnErr result (WantsMemory self.old (turns.decide_turn cmd.Fsck self.old)) }
     {
         let report = report_of(&self.scan);
-        done(&mut self.phase, Answer::Report(report))
+        let answer = Answer::Report(BoxedReport::of(self.alloc, report)?);
+        Ok(done(&mut self.phase, answer))
     }
 
     /// Decides what is appended.

@@ -2,32 +2,33 @@ use Rattle.std.proofs.Common.{◌≡◌, ℕ, None, sym, ap, subst, ◌∙◌}
 use Rattle.std.specs.Prelude.{option_map}
 use Rattle.fam_format.specs.Units.{units_in, first_overlap}
 use Rattle.fam_alloc.specs.Taken.{is_taken}
+use Rattle.fam_fsck.specs.Found.{found_as}
 use Rattle.fam_fsck.proofs.Pairs.{partner_pair, least_of, least_known, least_new, none_new, is_none_told}
 use Rattle.fam_fsck.proofs.found.least_overlap.Goals as goal
 
 pub returns-in-Some : goal.returns-in-Some
-returns-in-Some c = λ p before unit items used known.
-    least_of c.args.unit c.args.found.now.items before c.args.last.now c.args.known _ items known
-    (least_known c.args.unit c.args.found.now.items c.args.last.now c.args.known c.in-Some.pair c.in-Some.is)
+returns-in-Some c = λ p before fault unit items used known.
+    least_of c.args.unit c.args.found.now before (found_as c.args.number c.args.last.now fault) c.args.known _ items known
+    (least_known c.args.unit c.args.found.now (found_as c.args.number c.args.last.now fault) c.args.known c.in-Some.pair c.in-Some.is)
 
 pub returns-then-is_none : goal.returns-then-is_none
-returns-then-is_none c = λ p before unit items used known.
+returns-then-is_none c = λ p before fault unit items used known.
     let free : c.first_overlap.result ≡ None = is_none_told c.first_overlap.result c.is_none.result c.is_none.ensures c.if-is_none.true in
-    let none : None ≡ partner_pair c.args.unit c.args.found.now.items c.args.last.now =
-    subst (λ (n : ℕ). None ≡ partner_pair n c.args.found.now.items c.args.last.now) unit
-    (none_new p (is_taken c.args.used.now) c.args.found.now.items before c.args.last.now items used
-    (ap (λ (n : ℕ). first_overlap (is_taken c.args.used.now) (units_in n c.args.last.now.entry.extents)) unit ∙ sym c.first_overlap.ensures ∙ free)) in
-    least_of c.args.unit c.args.found.now.items before c.args.last.now c.args.known None items known
-    (least_new c.args.unit c.args.found.now.items c.args.last.now c.args.known None c.in_default.is none)
+    let none : None ≡ partner_pair c.args.unit c.args.found.now (found_as c.args.number c.args.last.now fault) =
+    subst (λ (n : ℕ). None ≡ partner_pair n c.args.found.now (found_as c.args.number c.args.last.now fault)) unit
+    (none_new p (is_taken c.args.used.now) c.args.found.now before (found_as c.args.number c.args.last.now fault) items used
+    (ap (λ (n : ℕ). first_overlap (is_taken c.args.used.now) (units_in n c.args.last.now.extents)) unit ∙ sym c.first_overlap.ensures ∙ free)) in
+    least_of c.args.unit c.args.found.now before (found_as c.args.number c.args.last.now fault) c.args.known None items known
+    (least_new c.args.unit c.args.found.now (found_as c.args.number c.args.last.now fault) c.args.known None c.in_default.is none)
 
 pub returns-in-Some-partner : goal.returns-in-Some-partner
-returns-in-Some-partner c = λ p before unit items used known.
-    least_of c.args.unit c.args.found.now.items before c.args.last.now c.args.known _ items known
-    (least_new c.args.unit c.args.found.now.items c.args.last.now c.args.known _ c.in_default.is
-    (ap (option_map (λ (n : ℕ). (n, c.args.last.now.number))) (sym c.in-Some-partner.is ∙ c.partner.ensures)))
+returns-in-Some-partner c = λ p before fault unit items used known.
+    least_of c.args.unit c.args.found.now before (found_as c.args.number c.args.last.now fault) c.args.known _ items known
+    (least_new c.args.unit c.args.found.now (found_as c.args.number c.args.last.now fault) c.args.known _ c.in_default.is
+    (ap (option_map (λ (n : ℕ). (n, c.args.number))) (sym c.in-Some-partner.is ∙ c.partner.ensures)))
 
 pub returns-in-None : goal.returns-in-None
-returns-in-None c = λ p before unit items used known.
-    least_of c.args.unit c.args.found.now.items before c.args.last.now c.args.known _ items known
-    (least_new c.args.unit c.args.found.now.items c.args.last.now c.args.known _ c.in_default.is
-    (ap (option_map (λ (n : ℕ). (n, c.args.last.now.number))) (sym c.in-None.is ∙ c.partner.ensures)))
+returns-in-None c = λ p before fault unit items used known.
+    least_of c.args.unit c.args.found.now before (found_as c.args.number c.args.last.now fault) c.args.known _ items known
+    (least_new c.args.unit c.args.found.now (found_as c.args.number c.args.last.now fault) c.args.known _ c.in_default.is
+    (ap (option_map (λ (n : ℕ). (n, c.args.number))) (sym c.in-None.is ∙ c.partner.ensures)))

@@ -1,4 +1,4 @@
-use Rattle.std.proofs.Common.{◌≡◌, ◌+◌, ◌-◌, ◌/◌, List, ℕ, true, false, length, sym, ap, subst, ◌∙◌, arith}
+use Rattle.std.proofs.Common.{◌≡◌, ◌-◌, List, ℕ, true, false, length, sym, ap, subst, ◌∙◌, arith}
 use Rattle.std.specs.List.{AllWithin}
 use Rattle.fam_tree.specs.Runs.{ends_before}
 use Rattle.fam_tree.proofs.RunPlaces.{ends_from, ends_to, first_placed}
@@ -10,12 +10,12 @@ loop-low-preserved-then-is_below c =
     let q = c.args.path.now in
     let runs = c.args.runs.now in
     let run = c.index-runs-middle.result in
-    let m : ℕ = c.loop-low.low + (c.loop-low.high - c.loop-low.low) / 2 in
+    let m : ℕ = c.probe-middle.result in
     let ends : ends_before es q run ≡ true = ap (λ (p : List ℕ). ends_before es p run) (sym c.bytes-bytes.ensures.same) ∙ sym c.is_below.ensures ∙ c.if-is_below.true in
     record {
-      ordered = omega (arith, c.loop-low-test.true);
+      ordered = omega (arith, c.probe-middle.ensures.below);
       within = c.loop-low.invariant.within;
-      below = ends_to es q runs c.requires m run (omega (arith, c.loop-low-test.true, c.loop-low.invariant.within)) c.index-runs-middle.is ends;
+      below = ends_to es q runs c.requires m run (omega (arith, c.probe-middle.ensures.below, c.loop-low.invariant.within)) c.index-runs-middle.is ends;
       above = c.loop-low.invariant.above;
     }
 
@@ -25,13 +25,13 @@ loop-low-preserved c =
     let q = c.args.path.now in
     let runs = c.args.runs.now in
     let run = c.index-runs-middle.result in
-    let m : ℕ = c.loop-low.low + (c.loop-low.high - c.loop-low.low) / 2 in
+    let m : ℕ = c.probe-middle.result in
     let ends : ends_before es q run ≡ false = ap (λ (p : List ℕ). ends_before es p run) (sym c.bytes-bytes.ensures.same) ∙ sym c.is_below.ensures ∙ c.if-is_below.false in
     record {
-      ordered = omega arith;
-      within = omega (arith, c.loop-low-test.true, c.loop-low.invariant.within);
+      ordered = c.probe-middle.ensures.from;
+      within = omega (arith, c.probe-middle.ensures.below, c.loop-low.invariant.within);
       below = c.loop-low.invariant.below;
-      above = ends_from es q runs c.requires m run (omega (arith, c.loop-low-test.true, c.loop-low.invariant.within)) c.index-runs-middle.is ends;
+      above = ends_from es q runs c.requires m run (omega (arith, c.probe-middle.ensures.below, c.loop-low.invariant.within)) c.index-runs-middle.is ends;
     }
 
 pub returns-clause-some : goal.returns-clause-some

@@ -16,14 +16,13 @@ cover-requires-clause-within c =
 pub least_overlap-self-inside-requires-clause-second : goal.least_overlap-self-inside-requires-clause-second
 least_overlap-self-inside-requires-clause-second c =
     let own = c.self.inside in
-    subst (LiesWithin own.params.unit (length own.used)) (sym (c.last_of.ensures own.found.items (found_as c.args.number c.args.entry.now c.in_ok-fault.fault) c.in_ok-fault.ensures.found))
-    (lies_within own.params c.args.self.now.params c.args.entry.now (length own.used) (ap (λ (s : Finds). s.params) c.self.view_is) c.requires c.self.invariant.units)
+    lies_within own.params c.args.self.now.params c.args.entry.now (length own.used) (ap (λ (s : Finds). s.params) c.self.view_is) c.requires c.self.invariant.units
 
 pub least_overlap-self-inside-requires-clause-first : goal.least_overlap-self-inside-requires-clause-first
 least_overlap-self-inside-requires-clause-first c =
     let own = c.self.inside in
     subst (All (LiesWithin own.params.unit (length own.used))) (sym c.in_ok-fault.ensures.found)
-    (placed_more own.params.unit (length own.used) own.found.items (found_as c.args.number c.args.entry.now c.in_ok-fault.fault) c.self.invariant.placed
+    (placed_more own.params.unit (length own.used) own.found (found_as c.args.number c.args.entry.now c.in_ok-fault.fault) c.self.invariant.placed
     (lies_within own.params c.args.self.now.params c.args.entry.now (length own.used) (ap (λ (s : Finds). s.params) c.self.view_is) c.requires c.self.invariant.units))
 
 pub invariant_of-self-2 : goal.invariant_of-self-2
@@ -33,23 +32,21 @@ invariant_of-self-2 c =
     let e = c.args.entry.now in
     let fault = c.in_ok-fault.fault in
     let f : Found = found_as c.args.number e fault in
-    let all : All (LiesWithin p.unit (length own.used)) (own.found.items ++ f ∷ []) =
-    placed_more p.unit (length own.used) own.found.items f c.self.invariant.placed
+    let all : All (LiesWithin p.unit (length own.used)) (own.found ++ f ∷ []) =
+    placed_more p.unit (length own.used) own.found f c.self.invariant.placed
     (lies_within p c.args.self.now.params e (length own.used) (ap (λ (s : Finds). s.params) c.self.view_is) c.requires c.self.invariant.units) in
     record {
       sound = c.self.invariant.sound;
       tree = c.in_ok-fault.ensures.after
           ∙ ap (λ (t : Tree). tree_after fault t e) c.self.invariant.tree
-          ∙ tree_more own.found.items c.args.number e fault
+          ∙ tree_more own.found c.args.number e fault
           ∙ ap (λ (fs : List Found). replay (applied_of fs)) (sym c.in_ok-fault.ensures.found);
-      placed = subst (λ (n : ℕ). All (LiesWithin p.unit n) c.join.new.found.items) (sym c.cover.ensures.units)
+      placed = subst (λ (n : ℕ). All (LiesWithin p.unit n) c.join.new.self) (sym c.cover.ensures.units)
           (subst (All (LiesWithin p.unit (length own.used))) (sym c.in_ok-fault.ensures.found) all);
       units = c.cover.ensures.units ∙ c.self.invariant.units;
       used = λ u. c.cover.ensures.value u
           ∙ ap (λ (b : Bool). b || holds (units_in p.unit e.extents) u) (c.self.invariant.used u)
-          ∙ used_more p own.found.items c.args.number e fault u
+          ∙ used_more p own.found c.args.number e fault u
           ∙ ap (λ (fs : List Found). is_used p (entries_of fs) u) (sym c.in_ok-fault.ensures.found);
-      overlap = c.least_overlap-self-inside.ensures p own.found.items refl
-          (c.in_ok-fault.ensures.found ∙ ap (λ (x : Found). own.found.items ++ x ∷ []) (sym (c.last_of.ensures own.found.items (found_as c.args.number c.args.entry.now c.in_ok-fault.fault) c.in_ok-fault.ensures.found)))
-          c.self.invariant.used c.self.invariant.overlap;
+      overlap = c.least_overlap-self-inside.ensures p own.found fault refl c.in_ok-fault.ensures.found c.self.invariant.used c.self.invariant.overlap;
     }

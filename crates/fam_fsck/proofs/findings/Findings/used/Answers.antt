@@ -7,5 +7,5 @@ use Rattle.fam_fsck.proofs.findings.Findings.used.Goals as goal
 pub returns-clause-count : goal.returns-clause-count
 returns-clause-count c =
     let own = c.self.inside in
-    c.count.ensures.count ∙ used_counted own.params (entries_of own.found.items) own.used c.self.invariant.units c.self.invariant.used
+    c.count.ensures.count ∙ used_counted own.params (entries_of own.found) own.used c.self.invariant.units c.self.invariant.used
     ∙ ap (λ (s : Finds). used_count s.params (entries_of s.found)) c.self.view_is

@@ -1,4 +1,4 @@
-use Rattle.std.proofs.Common.{◌≡◌, ◌+◌, ◌-◌, ◌/◌, ℕ, List, length, get_or, sym, ap, subst, ◌∙◌, arith}
+use Rattle.std.proofs.Common.{◌≡◌, ℕ, List, length, get_or, sym, ap, subst, ◌∙◌, arith}
 use Rattle.std.specs.List.{AllWithin}
 use Rattle.std.specs.declared.cmp.Ordering.TheVariants.{Less, Equal, Greater}
 use Rattle.fam_tree.specs.Runs.{AreWithin, InOrder, IsAt, IsGap, place_cmp, run_of}
@@ -11,14 +11,14 @@ loop-low-preserved-in-Less c =
     let q = c.args.path.now in
     let xs = c.as_slice-places.result.now in
     let here : xs ≡ c.args.self.now = c.as_slice-places.ensures.value ∙ ap (λ v. v.items) c.deref.ensures ∙ c.self.view_is in
-    let m : ℕ = c.loop-low.low + (c.loop-low.high - c.loop-low.low) / 2 in
+    let m : ℕ = c.probe-middle.result in
     let inside : AreWithin (length es) xs = rw here c.requires.inside in
     let order : InOrder (run_of es xs) = rw here c.requires.order in
     let less : place_cmp es q (get_or xs m 0) ≡ Less = ap (λ (p : List ℕ). place_cmp es p (get_or xs m 0)) (sym c.bytes-bytes.ensures.same) ∙ sym c.order_at.ensures ∙ c.in-Less.is in
     record {
-      ordered = omega (arith, c.loop-low-test.true);
+      ordered = omega (arith, c.probe-middle.ensures.below);
       within = c.loop-low.invariant.within;
-      below = less_to es q xs inside order m (omega (arith, c.loop-low-test.true, c.loop-low.invariant.within)) less;
+      below = less_to es q xs inside order m (omega (arith, c.probe-middle.ensures.below, c.loop-low.invariant.within)) less;
       above = c.loop-low.invariant.above;
     }
 
@@ -28,11 +28,11 @@ returns-in-Equal-clause-found c =
     let q = c.args.path.now in
     let xs = c.as_slice-places.result.now in
     let here : xs ≡ c.args.self.now = c.as_slice-places.ensures.value ∙ ap (λ v. v.items) c.deref.ensures ∙ c.self.view_is in
-    let m : ℕ = c.loop-low.low + (c.loop-low.high - c.loop-low.low) / 2 in
+    let m : ℕ = c.probe-middle.result in
     let inside : AreWithin (length es) xs = rw here c.requires.inside in
     let order : InOrder (run_of es xs) = rw here c.requires.order in
     let same : place_cmp es q (get_or xs m 0) ≡ Equal = ap (λ (p : List ℕ). place_cmp es p (get_or xs m 0)) (sym c.bytes-bytes.ensures.same) ∙ sym c.order_at.ensures ∙ c.in-Equal.is in
-    subst (λ (l : List ℕ). IsAt (run_of es l) q m) here (found_at es q xs inside order m (omega (arith, c.loop-low-test.true, c.loop-low.invariant.within)) same)
+    subst (λ (l : List ℕ). IsAt (run_of es l) q m) here (found_at es q xs inside order m (omega (arith, c.probe-middle.ensures.below, c.loop-low.invariant.within)) same)
 
 pub loop-low-preserved : goal.loop-low-preserved
 loop-low-preserved c =
@@ -40,15 +40,15 @@ loop-low-preserved c =
     let q = c.args.path.now in
     let xs = c.as_slice-places.result.now in
     let here : xs ≡ c.args.self.now = c.as_slice-places.ensures.value ∙ ap (λ v. v.items) c.deref.ensures ∙ c.self.view_is in
-    let m : ℕ = c.loop-low.low + (c.loop-low.high - c.loop-low.low) / 2 in
+    let m : ℕ = c.probe-middle.result in
     let inside : AreWithin (length es) xs = rw here c.requires.inside in
     let order : InOrder (run_of es xs) = rw here c.requires.order in
     let greater : place_cmp es q (get_or xs m 0) ≡ Greater = ap (λ (p : List ℕ). place_cmp es p (get_or xs m 0)) (sym c.bytes-bytes.ensures.same) ∙ sym c.order_at.ensures ∙ c.in-Greater.is in
     record {
-      ordered = omega arith;
-      within = omega (arith, c.loop-low-test.true, c.loop-low.invariant.within);
+      ordered = c.probe-middle.ensures.from;
+      within = omega (arith, c.probe-middle.ensures.below, c.loop-low.invariant.within);
       below = c.loop-low.invariant.below;
-      above = greater_from es q xs inside order m (omega (arith, c.loop-low-test.true, c.loop-low.invariant.within)) greater;
+      above = greater_from es q xs inside order m (omega (arith, c.probe-middle.ensures.below, c.loop-low.invariant.within)) greater;
     }
 
 pub returns-clause-gap : goal.returns-clause-gap
