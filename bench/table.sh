@@ -2,6 +2,9 @@
 # Prints a table of what large commands cost: instructions (by valgrind's callgrind), system calls (by strace, where it is
 # there), processor time of user and system together (the least of five runs) and peak memory, and a second one of what
 # commands of mounted hosts cost. Instructions don't depend on what else the machine does; times do. It takes some minutes.
+#
+# Callgrind counts an instruction that repeats itself once for each byte that it copies or clears, where a processor counts
+# it once. So while instructions are counted the C library is told to use none of these.
 set -eu
 top=$(cd "$(dirname "${BASH_SOURCE[0]}")/.." && pwd)
 "$top/famfs" logplay "$top/crates/famfs/data/img" >/dev/null
@@ -28,8 +31,11 @@ def blank(size):
     with open("image", "wb") as image:
         image.truncate(size)
 
+LIMITS = ":".join("glibc.cpu.x86_rep_%s_threshold=0x40000000" % each for each in ("movsb", "stosb"))
+COUNTED = {**os.environ, "GLIBC_TUNABLES": LIMITS}
+
 def instructions(words):
-    run = subprocess.run(["valgrind", "--tool=callgrind", "--callgrind-out-file=/dev/null", famfs] + words, stdout=subprocess.DEVNULL, stderr=subprocess.PIPE, text=True)
+    run = subprocess.run(["valgrind", "--tool=callgrind", "--callgrind-out-file=/dev/null", famfs] + words, stdout=subprocess.DEVNULL, stderr=subprocess.PIPE, text=True, env=COUNTED)
     return int(re.search(r"Collected : (\d+)", run.stderr)[1])
 
 def calls(words):
