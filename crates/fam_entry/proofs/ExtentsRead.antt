@@ -1,5 +1,5 @@
 -- The extents that were read so far.
-use Rattle.std.proofs.Common.{◌≡◌, ℕ, ◌+◌, ◌<◌, Bool, true, IsTrue, List, [], ◌∷◌, ◌++◌, length, map, arith, subst, ap, sym, ◌∙◌}
+use Rattle.std.proofs.Common.{◌≡◌, ℕ, ◌+◌, ◌<◌, ◌≤◌, Bool, true, IsTrue, List, [], ◌∷◌, ◌++◌, length, map, arith, subst, ap, sym, ◌∙◌}
 use Rattle.std.specs.List.{range_with_len}
 use Rattle.std.specs.Bool.{OnTrue}
 use Rattle.std.proofs.lemmas.List.FromFn.{map-range_with_len_more, length-map-range_with_len}
@@ -20,3 +20,10 @@ pub push_more : (words : List ℕ) (i : ℕ) (old new : List Extent) (pushed : B
 push_more words i old new pushed below is room added =
     let few : length old < 16 = omega (arith, ap length is, length-map-range_with_len (extent_of words) 0 i) in
     on_true pushed _ (room few) added ∙ ap (λ (l : List Extent). l ++ extent_of words i ∷ []) is ∙ sym (map-range_with_len_more (extent_of words) 0 i i (omega arith))
+
+-- no more than they are counted
+pub few_extents : (words : List ℕ) (count : ℕ) (extents : List Extent) → extents ≡ extents_of words count → count ≤ 16 → length extents ≤ 16
+unfolding extents_of
+few_extents words count extents is few =
+    let same : extents ≡ map (extent_of words) (range_with_len 0 count) = is in
+    omega (arith, ap length same, length-map-range_with_len (extent_of words) 0 count, few)

@@ -1,6 +1,5 @@
 -- A field that a path's bytes are put into, eight at a time.
-use Rattle.std.specs.Prelude.{if◌then◌else◌}
-use Rattle.std.proofs.Common.{◌≡◌, ℕ, zero, suc, ◌+◌, ◌-◌, ◌*◌, ◌/◌, ◌%◌, ◌<◌, ◌≤◌, ◌==◌, Bool, true, false, nat_lt, nat_le, List, ◌∷◌, ◌++◌, length, map, get_or, slice_index, take, drop, replicate, Some, None, length-append, ◌⊎◌, inl, inr, refl, sym, ap, ◌∙◌, arith}
+use Rattle.std.proofs.Common.{◌≡◌, ℕ, zero, suc, ◌+◌, ◌-◌, ◌*◌, ◌/◌, ◌%◌, ◌<◌, ◌≤◌, true, false, nat_lt, List, ◌∷◌, ◌++◌, length, map, get_or, slice_index, take, drop, replicate, Some, None, length-append, ◌⊎◌, inl, inr, refl, sym, ap, ◌∙◌, arith}
 use Rattle.std.specs.List.{range_with_len}
 use Rattle.std.specs.Int.{to_le_bytes, w64}
 use Rattle.std.proofs.lemmas.Bool.{cases_lt}
@@ -14,7 +13,7 @@ use Rattle.fam_format.specs.declared.faults.Reason.TheVariants.{BadPath}
 use Rattle.fam_format.specs.Layout.{Geometry}
 use Rattle.fam_format.specs.Slot.{path_word, path_of, path_fault}
 use Rattle.fam_format.specs.Words.{byte_from, bytes_from}
-use Rattle.fam_format.proofs.WordRounds.{le_byte, length_of_bytes}
+use Rattle.fam_format.proofs.WordRounds.{le_byte}
 use Rattle.fam_entry.proofs.Filling.{filled_bytes}
 
 module _ (a n m : ℕ) (xs ys : List ℕ) (long : length xs ≡ 512) (within : a + m ≤ 512) (size : n ≡ m) (count : length ys ≡ m) where

@@ -1,6 +1,6 @@
 //! The fields that the words of a slot tell, whatever its checksum and its unused words are.
 
-ghost use Rattle.std.specs.Prelude.{◌≡◌, ◌+◌, ◌*◌, ◌<◌, ◌≤◌, ◌^◌, ℕ, length, slice_index, OnOk};
+ghost use Rattle.std.specs.Prelude.{◌≡◌, ◌+◌, ◌*◌, ◌<◌, ◌≤◌, ◌^◌, ℕ, length, slice_index, IfSome, OnOk};
 ghost use Rattle.fam_format.specs.Layout.{Geometry};
 ghost use Rattle.fam_format.specs.Words.{byte_from};
 ghost use Rattle.fam_format.specs.Slot as slots;
@@ -12,6 +12,7 @@ use crate::places::{
 };
 use fam_base::{Entry, Extent, Extents, Kind, MapKind, PATH_LIMIT, Path};
 use fam_format::Reason;
+use fam_tree::EntryRef;
 
 fn kind_of(word: u64) -> Kind
     ensures { result ≡ slots.kind_of word }
@@ -116,4 +117,51 @@ pub fn checked_entry(words: &[u64], field: &[u8; PATH_LIMIT]) -> Entry
         map: map_of(words[MAP_WORD], words[CHUNK_WORD]),
         extents: extents_of(words, words[COUNT_WORD] as usize),
     }
+}
+
+/// The extents of a slot whose words were checked.
+pub fn checked_extents(words: &[u64]) -> Extents
+    requires long { 64 ≤ length words.now }
+    requires few { slice_index words.now COUNT_WORD ≤ EXTENT_LIMIT }
+    ensures { result ≡ slots.extents_of words.now (slice_index words.now COUNT_WORD) }
+{
+    extents_of(words, words[COUNT_WORD] as usize)
+}
+
+/// The entry of a slot whose words were checked, borrowed: its path lies in a field, and its extents were read by
+/// `checked_extents`. It is the one of `checked_entry`.
+#[tactic(auto, unfolding(fam_format::specs::Slot::fields_of))]
+pub fn borrowed_entry<'a>(
+    words: &[u64],
+    field: &'a [u8; PATH_LIMIT],
+    extents: &'a [Extent],
+) -> EntryRef<'a>
+    requires long { 64 ≤ length words.now }
+    requires fields { HasFields words.now field.now }
+    requires extents { extents.now ≡ slots.extents_of words.now (slice_index words.now COUNT_WORD) }
+    ensures { result ≡ slots.fields_of words.now }
+{
+    EntryRef {
+        kind: kind_of(words[KIND_WORD]),
+        map: map_of(words[MAP_WORD], words[CHUNK_WORD]),
+        size: words[SIZE_WORD],
+        mode: words[MODE_WORD] as u32,
+        uid: words[UID_WORD] as u32,
+        gid: words[GID_WORD] as u32,
+        path: &field[..words[PATH_LENGTH_WORD] as usize],
+        extents,
+    }
+}
+
+/// The same of a slot whose words count no extents, for which none are held. Most slots are such.
+#[tactic(auto, unfolding(fam_format::specs::Slot::extents_of))]
+pub fn bare_entry<'a>(words: &[u64], field: &'a [u8; PATH_LIMIT]) -> Option<EntryRef<'a>>
+    requires long { 64 ≤ length words.now }
+    requires fields { HasFields words.now field.now }
+    ensures { IfSome result (λ entry. entry ≡ slots.fields_of words.now) }
+{
+    if words[COUNT_WORD] == 0 {
+        return Some(borrowed_entry(words, field, &[]));
+    }
+    None
 }

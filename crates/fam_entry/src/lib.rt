@@ -15,7 +15,7 @@ mod reading;
 mod slot;
 
 pub use fam_format::{LogFault, LogField, Reason};
-pub use fields::checked_entry;
+pub use fields::{bare_entry, borrowed_entry, checked_entry, checked_extents};
 pub use log::{read_log, spell_log};
 pub use reading::{check_entry, read_entry};
 pub use slot::{Slot, spell};

@@ -10,7 +10,7 @@ ghost use Rattle.fam_format.specs.SuperLaws.{IsWords};
 ghost use Rattle.fam_base.specs.declared.entry.Entry.{Entry};
 ghost use Rattle.fam_entry.specs.Tests.{HasFields, NamesFault, read_as};
 
-use crate::fields::{check_path, checked_entry};
+use crate::fields::{borrowed_entry, check_path, checked_entry, checked_extents};
 use crate::map_rule::is_map;
 use crate::places::{
     CHUNK_WORD, COUNT_WORD, DIRECTORY_KIND, EMPTY_MAP, EXTENT_LIMIT, EXTENTS_WORD, FILE_KIND,
@@ -223,7 +223,8 @@ fn fits_map(words: &[u64], field: &[u8; PATH_LIMIT], params: &Params) -> bool
     if words[MAP_WORD] == EMPTY_MAP {
         return words[SIZE_WORD] == 0 && words[COUNT_WORD] == 0;
     }
-    is_map(params, &checked_entry(words, field))
+    let extents = checked_extents(words);
+    is_map(params, &borrowed_entry(words, field, extents.as_slice()))
 }
 
 /// Whether the words have an entry with this number, whose path is put into a field of zeros.

@@ -22,7 +22,7 @@ const NO_EXTENT: Extent = Extent {
     length: 0,
 };
 
-pub(crate) fn extent_or_none(extents: &Extents, i: u64) -> Extent
+fn extent_or_none(extents: &Extents, i: u64) -> Extent
     ensures { result ≡ slice_index_or extents.now i no_extent }
 {
     match extents.at(i) {

@@ -8,12 +8,13 @@ ghost use Rattle.fam_format.specs.Tree.{replay, tree_fault};
 ghost use Rattle.fam_rules.specs.Reports.{is_directory, is_file, overlap_of, used_count};
 ghost use Rattle.fam_fsck.specs.Found.{applied_of, entries_of, first_finds, found_as, pairs_of, with_found};
 
-use crate::found::{count_directories, count_files, least_overlap};
+use crate::found::{count_directories, count_files, cover, least_overlap};
 use crate::found_list::FoundList;
 use crate::joining::Joined;
 use fam_alloc::UsedUnits;
-use fam_base::{Entry, OutOfMemory, Params};
+use fam_base::{OutOfMemory, Params};
 use fam_format::{LOG_OFFSET, Reason};
+use fam_tree::EntryRef;
 use std::alloc::Global;
 use std::marker::Model;
 
@@ -66,7 +67,7 @@ impl Findings {
     }
 
     /// Adds an entry, and says why it doesn't apply to the tree.
-    pub fn add(&mut self, number: u64, entry: &Entry) -> Result<Option<Reason>, OutOfMemory>
+    pub fn add(&mut self, number: u64, entry: &EntryRef<'_>) -> Result<Option<Reason>, OutOfMemory>
         requires { Proper self.old.params entry.now }
         ensures fault { IfOk result (λ fault. fault ≡ tree_fault (replay (applied_of self.old.found)) entry.now) }
         ensures found { IfOk result (λ fault. self.new ≡ with_found self.old (found_as number entry.now fault)) }
@@ -81,7 +82,7 @@ impl Findings {
             entry,
             self.params.unit,
         );
-        self.used.cover(&entry.extents, self.params.unit);
+        cover(&mut self.used, entry, self.params.unit);
         Ok(fault)
     }
 

@@ -1,11 +1,11 @@
 //! An entry that reads, how many there are of each kind, and the first that shares a unit with another.
 
-ghost use Rattle.std.specs.Prelude.{◌≡◌, ℕ, ◌<◌, ◌≤◌, length, [], ◌∷◌, ◌++◌, find, option_map, count_by, List, Option};
+ghost use Rattle.std.specs.Prelude.{◌≡◌, ◌||◌, ℕ, ◌<◌, ◌≤◌, length, [], ◌∷◌, ◌++◌, find, option_map, count_by, List, Option};
 ghost use Rattle.std.specs.List.{All};
 ghost use Rattle.fam_base.specs.declared.entry.Params.{Params};
-ghost use Rattle.fam_format.specs.Units.{is_used};
+ghost use Rattle.fam_format.specs.Units.{first_overlap, is_used, units_in};
 ghost use Rattle.fam_format.specs.declared.faults.Reason.{Reason};
-ghost use Rattle.fam_alloc.specs.Taken.{is_taken, LieWithin};
+ghost use Rattle.fam_alloc.specs.Taken.{holds, is_taken, LieWithin};
 ghost use Rattle.fam_rules.specs.Reports.{is_file, is_directory, overlap_of, overlaps};
 ghost use Rattle.fam_fsck.specs.declared.found.Found.{Found};
 ghost use Rattle.fam_fsck.specs.Found.{entries_of, found_as, LiesWithin, pair_of, pairs_of};
@@ -13,6 +13,7 @@ ghost use Rattle.fam_fsck.specs.Found.{entries_of, found_as, LiesWithin, pair_of
 use crate::found_list::FoundList;
 use fam_alloc::{MOST_UNITS, UsedUnits, repeats_unit, shares_unit};
 use fam_base::{Entry, Kind};
+use fam_tree::EntryRef;
 
 /// An entry that reads, with its number.
 #[derive(Clone, Copy)]
@@ -56,6 +57,32 @@ fn partner(found: &FoundList, number: u64, last: &Entry, unit: u64, units: u64) 
     None
 }
 
+/// The first unit of an entry that is used, or that stands twice in it. Most entries have no extents.
+fn first_shared(used: &UsedUnits, last: &EntryRef<'_>, unit: u64) -> Option<u64>
+    requires unit { 0 < unit }
+    requires within { LieWithin unit (length used.now) last.now.extents }
+    ensures { result ≡ first_overlap (is_taken used.now) (units_in unit last.now.extents) }
+{
+    if last.extents().is_empty() {
+        return None;
+    }
+    used.first_overlap(&last.to_extents(), unit)
+}
+
+/// Marks the units of an entry as used, whether they were or not.
+pub fn cover(used: &mut UsedUnits, entry: &EntryRef<'_>, unit: u64)
+    requires unit { 0 < unit }
+    requires within { LieWithin unit (length used.old) entry.now.extents }
+    ensures value { (u : ℕ) → is_taken used.new u
+        ≡ (is_taken used.old u || holds (units_in unit entry.now.extents) u) }
+    ensures units { length used.new ≡ length used.old }
+{
+    if entry.extents().is_empty() {
+        return;
+    }
+    used.cover(&entry.to_extents(), unit);
+}
+
 /// The least pair of entries that overlap, where `last`, of this number, came behind entries whose least pair and whose
 /// units are known. Only the first entry that overlaps is looked at beside each one before it.
 pub fn least_overlap(
@@ -63,7 +90,7 @@ pub fn least_overlap(
     used: &UsedUnits,
     found: &FoundList,
     number: u64,
-    last: &Entry,
+    last: &EntryRef<'_>,
     unit: u64,
 ) -> Option<(u64, u64)>
     requires unit { 0 < unit }
@@ -77,10 +104,10 @@ pub fn least_overlap(
     if let Some(pair) = known {
         return Some(pair);
     }
-    if used.first_overlap(&last.extents, unit).is_none() {
+    if first_shared(used, last, unit).is_none() {
         return None;
     }
-    match partner(found, number, last, unit, used.units()) {
+    match partner(found, number, &last.to_entry(), unit, used.units()) {
         Some(earlier) => Some((earlier, number)),
         None => None,
     }

@@ -8,9 +8,9 @@ ghost use Rattle.fam_fsck.specs.Found.{found_as, tree_after};
 
 use crate::found::Found;
 use crate::joining::Joined;
-use fam_base::{Entry, Kind, OutOfMemory};
+use fam_base::{Kind, OutOfMemory};
 use fam_format::Reason;
-use fam_tree::EntryList;
+use fam_tree::{EntryList, EntryRef};
 use std::alloc::Global;
 use std::marker::Model;
 
@@ -92,7 +92,7 @@ impl FoundList {
         &mut self,
         joined: &mut Joined,
         number: u64,
-        entry: &Entry,
+        entry: &EntryRef<'_>,
     ) -> Result<Option<Reason>, OutOfMemory>
         ensures fault { IfOk result (λ fault. fault ≡ tree_fault joined.old.tree entry.now) }
         ensures after { IfOk result (λ fault. joined.new.tree ≡ tree_after fault joined.old.tree entry.now) }

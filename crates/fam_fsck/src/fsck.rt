@@ -6,11 +6,13 @@ ghost use Rattle.fam_format.specs.Params.{SoundParams};
 ghost use Rattle.fam_format.specs.Slot.{Proper, entry_of, fields_of};
 ghost use Rattle.fam_entry.specs.Tests.{HasFields, read_as};
 ghost use Rattle.fam_rules.specs.Reports.{below_gate, past_gate, report_by};
+ghost use Rattle.fam_format.specs.Tree.{replay, tree_fault};
+ghost use Rattle.fam_fsck.specs.Found.{applied_of, found_as, with_found};
 ghost use Rattle.fam_fsck.specs.Scan.{bad_after, first_scan, with_slot, with_survey};
 
 use crate::findings::Findings;
 use fam_base::{OutOfMemory, PATH_LIMIT, Params};
-use fam_entry::{check_entry, checked_entry};
+use fam_entry::{bare_entry, borrowed_entry, check_entry, checked_extents};
 use fam_format::Reason;
 use fam_rules::{LogState, Report, SuperState};
 use std::alloc::Global;
@@ -58,6 +60,30 @@ fn first_bad(
     }
 }
 
+/// Adds the entry of a slot whose words were checked, and says why it doesn't apply to the tree.
+fn add_entry(
+    findings: &mut Findings,
+    number: u64,
+    words: &[u64],
+    field: &[u8; PATH_LIMIT],
+) -> Result<Option<Reason>, OutOfMemory>
+    requires long { 64 ≤ length words.now }
+    requires proper { Proper findings.old.params (fields_of words.now) }
+    requires fields { HasFields words.now field.now }
+    ensures fault { IfOk result (λ fault.
+        fault ≡ tree_fault (replay (applied_of findings.old.found)) (fields_of words.now)) }
+    ensures found { IfOk result (λ fault.
+        findings.new ≡ with_found findings.old (found_as number (fields_of words.now) fault)) }
+    ensures err { OnErr result (findings.new ≡ findings.old) }
+{
+    if let Some(entry) = bare_entry(words, field) {
+        return findings.add(number, &entry);
+    }
+    let extents = checked_extents(words);
+    let entry = borrowed_entry(words, field, extents.as_slice());
+    findings.add(number, &entry)
+}
+
 impl Fsck {
     /// No slot yet, of a file system whose superblock and log are sound, with this gate.
     pub fn new(alloc: Global, params: &Params, gate: u64) -> Result<Fsck, OutOfMemory>
@@ -92,8 +118,7 @@ impl Fsck {
     {
         match read {
             Ok(()) => {
-                let entry = checked_entry(words, field);
-                let fault = self.findings.add(self.added, &entry)?;
+                let fault = add_entry(&mut self.findings, self.added, words, field)?;
                 self.bad = first_bad(self.bad, self.added, fault);
                 self.added += 1;
                 Ok(())

@@ -6,9 +6,9 @@ ghost use Rattle.fam_format.specs.Tree.{tree_fault};
 ghost use Rattle.fam_tree.specs.Faults.{reason_of};
 ghost use Rattle.fam_fsck.specs.Found.{tree_after};
 
-use fam_base::{Entry, OutOfMemory};
+use fam_base::OutOfMemory;
 use fam_format::Reason;
-use fam_tree::{ApplyFault, Beside, Tree};
+use fam_tree::{ApplyFault, Beside, EntryRef, Nothing, Tree};
 use std::alloc::Global;
 
 /// Why an entry doesn't join, if memory didn't run out.
@@ -25,7 +25,7 @@ fn reason_against(fault: ApplyFault) -> Result<Reason, OutOfMemory>
 }
 
 /// Adds an entry to the tree where it applies, and says why it doesn't.
-fn apply(tree: &mut Tree, entry: &Entry) -> Result<Option<Reason>, OutOfMemory>
+fn apply(tree: &mut Tree, entry: &EntryRef<'_>) -> Result<Option<Reason>, OutOfMemory>
     ensures fault { IfOk result (λ fault. fault ≡ tree_fault tree.old entry.now) }
     ensures after { IfOk result (λ fault. tree.new ≡ tree_after fault tree.old entry.now) }
     ensures err { OnErr result (tree.new ≡ tree.old) }
@@ -33,7 +33,7 @@ fn apply(tree: &mut Tree, entry: &Entry) -> Result<Option<Reason>, OutOfMemory>
     // Memory is wanted only for an entry that applies.
     ensures want { OnErr result (tree_fault tree.old entry.now ≡ None) }
 {
-    match tree.apply(entry) {
+    match tree.apply_beside(entry, &mut Nothing) {
         Ok(()) => Ok(None),
         Err(fault) => match reason_against(fault) {
             Ok(reason) => Ok(Some(reason)),
@@ -69,7 +69,7 @@ impl Beside for Joined {
 
     ghost grown = { HasJoined };
 
-    fn grow(&mut self, entry: &Entry) -> bool {
+    fn grow(&mut self, entry: &EntryRef<'_>) -> bool {
         match apply(&mut self.tree, entry) {
             Ok(fault) => {
                 self.fault = fault;

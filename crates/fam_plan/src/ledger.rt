@@ -4,8 +4,8 @@ ghost use Rattle.std.specs.Prelude.{◌≡◌, IfOk};
 
 use crate::order::Order;
 use crate::used::Used;
-use fam_base::{Entry, OutOfMemory};
-use fam_tree::Beside;
+use fam_base::OutOfMemory;
+use fam_tree::{Beside, EntryRef};
 use std::alloc::Global;
 
 /// The order in which the entries of a plan were added, and the units that they use.
@@ -37,7 +37,7 @@ impl Beside for Ledger {
 
     ghost grown = { HasGrown };
 
-    fn grow(&mut self, entry: &Entry) -> bool {
+    fn grow(&mut self, entry: &EntryRef<'_>) -> bool {
         self.order.push(entry, &mut self.used)
     }
 }

@@ -9,21 +9,23 @@ ghost use Rattle.fam_plan.specs.Parts.{AreFull, paths_of};
 
 use crate::part::Part;
 use crate::paths::Paths;
-use fam_base::{Entry, OutOfMemory, Path};
-use fam_tree::Beside;
+use fam_base::{OutOfMemory, Path};
+use fam_tree::{Beside, EntryRef};
 use std::alloc::Global;
 use std::marker::Model;
 use std::mem::replace;
+use std::rc::Rc;
 
 /// How many paths a part has.
 pub(crate) const PART: usize = 512;
 
 /// Paths in the order in which their entries were added. The last of them stand in a part of their own, which is shared
-/// once it is full, so that one more changes no part that another order has.
+/// once it is full, so that one more changes no part that another order has. Copies share the list of the full parts too, until
+/// one of them gets another.
 #[derive(Drop)]
 pub(crate) struct Order {
     alloc: Global,
-    full: Vec<Part>,
+    full: Rc<Vec<Part>>,
     last: Paths,
     len: usize,
 }
@@ -34,9 +36,9 @@ impl Model for Order {
 
     ghost Value = { List (List ℕ) };
 
-    ghost view = { λ o. paths_of o.full.items o.last };
+    ghost view = { λ o. paths_of o.full.value.items o.last };
 
-    ghost invariant = { λ o. AreParts o.full.items o.last o.len };
+    ghost invariant = { λ o. AreParts o.full.value.items o.last o.len };
 }
 
 /// Makes a part of the last paths.
@@ -61,16 +63,32 @@ fn close(full: &mut Vec<Part>, last: &mut Paths, alloc: Global) -> bool
     }
 }
 
+/// The same, of parts that another order may have too: their list is copied first.
+fn close_shared(full: &mut Rc<Vec<Part>>, last: &mut Paths, alloc: Global) -> bool
+    requires full { AreFull full.old.value.items }
+    requires last { length last.old ≡ PART }
+    ensures full { AreFull full.new.value.items }
+    ensures paths { paths_of full.new.value.items last.new ≡ paths_of full.old.value.items last.old }
+{
+    match Rc::make_mut(full) {
+        Ok(full) => close(full, last, alloc),
+        Err(_) => false,
+    }
+}
+
 impl Order {
     /// No paths.
-    pub(crate) fn new(alloc: Global) -> Order
-        ensures { result ≡ [] }
+    pub(crate) fn new(alloc: Global) -> Result<Order, OutOfMemory>
+        ensures { IfOk result (λ order. order ≡ []) }
     {
-        Order {
-            alloc,
-            full: Vec::new(alloc),
-            last: Paths::new(alloc),
-            len: 0,
+        match Rc::new(alloc, Vec::new(alloc)) {
+            Ok(full) => Ok(Order {
+                alloc,
+                full,
+                last: Paths::new(alloc),
+                len: 0,
+            }),
+            Err(_) => Err(OutOfMemory),
         }
     }
 
@@ -102,15 +120,16 @@ impl Order {
         ensures { result ≡ slice_get self.now i }
     {
         let i = i as usize;
-        match self.full.get(i / PART) {
+        let full = self.full.as_slice();
+        match full.get(i / PART) {
             Some(part) => part.paths().at(i % PART),
-            None => self.last.at(i - PART * self.full.len()),
+            None => self.last.at(i - PART * full.len()),
         }
     }
 
     /// Puts an entry's path behind the others, where something else grows by the entry. Else, and if there is no memory,
     /// nothing changes.
-    pub(crate) fn push<B: Beside>(&mut self, entry: &Entry, beside: &mut B) -> bool
+    pub(crate) fn push<B: Beside>(&mut self, entry: &EntryRef<'_>, beside: &mut B) -> bool
         requires { B.may_grow beside.old entry.now }
         ensures added { OnTrue result (self.new ≡ self.old ++ entry.now.path ∷ []) }
         ensures grown { OnTrue result (B.grown beside.old entry.now beside.new) }
@@ -120,7 +139,7 @@ impl Order {
         let Some(len) = self.len.checked_add(1) else {
             return false;
         };
-        if self.last.len() == PART && !close(&mut self.full, &mut self.last, self.alloc) {
+        if self.last.len() == PART && !close_shared(&mut self.full, &mut self.last, self.alloc) {
             return false;
         }
         if !self.last.push(entry, beside) {

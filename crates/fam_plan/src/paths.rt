@@ -9,8 +9,8 @@ ghost use Rattle.std.specs.List.{between};
 ghost use Rattle.fam_base.specs.Paths.{is_path};
 ghost use Rattle.fam_plan.specs.Pieces.{IsPathAt};
 
-use fam_base::{Entry, OutOfMemory, PATH_LIMIT, Path};
-use fam_tree::Beside;
+use fam_base::{OutOfMemory, PATH_LIMIT, Path};
+use fam_tree::{Beside, EntryRef};
 use std::alloc::Global;
 use std::marker::Model;
 
@@ -106,14 +106,14 @@ impl Paths {
 
     /// Puts an entry's path behind the others, where something else grows by the entry. Else, and if there is no memory,
     /// nothing changes. It takes memory for the path's own bytes, and not for those of the longest path.
-    pub(crate) fn push<B: Beside>(&mut self, entry: &Entry, beside: &mut B) -> bool
+    pub(crate) fn push<B: Beside>(&mut self, entry: &EntryRef<'_>, beside: &mut B) -> bool
         requires { B.may_grow beside.old entry.now }
         ensures added { OnTrue result (self.new ≡ self.old ++ entry.now.path ∷ []) }
         ensures grown { OnTrue result (B.grown beside.old entry.now beside.new) }
         ensures kept { OnFalse result (self.new ≡ self.old) }
         ensures same { OnFalse result (beside.new ≡ beside.old) }
     {
-        let path = entry.path.bytes();
+        let path = entry.path();
         if self.bytes.reserve(path.len()).is_err() {
             return false;
         }

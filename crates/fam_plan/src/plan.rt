@@ -19,7 +19,7 @@ use crate::used::Used;
 use fam_alloc::AllocMap;
 use fam_base::{Entry, OutOfMemory, Params};
 use fam_format::LOG_OFFSET;
-use fam_tree::{ApplyFault, Tree};
+use fam_tree::{ApplyFault, EntryRef, Tree};
 use std::alloc::Global;
 use std::marker::Model;
 
@@ -46,20 +46,20 @@ impl Model for Plan {
 }
 
 /// The overlap that keeps an entry from joining, and out of memory where there is none.
-fn overlap_or_memory(used: &AllocMap, entry: &Entry, unit: u64) -> AddFault
+fn overlap_or_memory(used: &AllocMap, entry: &EntryRef<'_>, unit: u64) -> AddFault
     requires unit { 0 < unit }
     requires within { LieWithin unit (length used.now) entry.now.extents }
     ensures { reason_of result
         ≡ overlap_fault (first_overlap (is_taken used.now) (units_in unit entry.now.extents)) }
 {
-    match used.overlap(&entry.extents, unit) {
+    match used.overlap(&entry.to_extents(), unit) {
         Some(taken) => AddFault::Overlap(taken),
         None => AddFault::OutOfMemory,
     }
 }
 
 /// The first fault against an entry, by what its tree said.
-fn first_fault(fault: ApplyFault, used: &AllocMap, entry: &Entry, unit: u64) -> AddFault
+fn first_fault(fault: ApplyFault, used: &AllocMap, entry: &EntryRef<'_>, unit: u64) -> AddFault
     requires unit { 0 < unit }
     requires within { LieWithin unit (length used.now) entry.now.extents }
     ensures { reason_of result ≡ or_else (tree.reason_of fault)
@@ -83,11 +83,12 @@ impl Plan {
         let units = params.device / params.unit;
         let head = (LOG_OFFSET + params.log_length) / params.unit;
         let map = AllocMap::new(alloc, units, head)?;
+        let order = Order::new(alloc)?;
         Ok(Plan {
             params: *params,
             tree: Tree::new(alloc),
             ledger: Ledger {
-                order: Order::new(alloc),
+                order,
                 used: Used {
                     map,
                     unit: params.unit,
@@ -110,6 +111,25 @@ impl Plan {
     /// Adds a proper entry behind the others, where it joins them and a slot is left for it. A fault leaves the plan as
     /// it was.
     pub fn add(&mut self, entry: &Entry) -> Result<(), AddFault>
+        requires proper { Proper self.old.params entry.now }
+        requires left { length self.old.entries < self.old.params.slots }
+
+        ensures joins { OnOk result (join_fault self.old.params self.old.entries entry.now ≡ None) }
+        ensures added { OnOk result (self.new.entries ≡ self.old.entries ++ entry.now ∷ []) }
+
+        // Every fault but out of memory comes exactly where it is the first against the entry.
+        ensures cause { IfErr result (λ fault. reason_of fault
+            ≡ join_fault self.old.params self.old.entries entry.now) }
+        ensures same { OnErr result (self.new ≡ self.old) }
+
+        ensures params { self.new.params ≡ self.old.params }
+        ensures once { IsOnce (list_units self.new.params.unit self.new.entries) }
+    {
+        self.add_borrowed(&EntryRef::of(entry))
+    }
+
+    /// Adds an entry as `add` does, which is borrowed.
+    pub fn add_borrowed(&mut self, entry: &EntryRef<'_>) -> Result<(), AddFault>
         requires proper { Proper self.old.params entry.now }
         requires left { length self.old.entries < self.old.params.slots }
 

@@ -1,8 +1,7 @@
 //! The units that the entries of a plan use.
 
 use fam_alloc::AllocMap;
-use fam_base::Entry;
-use fam_tree::Beside;
+use fam_tree::{Beside, EntryRef};
 
 /// Which units are used, and how many bytes a unit has.
 #[derive(Drop)]
@@ -18,7 +17,10 @@ impl Beside for Used {
 
     ghost grown = { HasTaken };
 
-    fn grow(&mut self, entry: &Entry) -> bool {
-        self.map.take(&entry.extents, self.unit).is_ok()
+    fn grow(&mut self, entry: &EntryRef<'_>) -> bool {
+        if entry.extents().is_empty() {
+            return true;
+        }
+        self.map.take(&entry.to_extents(), self.unit).is_ok()
     }
 }

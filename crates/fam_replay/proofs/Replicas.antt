@@ -1,5 +1,5 @@
 -- What is kept of slots is found again.
-use Rattle.std.proofs.Common.{◌≡◌, ℕ, ◌+◌, ◌<◌, ◌≤◌, List, [], ◌∷◌, ◌++◌, length, take, get_or, Option, Some, None, Result, Ok, Err, sym, ap, subst, ◌∙◌, arith}
+use Rattle.std.proofs.Common.{◌≡◌, ℕ, ◌+◌, ◌-◌, ◌<◌, ◌≤◌, List, [], ◌∷◌, ◌++◌, length, take, get_or, Option, Some, None, Result, Ok, Err, sym, ap, subst, ◌∙◌, arith}
 use Rattle.std.specs.Prelude.{IfOk}
 use Rattle.std.specs.List.{slice_get}
 use Rattle.std.proofs.lemmas.List.{get_or-take, length-take, length-take-le, take_all, take_more}
@@ -10,13 +10,16 @@ use Rattle.fam_format.specs.declared.faults.Reason.{Reason}
 use Rattle.fam_format.specs.Slot.{entry_of}
 use Rattle.fam_format.specs.Tree.{join_fault}
 use Rattle.fam_plan.specs.State.{PlanState, IsHistory}
-use Rattle.fam_replay.specs.Replica.{AreRead, IsReplica, FindsNext, ReplicaState}
+use Rattle.fam_replay.specs.Replica.{AreKeptAt, AreRead, IsReplica, FindsNext, ReplicaState}
 use Rattle.fam_replay.specs.Replay.{entries_in, HasFoundAll, IsAgainst, IsReplayOf, Joins, ReadsNext, Refused}
 
 -- The next entry is one that is kept.
-module _ (s : PlanState) (slots : List (List ℕ)) (found : ℕ) (words : List ℕ) (is : IsReplica s slots found) (history : IsHistory s) (kept : slice_get slots found ≡ Some words) where
+module _ (s : PlanState) (first : ℕ) (slots : List (List ℕ)) (found : ℕ) (words : List ℕ) (is : IsReplica s first slots found) (history : IsHistory s) (kept : AreKeptAt first slots found words) where
+  there : first + (found - first) ≡ found
+  there = omega (arith, kept.behind)
+
   pub below : found < length s.entries
-  below = omega (arith, slice_get_within slots found words kept, is.read.few)
+  below = omega (arith, there, is.read.few (found - first) (slice_get_within slots (found - first) words kept.here))
 
   count : length (take found s.entries) ≡ found
   count = length-take-le found s.entries (omega (arith, below))
@@ -32,7 +35,9 @@ module _ (s : PlanState) (slots : List (List ℕ)) (found : ℕ) (words : List �
       let e = entry_there.0 in
       record {
         entry = e;
-        read = subst (λ (k : ℕ). entry_of s.params words k ≡ Ok e) (sym count) (is.read.read found words e kept entry_there.1);
+        read =
+            subst (λ (k : ℕ). entry_of s.params words k ≡ Ok e) (there ∙ sym count)
+            (is.read.read (found - first) words e kept.here (ap (slice_get s.entries) there ∙ entry_there.1));
         joins = (history.added found e entry_there.1).joins;
         added = take_more s.entries found e below ∙ ap (λ (x : Entry). take found s.entries ++ x ∷ []) (get_or_from_slice_get s.entries found e e entry_there.1);
       }
@@ -44,11 +49,13 @@ in_front xs n i x is =
     slice_get-get_or xs i x (omega (arith, within, length-take n xs))
     ∙ ap (λ y. Some y) (sym (get_or-take n xs i x (omega (arith, within, length-take n xs))) ∙ get_or_from_slice_get (take n xs) i x x is)
 
--- the words of the first slots tell the first entries
-pub read_first : (p : Params) (slots : List (List ℕ)) (entries : List Entry) (n : ℕ) → AreRead p slots entries → AreRead p (take n slots) (take n entries)
-read_first p slots entries n are = record {
-  few = omega (arith, are.few, length-take n slots, length-take n entries);
-  read = λ i words e kept there. are.read i words e (in_front slots n i words kept) (in_front entries n i e there);
+-- the words of the slots among the first tell the entries among these
+pub read_first : (p : Params) (first : ℕ) (slots : List (List ℕ)) (entries : List Entry) (n : ℕ) → AreRead p first slots entries → AreRead p first (take (n - first) slots) (take n entries)
+read_first p first slots entries n are = record {
+  few = λ i within.
+      let below = are.few i (omega (arith, within, length-take (n - first) slots)) in
+      omega (arith, within, below, length-take (n - first) slots, length-take n entries);
+  read = λ i words e kept there. are.read i words e (in_front slots (n - first) i words kept) (in_front entries n (first + i) e there);
 }
 
 -- where all entries were found, those that were found are all

@@ -1,5 +1,5 @@
 -- What is kept of the slots that were read: their words, and the entries that these told.
-use Rattle.std.specs.Prelude.{ℕ, ◌≡◌, ◌≤◌, ◌⊎◌, List, [], ◌∷◌, ◌++◌, length, slice_get, take, None, Some, Ok, refl}
+use Rattle.std.specs.Prelude.{ℕ, ◌≡◌, ◌+◌, ◌-◌, ◌<◌, ◌≤◌, ◌⊎◌, List, [], ◌∷◌, ◌++◌, length, slice_get, take, None, Some, Ok, refl}
 use Rattle.std.specs.Coded.{Coded, code_by, coded×, coded_list, coded_ℕ}
 use Rattle.fam_base.specs.contracts.entry.Entry as entry_type
 use Rattle.fam_base.specs.contracts.entry.Params as params_type
@@ -32,20 +32,25 @@ all_of s = record { params = s.params; entries = s.entries; found = length s.ent
 abbrev pub AreAllFound : ReplicaState → Type 0
 AreAllFound s = length s.entries ≤ s.found
 
--- the words of slots 0, 1, .. tell the entries at these places
-pub record AreRead (p : Params) (slots : List (List ℕ)) (entries : List Entry) : Type 0 where
-  pub few : length slots ≤ length entries
-  pub read : (i : ℕ) (words : List ℕ) (e : Entry) → slice_get slots i ≡ Some words → slice_get entries i ≡ Some e
-      → entry_of p words i ≡ Ok e
+-- the words of slots `first`, `first` + 1, .. tell the entries at these places
+pub record AreRead (p : Params) (first : ℕ) (slots : List (List ℕ)) (entries : List Entry) : Type 0 where
+  pub few : (i : ℕ) → i < length slots → first + i < length entries
+  pub read : (i : ℕ) (words : List ℕ) (e : Entry) → slice_get slots i ≡ Some words → slice_get entries (first + i) ≡ Some e
+      → entry_of p words (first + i) ≡ Ok e
 
--- a plan, the words of the first of its slots, and how many of its entries were found
-pub record IsReplica (s : PlanState) (slots : List (List ℕ)) (found : ℕ) : Type 0 where
-  pub read : AreRead s.params slots s.entries
+-- a plan, the words of its slots from the first one on whose words are kept, and how many of its entries were found
+pub record IsReplica (s : PlanState) (first : ℕ) (slots : List (List ℕ)) (found : ℕ) : Type 0 where
+  pub read : AreRead s.params first slots s.entries
   pub within : found ≤ length s.entries
 
--- the words behind those of so many slots, or nothing more
-abbrev pub KeepsWords : ℕ → List ℕ → List (List ℕ) → List (List ℕ) → Type 0
-KeepsWords count words old new = (new ≡ old) ⊎ ((length old ≡ count) × (new ≡ old ++ words ∷ []))
+-- these words are kept of a slot
+pub record AreKeptAt (first : ℕ) (slots : List (List ℕ)) (slot : ℕ) (words : List ℕ) : Type 0 where
+  pub behind : first ≤ slot
+  pub here : slice_get slots (slot - first) ≡ Some words
+
+-- the words of a slot are kept too, behind those of all slots between the first one and this, or nothing more
+abbrev pub KeepsWords : ℕ → ℕ → List ℕ → List (List ℕ) → List (List ℕ) → Type 0
+KeepsWords first slot words old new = (new ≡ old) ⊎ ((first + length old ≡ slot) × (new ≡ old ++ words ∷ []))
 
 -- the words of the slot behind some entries tell one that joins these
 pub record JoinsNext (p : Params) (words : List ℕ) (list : List Entry) : Type 0 where

@@ -7,8 +7,9 @@ ghost use Rattle.fam_base.specs.Commands.{IsSoundCmd};
 ghost use Rattle.fam_base.specs.declared.entry.Params.{Params};
 ghost use Rattle.fam_format.specs.Layout.{geometry};
 ghost use Rattle.fam_format.specs.Params.{SoundParams};
-ghost use Rattle.fam_format.specs.Slot.{entry_of, Proper};
+ghost use Rattle.fam_format.specs.Slot.{entry_of, fields_of, Proper};
 ghost use Rattle.fam_format.specs.Tree.{join_fault, replay};
+ghost use Rattle.fam_entry.specs.Tests.{HasFields};
 ghost use Rattle.fam_rules.specs.Decide.{decide, wish_of};
 ghost use Rattle.fam_plan.specs.Needs.{NeedsUnits};
 ghost use Rattle.fam_replay.specs.Replica.{FindsNext, JoinsNext, all_of};
@@ -16,11 +17,11 @@ ghost use Rattle.fam_replay.specs.Replay.{entries_in, HasFoundAll, IsAgainst, Is
 
 use crate::replica::{Replica, reason_or_memory};
 use fam_base::{Cmd, Entry, OutOfMemory, PATH_LIMIT, Params, Path};
-use fam_entry::{check_entry, checked_entry};
+use fam_entry::{bare_entry, borrowed_entry, check_entry, checked_entry, checked_extents};
 use fam_format::Reason;
 use fam_plan::{Plan, first_entry_fault, first_entry_refusal};
 use fam_rules::Refused;
-use fam_tree::Tree;
+use fam_tree::{EntryRef, Tree};
 use std::alloc::Global;
 use std::marker::Model;
 use uuid::Uuid;
@@ -60,7 +61,7 @@ fn take_over(kept: &mut Option<Replica>, keeps: bool, params: &Params, gate: u64
             if !replica.is_of(params, gate) {
                 return None;
             }
-            replica.rewind(keeps);
+            replica.rewind(0, keeps);
             Some(replica)
         }
         None => None,
@@ -68,13 +69,13 @@ fn take_over(kept: &mut Option<Replica>, keeps: bool, params: &Params, gate: u64
 }
 
 /// Why the first entry of a log doesn't join, where no memory is left for a plan.
-fn fault_alone(params: &Params, entry: &Entry) -> Result<Option<Reason>, OutOfMemory>
+fn fault_alone(params: &Params, entry: &EntryRef<'_>) -> Result<Option<Reason>, OutOfMemory>
     requires sound { SoundParams params.now }
     requires proper { Proper params.now entry.now }
     ensures fault { IfOk result (λ fault. Joins fault params.now [] entry.now []) }
     ensures want { OnErr result (join_fault params.now [] entry.now ≡ None) }
 {
-    reason_or_memory(first_entry_fault(params, entry))
+    reason_or_memory(first_entry_fault(params, &entry.to_entry()))
 }
 
 /// Why a command appends no first entry to a log, where no memory is left for a plan.
@@ -150,11 +151,28 @@ impl Replay {
         replica.or(kept)
     }
 
+    /// What was read, if a slot was.
+    pub fn into_replica(self) -> Option<Replica>
+        ensures { result ≡ self }
+    {
+        self.replica
+    }
+
     /// Goes on behind the entries of a plan, as if their slots had been read.
     pub fn begin_behind(&mut self, plan: Plan)
         ensures { self.new ≡ Some (all_of plan) }
     {
-        self.replica = Some(Replica::of(self.alloc, plan));
+        self.replica = Some(Replica::of(self.alloc, plan, self.keeps));
+    }
+
+    /// Goes on behind so many entries of an earlier reading, as if their slots had been read. Those behind them are kept
+    /// from that.
+    pub fn resume_behind(&mut self, mut replica: Replica, found: u64)
+        requires { found ≤ length replica.entries }
+        ensures { self.new ≡ Some (record replica { found = found }) }
+    {
+        replica.rewind(found, self.keeps);
+        self.replica = Some(replica);
     }
 
     /// How many entries were found.
@@ -241,7 +259,7 @@ impl Replay {
         params: &Params,
         gate: u64,
         words: &[u64],
-        entry: &Entry,
+        entry: &EntryRef<'_>,
     ) -> Result<Option<Reason>, OutOfMemory>
         requires sound { SoundParams params.now }
         requires fits { IsReplayOf params.now gate self.old }
@@ -264,6 +282,37 @@ impl Replay {
         }
     }
 
+    /// The entry of the next slot, whose words were checked, joins those that were found, or not.
+    fn join_checked(
+        &mut self,
+        params: &Params,
+        gate: u64,
+        words: &[u64],
+        field: &[u8; PATH_LIMIT],
+    ) -> Result<Option<Reason>, OutOfMemory>
+        requires sound { SoundParams params.now }
+        requires long { 64 ≤ length words.now }
+        requires fields { HasFields words.now field.now }
+        requires fits { IsReplayOf params.now gate self.old }
+        requires gate { gate ≤ params.now.slots }
+        requires left { length (entries_in self.old) < gate }
+        requires proper { Proper params.now (fields_of words.now) }
+        requires read { entry_of params.now words.now (length (entries_in self.old)) ≡ Ok (fields_of words.now) }
+        ensures joins { IfOk result (λ fault.
+            Joins fault params.now (entries_in self.old) (fields_of words.now) (entries_in self.new)) }
+        ensures fits { IsReplayOf params.now gate self.new }
+        ensures err { OnErr result (entries_in self.new ≡ entries_in self.old) }
+        ensures want { OnErr result
+            (join_fault params.now (entries_in self.old) (fields_of words.now) ≡ None) }
+    {
+        if let Some(entry) = bare_entry(words, field) {
+            return self.join(params, gate, words, &entry);
+        }
+        let extents = checked_extents(words);
+        let entry = borrowed_entry(words, field, extents.as_slice());
+        self.join(params, gate, words, &entry)
+    }
+
     /// Reads the words of the next slot as an entry's.
     fn judge(
         &mut self,
@@ -284,10 +333,7 @@ impl Replay {
     {
         let mut field = [0; PATH_LIMIT];
         match check_entry(words, self.count(), params, &mut field) {
-            Ok(()) => {
-                let entry = checked_entry(words, &field);
-                self.join(params, gate, words, &entry)
-            }
+            Ok(()) => self.join_checked(params, gate, words, &field),
             Err(reason) => Ok(Some(reason)),
         }
     }

@@ -1,7 +1,7 @@
 //! What is kept of the log that was read: a slot that has the words which an earlier reading found is neither read nor
 //! judged again.
 
-ghost use Rattle.std.specs.Prelude.{◌≡◌, ◌+◌, [], ◌<◌, ◌≤◌, ℕ, true, false, None, Some, Ok, IfOk, IfSome, IsSome, OnOk, OnErr, length, max, option_map, slice_get, take};
+ghost use Rattle.std.specs.Prelude.{◌≡◌, ◌+◌, [], ◌<◌, ◌≤◌, ℕ, true, false, None, Some, Ok, IfOk, IfSome, IsSome, OnOk, OnErr, length, max, take};
 ghost use Rattle.std.specs.FinMap as map;
 ghost use Rattle.fam_base.specs.Commands.{IsSoundCmd};
 ghost use Rattle.fam_format.specs.Params.{SoundParams};
@@ -9,7 +9,7 @@ ghost use Rattle.fam_format.specs.Slot.{entry_of, Proper};
 ghost use Rattle.fam_format.specs.Tree.{join_fault, replay};
 ghost use Rattle.fam_rules.specs.Decide.{decide, wish_of};
 ghost use Rattle.fam_plan.specs.Faults.{reason_of};
-ghost use Rattle.fam_replay.specs.Replica.{AreRead, FindsNext, AreAllFound, KeepsWords, all_of, found_in};
+ghost use Rattle.fam_replay.specs.Replica.{AreKeptAt, AreRead, FindsNext, AreAllFound, KeepsWords, all_of, found_in};
 ghost use Rattle.fam_replay.specs.Replay.{IsReplayOf, IsRoomFor, Joins};
 
 use crate::kept_slot::KeptSlot;
@@ -18,7 +18,7 @@ use fam_base::{Cmd, Entry, OutOfMemory, Params, Path};
 use fam_format::Reason;
 use fam_plan::{AddFault, Plan};
 use fam_rules::Refused;
-use fam_tree::Tree;
+use fam_tree::{EntryRef, Tree};
 use std::alloc::Global;
 use std::marker::Model;
 use uuid::Uuid;
@@ -28,7 +28,9 @@ use uuid::Uuid;
 #[derive(Drop)]
 pub struct Replica {
     plan: Plan,
-    /// The words of the first slots, where they are kept.
+    /// The first slot whose words are kept.
+    first: u64,
+    /// The words of that slot and of those behind it, as far as they are kept.
     slots: Vec<KeptSlot>,
     /// How many of the plan's entries the reading has found.
     found: u64,
@@ -45,7 +47,7 @@ impl Model for Replica {
 
     ghost view = { λ r. record { params = r.plan.params; entries = r.plan.entries; found = r.found } };
 
-    ghost invariant = { λ r. IsReplica r.plan r.slots.items r.found };
+    ghost invariant = { λ r. IsReplica r.plan r.first r.slots.items r.found };
 }
 
 /// Forgets the entries behind the first `found`, and the words of their slots, where there are any. Where memory lacks
@@ -54,18 +56,19 @@ impl Model for Replica {
 fn forget(
     alloc: Global,
     plan: &mut Plan,
+    first: u64,
     slots: &mut Vec<KeptSlot>,
     found: u64,
 ) -> Result<(), OutOfMemory>
-    requires read { AreRead plan.old.params slots.old.items plan.old.entries }
+    requires read { AreRead plan.old.params first slots.old.items plan.old.entries }
     requires within { found ≤ length plan.old.entries }
-    ensures read { AreRead plan.new.params slots.new.items plan.new.entries }
+    ensures read { AreRead plan.new.params first slots.new.items plan.new.entries }
     ensures first { OnOk result (plan.new.entries ≡ take found plan.old.entries) }
     ensures same { OnErr result (plan.new ≡ plan.old) }
     ensures params { plan.new.params ≡ plan.old.params }
 {
     if found < plan.count() {
-        return forget_some(alloc, plan, slots, found);
+        return forget_some(alloc, plan, first, slots, found);
     }
     Ok(())
 }
@@ -75,18 +78,19 @@ fn forget(
 fn forget_some(
     alloc: Global,
     plan: &mut Plan,
+    first: u64,
     slots: &mut Vec<KeptSlot>,
     found: u64,
 ) -> Result<(), OutOfMemory>
-    requires read { AreRead plan.old.params slots.old.items plan.old.entries }
+    requires read { AreRead plan.old.params first slots.old.items plan.old.entries }
     requires within { found < length plan.old.entries }
-    ensures read { AreRead plan.new.params slots.new.items plan.new.entries }
+    ensures read { AreRead plan.new.params first slots.new.items plan.new.entries }
     ensures first { OnOk result (plan.new.entries ≡ take found plan.old.entries) }
     ensures same { OnErr result (plan.new ≡ plan.old) }
     ensures params { plan.new.params ≡ plan.old.params }
 {
     *plan = plan.first(alloc, found)?;
-    slots.truncate(found as usize);
+    slots.truncate(found.saturating_sub(first) as usize);
     Ok(())
 }
 
@@ -115,12 +119,19 @@ fn reason_against(fault: AddFault) -> Option<Reason>
     }
 }
 
-/// Keeps the words of a slot, if they are wanted and those of all slots before it are kept. Where memory lacks they are
-/// not.
-fn keep(alloc: Global, slots: &mut Vec<KeptSlot>, wanted: bool, slot: u64, words: &[u64])
-    ensures { KeepsWords slot words.now slots.old.items slots.new.items }
+/// Keeps the words of a slot, if they are wanted and those of all slots before it are kept, from the first one on. Where
+/// memory lacks they are not.
+fn keep(
+    alloc: Global,
+    first: u64,
+    slots: &mut Vec<KeptSlot>,
+    wanted: bool,
+    slot: u64,
+    words: &[u64],
+)
+    ensures { KeepsWords first slot words.now slots.old.items slots.new.items }
 {
-    if wanted && slots.len() as u64 == slot {
+    if wanted && first <= slot && slots.len() as u64 == slot - first {
         if let Ok(kept) = KeptSlot::new(alloc, words) {
             let _ = slots.push(kept);
         }
@@ -129,18 +140,21 @@ fn keep(alloc: Global, slots: &mut Vec<KeptSlot>, wanted: bool, slot: u64, words
 
 /// What is kept of a slot.
 #[inline(always)]
-fn kept_at(slots: &[KeptSlot], slot: u64) -> Option<&KeptSlot>
-    ensures { option_map (λ kept. kept.now) result ≡ slice_get slots.now slot }
+fn kept_at(first: u64, slots: &[KeptSlot], slot: u64) -> Option<&KeptSlot>
+    ensures { IfSome result (λ kept. AreKeptAt first slots.now slot kept.now) }
 {
-    slots.get(slot as usize)
+    if slot < first {
+        return None;
+    }
+    slots.get((slot - first) as usize)
 }
 
 /// Whether these are the words that are kept of a slot.
 #[inline(always)]
-fn is_kept(slots: &[KeptSlot], slot: u64, words: &[u64]) -> bool
-    ensures { result ≡ true → slice_get slots.now slot ≡ Some words.now }
+fn is_kept(first: u64, slots: &[KeptSlot], slot: u64, words: &[u64]) -> bool
+    ensures { result ≡ true → AreKeptAt first slots.now slot words.now }
 {
-    match kept_at(slots, slot) {
+    match kept_at(first, slots, slot) {
         Some(kept) => same_slot(kept.words(), words),
         None => false,
     }
@@ -154,35 +168,38 @@ impl Replica {
     {
         Ok(Replica {
             plan: Plan::new(alloc, params)?,
+            first: 0,
             slots: Vec::new(alloc),
             found: 0,
             keeps,
         })
     }
 
-    /// The entries of a plan, as if their slots had been read. No words of slots are kept.
-    pub(crate) fn of(alloc: Global, plan: Plan) -> Replica
+    /// The entries of a plan, as if their slots had been read. The words of slots behind them are kept, or not.
+    pub(crate) fn of(alloc: Global, plan: Plan, keeps: bool) -> Replica
         ensures { result ≡ all_of plan }
     {
         let found = plan.count();
         Replica {
             plan,
+            first: found,
             slots: Vec::new(alloc),
             found,
-            keeps: false,
+            keeps,
         }
     }
 
-    /// Begins another reading, which has found nothing so far. The words of further slots are kept, or not.
-    pub(crate) fn rewind(&mut self, keeps: bool)
-        ensures { self.new ≡ record self.old { found = 0 } }
+    /// Begins another reading, which has found so many entries so far. The words of further slots are kept, or not.
+    pub(crate) fn rewind(&mut self, found: u64, keeps: bool)
+        requires { found ≤ length self.old.entries }
+        ensures { self.new ≡ record self.old { found = found } }
     {
-        self.found = 0;
+        self.found = found;
         self.keeps = keeps;
     }
 
     /// Whether it is of the file system with these parameters, and the gate counts no fewer entries.
-    pub(crate) fn is_of(&self, params: &Params, gate: u64) -> bool
+    pub fn is_of(&self, params: &Params, gate: u64) -> bool
         ensures { result ≡ true → IsReplayOf params.now gate (Some self.now) }
     {
         self.plan.params() == params && self.plan.count() <= gate
@@ -197,7 +214,7 @@ impl Replica {
         ensures kept { self.new.entries ≡ self.old.entries }
         ensures params { self.new.params ≡ self.old.params }
     {
-        if !is_kept(&self.slots, self.found, words) {
+        if !is_kept(self.first, &self.slots, self.found, words) {
             return false;
         }
         self.plan.each_entry_joins();
@@ -211,7 +228,7 @@ impl Replica {
         &mut self,
         alloc: Global,
         words: &[u64],
-        entry: &Entry,
+        entry: &EntryRef<'_>,
     ) -> Result<Option<Reason>, OutOfMemory>
         requires proper { Proper self.old.params entry.now }
         requires left { length (found_in self.old) < self.old.params.slots }
@@ -224,13 +241,26 @@ impl Replica {
         ensures err { OnErr result (found_in self.new ≡ found_in self.old) }
         ensures want { OnErr result (join_fault self.old.params (found_in self.old) entry.now ≡ None) }
     {
-        match forget(alloc, &mut self.plan, &mut self.slots, self.found) {
+        match forget(
+            alloc,
+            &mut self.plan,
+            self.first,
+            &mut self.slots,
+            self.found,
+        ) {
             Ok(()) => {}
-            Err(_) => return reason_or_memory(self.plan.fault_among(self.found, entry)),
+            Err(_) => return reason_or_memory(self.plan.fault_among(self.found, &entry.to_entry())),
         }
-        match self.plan.add(entry) {
+        match self.plan.add_borrowed(entry) {
             Ok(()) => {
-                keep(alloc, &mut self.slots, self.keeps, self.found, words);
+                keep(
+                    alloc,
+                    self.first,
+                    &mut self.slots,
+                    self.keeps,
+                    self.found,
+                    words,
+                );
                 self.found = self.plan.count();
                 Ok(None)
             }

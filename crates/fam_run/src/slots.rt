@@ -2,7 +2,7 @@
 //! operations are such.
 
 ghost use Rattle.std.specs.Prelude.{◌≡◌, ◌+◌, ◌<◌, IfErr, IfOk, IsErrOf, false, true};
-ghost use Rattle.fam_format.specs.Layout.{geometry};
+ghost use Rattle.fam_format.specs.Layout.{geometry, slot_line};
 ghost use Rattle.fam_commands.specs.declared.phase.Part.TheVariants as part;
 ghost use Rattle.fam_commands.specs.declared.phase.Phase.TheVariants as at;
 ghost use Rattle.fam_media.specs.Causes.{IsSteady};
@@ -35,6 +35,7 @@ fn load_line<M: Media>(
     requires lines { task.old.lines ≡ M.size media.old }
     requires due { task.old.phase ≡ at.Drop (part.Slot due.slot) due.line }
     requires count { due.lines ≡ (geometry task.old.params).lines }
+    requires first { due.first ≡ slot_line task.old.params due.slot 0 }
 
     ensures loaded { IfOk result (λ loaded. loaded ≡ true → HasDone
         (task_change M.size M.state task.old task.new cache.old cache.new media.old media.new) Go) }
@@ -92,6 +93,7 @@ pub(crate) fn load_slot<M: Media>(
     requires due { task.old.phase ≡ at.Drop (part.Slot due.slot) due.line }
     requires below { due.line < due.lines }
     requires count { due.lines ≡ (geometry task.old.params).lines }
+    requires first { due.first ≡ slot_line task.old.params due.slot 0 }
 
     ensures advanced { Advanced
         (task_change M.size M.state task.old task.new cache.old cache.new media.old media.new) (said_of result turn.new) }
@@ -106,6 +108,7 @@ pub(crate) fn load_slot<M: Media>(
     'lines: for line in due.line + 1..due.lines {
         let next = SlotDue {
             slot: due.slot,
+            first: due.first,
             line,
             lines: due.lines,
         };

@@ -1,5 +1,5 @@
 -- The entries that a task has: those that its host keeps, where they serve, and those of the slots that it read.
-use Rattle.std.specs.Prelude.{⊤, ◌≡◌, ◌<◌, Bool, true, false, if◌then◌else◌, List, [], length, Option, Some, None, refl}
+use Rattle.std.specs.Prelude.{⊤, ◌≡◌, ◌<◌, Bool, true, false, if◌then◌else◌, List, [], length, take, Option, Some, None, refl}
 use Rattle.std.specs.Coded.{Coded, code_by, coded×, coded_list}
 use Rattle.fam_base.specs.declared.entry.Entry.{Entry}
 use Rattle.fam_base.specs.declared.entry.Params.{Params}
@@ -8,7 +8,7 @@ use Rattle.fam_base.specs.contracts.entry.Params as params_type
 use Rattle.fam_commands.specs.Kept.{Kept}
 use Rattle.fam_plan.specs.State.{PlanState}
 use Rattle.fam_replay.specs.Replay.{entries_in}
-use Rattle.fam_replay.specs.Replica.{ReplicaState}
+use Rattle.fam_replay.specs.Replica.{ReplicaState, found_in}
 
 -- what a host keeps has a code, so that it can be what contracts see
 abbrev pub kept_code : Coded Kept
@@ -38,6 +38,29 @@ abbrev pub MayServe : Bool → Option Kept → Type 0
 MayServe false kept = ⊤
 MayServe true None = ⊥
 MayServe true (Some k) = 0 < length k.entries
+
+-- what was read stands behind the entries that a host keeps: these are the first of it
+pub record IsBehind (k : Kept) (s : ReplicaState) : Type 0 where
+  pub params : s.params ≡ k.params
+  pub some : 0 < length k.entries
+  pub first : take (length k.entries) (found_in s) ≡ k.entries
+
+-- so it is where a task reads on behind them
+abbrev pub MayFollow : Bool → Option Kept → Option ReplicaState → Type 0
+MayFollow false kept read = ⊤
+MayFollow true None read = ⊥
+MayFollow true (Some k) None = ⊥
+MayFollow true (Some k) (Some s) = IsBehind k s
+
+-- what an earlier task read begins with the entries that the host keeps
+pub record BeginsWith (k : Kept) (s : ReplicaState) : Type 0 where
+  pub params : s.params ≡ k.params
+  pub first : take (length k.entries) s.entries ≡ k.entries
+
+-- so it is where an earlier task read anything
+abbrev pub MayResume : Kept → Option ReplicaState → Type 0
+MayResume k None = ⊤
+MayResume k (Some s) = BeginsWith k s
 
 -- a host keeps this of what was read
 abbrev pub kept_of : Params → Option ReplicaState → Kept

@@ -1,7 +1,7 @@
 //! The entries that a task has: those that its host keeps, where they serve, and those of the slots that it read.
 //!
-//! What the host keeps is never changed. A task that reads no slot looks at it where it stands, and the first slot that
-//! is read makes a copy, behind which the task reads on.
+//! What the host keeps is never changed. A task that reads no slot looks at it where it stands. The first slot that is
+//! read makes a copy, behind which the task reads on; or an earlier task made one, and this task goes on with that.
 
 ghost use Rattle.std.specs.Prelude.{◌≡◌, ◌≤◌, ◌<◌, ℕ, [], None, Ok, Some, IfOk, IfSome, IsSome, OnErr, OnOk, false, length, option_map, true};
 ghost use Rattle.std.specs.FinMap as map;
@@ -17,7 +17,7 @@ ghost use Rattle.fam_plan.specs.Needs.{NeedsUnits};
 ghost use Rattle.fam_replay.specs.Replica.{JoinsNext};
 ghost use Rattle.fam_replay.specs.Replay.{entries_in, HasFoundAll, IsAgainst, IsReplayOf, IsRoomFor, ReadsNext};
 ghost use Rattle.fam_rules.specs.Decide.{decide, wish_of};
-ghost use Rattle.fam_tasks.specs.History.{MayServe, kept_of, read_by};
+ghost use Rattle.fam_tasks.specs.History.{MayFollow, MayServe, kept_of, read_by};
 
 use crate::kept::Kept;
 use fam_base::{Cmd, Entry, OutOfMemory, Params, Path};
@@ -37,57 +37,84 @@ pub(crate) struct History {
     kept: Option<Kept>,
     /// Whether the task begins with the kept entries, and has read no slot so far.
     serves: bool,
+    /// Whether the slots that it reads stand behind the kept entries.
+    follows: bool,
     replay: Replay,
 }
 
 impl Model for History {
-    ghost use Rattle.fam_tasks.specs.History.{HistoryState, MayServe, read_by};
+    ghost use Rattle.fam_tasks.specs.History.{HistoryState, MayFollow, MayServe, read_by};
 
     ghost Value = { HistoryState };
 
     ghost view = { λ h. record { kept = h.kept; replay = read_by h.serves h.kept h.replay } };
 
-    ghost invariant = { λ h. MayServe h.serves h.kept };
+    ghost invariant = { λ h. MayServe h.serves h.kept × MayFollow h.follows h.kept h.replay };
 }
 
-/// The kept entries become those of a replay, in a copy. It stands apart, since it is done once.
+/// The kept entries become those of a replay, with what an earlier task read behind them, or in a copy. It stands apart,
+/// since it is done once.
 #[inline(never)]
-fn begin_behind(alloc: Global, kept: &Option<Kept>, replay: &mut Replay) -> Result<(), OutOfMemory>
-    requires some { MayServe true kept.now }
-    ensures read { OnOk result (replay.new ≡ read_by true kept.now replay.old) }
+fn begin_behind(
+    alloc: Global,
+    kept: &mut Kept,
+    replay: &mut Replay,
+    params: &Params,
+    gate: u64,
+) -> Result<(), OutOfMemory>
+    requires some { 0 < length kept.old.entries }
+    requires params { kept.old.params ≡ params.now }
+    requires gate { length kept.old.entries ≤ gate }
+    ensures follows { OnOk result (MayFollow true (Some kept.new) replay.new) }
+    ensures entries { OnOk result (entries_in replay.new ≡ kept.old.entries) }
+    ensures fits { OnOk result (IsReplayOf params.now gate replay.new) }
     ensures err { OnErr result (replay.new ≡ replay.old) }
+    ensures kept { kept.new ≡ kept.old }
 {
-    match kept {
-        Some(kept) => {
-            replay.begin_behind(kept.plan().copy(alloc)?);
-            Ok(())
-        }
-        None => unreachable!(),
+    match kept.resume(params, gate) {
+        Some(read) => replay.resume_behind(read, kept.count()),
+        None => replay.begin_behind(kept.plan().copy(alloc)?),
     }
+    Ok(())
 }
 
-/// Leaves the kept entries where they stand: where they serve, the slots behind them are read on a copy.
+/// Leaves the kept entries where they stand: where they serve, the slots behind them are read by a replay that begins with
+/// them.
 #[inline(always)]
 fn go_behind(
     alloc: Global,
-    kept: &Option<Kept>,
+    kept: &mut Option<Kept>,
     serves: &mut bool,
+    follows: &mut bool,
     replay: &mut Replay,
+    params: &Params,
+    gate: u64,
 ) -> Result<(), OutOfMemory>
-    requires { MayServe serves.old kept.now }
-    ensures read { OnOk result (replay.new ≡ read_by serves.old kept.now replay.old) }
+    requires serves { MayServe serves.old kept.old }
+    requires follows { MayFollow follows.old kept.old replay.old }
+    requires fits { IsReplayOf params.now gate (read_by serves.old kept.old replay.old) }
+    ensures entries { OnOk result (entries_in replay.new ≡ entries_in (read_by serves.old kept.old replay.old)) }
+    ensures fits { OnOk result (IsReplayOf params.now gate replay.new) }
     ensures left { OnOk result (serves.new ≡ false) }
+    ensures follows { MayFollow follows.new kept.new replay.new }
+    ensures kept { kept.new ≡ kept.old }
     ensures replay { OnErr result (replay.new ≡ replay.old) }
     ensures serves { OnErr result (serves.new ≡ serves.old) }
-    ensures some { OnErr result (MayServe true kept.now) }
+    ensures some { OnErr result (MayServe true kept.old) }
     ensures served { OnErr result (serves.old ≡ true) }
 {
     if !*serves {
         return Ok(());
     }
-    begin_behind(alloc, kept, replay)?;
-    *serves = false;
-    Ok(())
+    match kept {
+        Some(kept) => {
+            begin_behind(alloc, kept, replay, params, gate)?;
+            *serves = false;
+            *follows = true;
+            Ok(())
+        }
+        None => unreachable!(),
+    }
 }
 
 /// Why the words of the slot behind the kept entries add none to them, found without memory.
@@ -138,6 +165,7 @@ impl History {
             alloc,
             kept,
             serves: false,
+            follows: false,
             replay: Replay::new(alloc),
         }
     }
@@ -158,15 +186,24 @@ impl History {
         self.replay.remember(replica);
     }
 
-    /// What the host keeps; and where that is nothing, what its next command may find again.
+    /// What the host keeps; and where that is nothing, what its next command may find again. Where it keeps something, that
+    /// stands with it.
     pub(crate) fn into_parts(self) -> (Option<Kept>, Option<Replica>)
         ensures { result.0 ≡ self.kept }
     {
-        let History { kept, replay, .. } = self;
-        match kept {
-            Some(kept) => (Some(kept), None),
-            None => (None, replay.into_kept()),
+        let History {
+            kept,
+            follows,
+            replay,
+            ..
+        } = self;
+        let Some(mut kept) = kept else {
+            return (None, replay.into_kept());
+        };
+        if follows {
+            kept.remember(replay.into_replica());
         }
+        (Some(kept), None)
     }
 
     /// Begins with the kept entries, where they serve, and says how many these are: the first slot that is to be read.
@@ -228,7 +265,16 @@ impl History {
         ensures want { OnErr result (JoinsNext params.now words.now (entries_in self.old.replay)) }
         ensures kept { self.new.kept ≡ self.old.kept }
     {
-        if go_behind(self.alloc, &self.kept, &mut self.serves, &mut self.replay).is_err() {
+        let behind = go_behind(
+            self.alloc,
+            &mut self.kept,
+            &mut self.serves,
+            &mut self.follows,
+            &mut self.replay,
+            params,
+            gate,
+        );
+        if behind.is_err() {
             return reason_behind_kept(&self.kept, words);
         }
         self.replay.read_slot(params, gate, words)
@@ -311,6 +357,7 @@ impl History {
         if self.serves {
             return;
         }
+        self.follows = false;
         self.kept = Some(keep_found(&mut self.replay, params));
     }
 

@@ -1,10 +1,13 @@
 //! What a host keeps of the log that it has replayed.
 
-ghost use Rattle.std.specs.Prelude.{◌≡◌, ◌&&◌, ◌<◌, [], IfOk, length, nat_le, nat_lt};
+ghost use Rattle.std.specs.Prelude.{◌≡◌, ◌&&◌, ◌<◌, [], IfOk, IfSome, Some, length, nat_le, nat_lt};
 ghost use Rattle.fam_commands.specs.Kept.{AllJoin, is_same_params};
+ghost use Rattle.fam_replay.specs.Replay.{IsReplayOf};
+ghost use Rattle.fam_tasks.specs.History.{BeginsWith, MayResume};
 
 use fam_base::{OutOfMemory, Params};
 use fam_plan::Plan;
+use fam_replay::Replica;
 use std::alloc::Global;
 use std::marker::Model;
 
@@ -15,11 +18,13 @@ pub struct Kept {
     params: Params,
     /// The entries. A log without any takes no memory.
     plan: Option<Plan>,
+    /// What the host's last command read behind them, for the next one. No answer hangs on it.
+    read: Option<Replica>,
 }
 
 impl Model for Kept {
     ghost use Rattle.fam_commands.specs.Kept as spec;
-    ghost use Rattle.fam_tasks.specs.History.{IsPlanOf, kept_code, planned};
+    ghost use Rattle.fam_tasks.specs.History.{IsPlanOf, MayResume, kept_code, planned};
 
     ghost Value = { spec.Kept };
 
@@ -27,7 +32,8 @@ impl Model for Kept {
 
     ghost view = { λ k. record { params = k.params; entries = planned k.plan } };
 
-    ghost invariant = { λ k. IsPlanOf k.params k.plan };
+    ghost invariant = { λ k. IsPlanOf k.params k.plan
+        × MayResume (record { params = k.params; entries = planned k.plan }) k.read };
 }
 
 impl Kept {
@@ -39,6 +45,7 @@ impl Kept {
         Kept {
             params,
             plan: Some(plan),
+            read: None,
         }
     }
 
@@ -49,6 +56,7 @@ impl Kept {
         Kept {
             params: *params,
             plan: None,
+            read: None,
         }
     }
 
@@ -91,6 +99,28 @@ impl Kept {
     {
         let count = self.count();
         count > 0 && self.params == *params && count <= gate
+    }
+
+    /// What a command read behind the entries is held for the next one. It changes nothing that is kept.
+    pub(crate) fn remember(&mut self, read: Option<Replica>)
+        requires { MayResume self.old read }
+        ensures { self.new ≡ self.old }
+    {
+        self.read = read;
+    }
+
+    /// What the last command read behind the entries, where it is of the file system with these parameters and the gate counts
+    /// no fewer. The caller takes it over.
+    pub(crate) fn resume(&mut self, params: &Params, gate: u64) -> Option<Replica>
+        ensures begins { IfSome result (BeginsWith self.old) }
+        ensures fits { IfSome result (λ read. IsReplayOf params.now gate (Some read)) }
+        ensures same { self.new ≡ self.old }
+    {
+        let read = self.read.take()?;
+        if !read.is_of(params, gate) {
+            return None;
+        }
+        Some(read)
     }
 
     /// How many entries are kept.

@@ -1,5 +1,5 @@
 -- What stands at a place, in one of many chunks or behind them.
-use Rattle.std.proofs.Common.{◌≡◌, ℕ, zero, suc, ◌+◌, ◌-◌, ◌*◌, ◌<◌, ◌≤◌, List, [], ◌∷◌, ◌++◌, length, get_or, refl, sym, ap, inl, inr, ◌∙◌, arith}
+use Rattle.std.proofs.Common.{◌≡◌, ℕ, zero, suc, ◌+◌, ◌-◌, ◌*◌, ◌<◌, ◌≤◌, List, [], ◌∷◌, ◌++◌, length, get_or, refl, sym, ap, inl, inr, ◌∙◌, arith, length-append}
 use Rattle.std.specs.Prelude.{slice_get}
 use Rattle.std.proofs.lemmas.Option.{get_or_from_slice_get, slice_get-get_or, slice_get_cases, slice_get_within}
 use Rattle.std.specs.List.{AllByRecursion, flat_map}
@@ -37,6 +37,14 @@ module _ {X : Type 0} where
   -- all chunks, one behind another
   abbrev pub joined_chunks : List (List X) → List X
   joined_chunks full = flat_map (λ c. c) full
+
+  -- so many entries have full ones
+  pub full_length : (size : ℕ) (full : List (List X)) → AllByRecursion (λ c. length c ≡ size) full → length (joined_chunks full) ≡ size * length full
+  full_length size [] each = omega arith
+  full_length size (x ∷ full) each =
+      let parts = length-append x (joined_chunks full) in
+      let rest = full_length size full each.1 in
+      omega (arith, parts, rest, each.0)
 
   module _ (size : ℕ) (last : List X) where
     -- that of a chunk

@@ -5,7 +5,6 @@ pub mod Edits
 pub mod Nested
 pub mod Search
 pub mod ChunkPlaces
-pub mod PackedChunks
 pub mod RowLemmas
 pub mod ByteOrder
 pub mod RunPlaces

@@ -1,5 +1,6 @@
 pub mod Runs
 pub mod Rows
+pub mod Borrowed
 pub mod Chunks
 pub mod Lines
 pub mod NextExtent

@@ -7,7 +7,6 @@ use Rattle.fam_base.specs.Paths.{is_path}
 use Rattle.fam_base.specs.declared.entry.Entry.{Entry}
 use Rattle.fam_base.specs.declared.extents.Extent.{Extent}
 use Rattle.fam_tree.specs.declared.row.Row.{Row}
-use Rattle.fam_tree.specs.declared.shown.Shown.{Shown}
 
 -- the path of a row
 abbrev pub path_in : List ℕ → Row → List ℕ
@@ -21,11 +20,6 @@ extents_in extents row = slice_range extents row.extents_start (row.extents_star
 abbrev pub entry_of : List ℕ → List Extent → Row → Entry
 entry_of paths extents row =
     record { kind = row.kind; path = path_in paths row; size = row.size; mode = row.mode; uid = row.uid; gid = row.gid; map = row.map; extents = extents_in extents row }
-
--- the entry that is shown
-abbrev pub entry_shown : Shown → Entry
-entry_shown shown =
-    record { kind = shown.kind; path = shown.path.now; size = shown.size; mode = shown.mode; uid = shown.uid; gid = shown.gid; map = shown.map; extents = shown.extents.now }
 
 -- the entries of rows
 abbrev pub entries_of_rows : List ℕ → List Extent → List Row → List Entry

@@ -4,7 +4,7 @@ ghost use Rattle.std.specs.Prelude.{◌≡◌};
 ghost use Rattle.std.specs.Bool.{OnTrue, OnFalse};
 ghost use Rattle.fam_base.specs.declared.entry.Entry.{Entry};
 
-use fam_base::Entry;
+use crate::entry_ref::EntryRef;
 
 /// What grows with a tree, by each entry that joins it, or else keeps the entry from joining.
 pub trait Beside {
@@ -15,7 +15,7 @@ pub trait Beside {
     ghost grown: { Self → Entry → Self → Type 0 };
 
     /// Grows by an entry, and says whether it did. Else it is as before.
-    fn grow(&mut self, entry: &Entry) -> bool
+    fn grow(&mut self, entry: &EntryRef<'_>) -> bool
         requires { may_grow self.old entry.now }
         ensures grown { OnTrue result (grown self.old entry.now self.new) }
         ensures same { OnFalse result (self.new ≡ self.old) };
@@ -32,7 +32,7 @@ impl Beside for Nothing {
 
     ghost grown = { λ _ _ _. ⊤ };
 
-    fn grow(&mut self, _entry: &Entry) -> bool {
+    fn grow(&mut self, _entry: &EntryRef<'_>) -> bool {
         true
     }
 }

@@ -5,7 +5,8 @@ ghost use Rattle.std.specs.Bool.{OnTrue, OnFalse};
 
 use crate::beside::Beside;
 use crate::entry_list::EntryList;
-use fam_base::{Entry, OutOfMemory};
+use crate::entry_ref::EntryRef;
+use fam_base::OutOfMemory;
 use std::alloc::{AllocError, Global};
 use std::marker::Model;
 use std::rc::Rc;
@@ -70,7 +71,7 @@ impl Chunk {
     /// Puts an entry behind the others, where something else grows by it. Where another tree has them too, they are copied
     /// first. Else, and if there is no memory, nothing changes.
     #[inline(always)]
-    pub(crate) fn push<B: Beside>(&mut self, entry: &Entry, beside: &mut B) -> bool
+    pub(crate) fn push<B: Beside>(&mut self, entry: &EntryRef<'_>, beside: &mut B) -> bool
         requires { B.may_grow beside.old entry.now }
         ensures added { OnTrue result (self.new ≡ self.old ++ entry.now ∷ []) }
         ensures grown { OnTrue result (B.grown beside.old entry.now beside.new) }

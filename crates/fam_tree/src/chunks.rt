@@ -2,24 +2,23 @@
 
 ghost use Rattle.std.specs.Prelude.{◌≡◌, ◌<◌, ◌++◌, ◌∷◌, [], IfOk, length, slice_get};
 ghost use Rattle.std.specs.Bool.{OnTrue, OnFalse};
-ghost use Rattle.fam_tree.specs.Rows.{entry_shown};
+ghost use Rattle.fam_tree.specs.Chunks.{entries_held};
 ghost use Rattle.fam_tree.specs.Runs.{entry_at};
 
 use crate::beside::Beside;
-use crate::chunk::Chunk;
 use crate::entry_list::EntryList;
-use crate::packed::{find_in, put};
-use crate::shown::Shown;
+use crate::entry_ref::EntryRef;
+use crate::packed::Packed;
 use fam_base::{Entry, Kind, OutOfMemory};
 use std::alloc::Global;
 use std::marker::Model;
 
 /// Entries in the order in which they were added. Each chunk but the last one is full, so that one more entry changes none
-/// but that, and copies it where another list has it too.
+/// but that, and copies it where another list has it too. No entries take no memory.
 #[derive(Drop)]
 pub(crate) struct Chunks {
     alloc: Global,
-    chunks: Vec<Chunk>,
+    packed: Option<Packed>,
     len: usize,
 }
 
@@ -28,16 +27,40 @@ impl Model for Chunks {
     ghost use Rattle.std.specs.Coded.{coded_list};
     ghost use Rattle.fam_base.specs.declared.entry.Entry.{Entry};
     ghost use Rattle.fam_base.specs.contracts.entry.Entry as entry_type;
-    ghost use Rattle.fam_tree.specs.Chunks.{AreChunks};
-    ghost use Rattle.fam_tree.specs.Runs.{entries_in};
+    ghost use Rattle.fam_tree.specs.Chunks.{AreCounted, entries_held};
 
     ghost Value = { List Entry };
 
     ghost coded = { coded_list entry_type.the_row.coded };
 
-    ghost view = { λ c. entries_in c.chunks.items };
+    ghost view = { λ c. entries_held c.packed };
 
-    ghost invariant = { λ c. AreChunks c.chunks.items c.len };
+    ghost invariant = { λ c. AreCounted (entries_held c.packed) c.len };
+}
+
+/// Puts an entry behind the others, where something else grows by it. Else, and if there is no memory, nothing changes.
+fn put<B: Beside>(
+    packed: &mut Option<Packed>,
+    alloc: Global,
+    entry: &EntryRef<'_>,
+    beside: &mut B,
+) -> bool
+    requires { B.may_grow beside.old entry.now }
+    ensures added { OnTrue result (entries_held packed.new ≡ entries_held packed.old ++ entry.now ∷ []) }
+    ensures grown { OnTrue result (B.grown beside.old entry.now beside.new) }
+    ensures kept { OnFalse result (packed.new ≡ packed.old) }
+    ensures same { OnFalse result (beside.new ≡ beside.old) }
+{
+    if let Some(packed) = packed {
+        return packed.push(alloc, entry, beside);
+    }
+    match Packed::of(alloc, entry, beside) {
+        Ok(first) => {
+            *packed = Some(first);
+            true
+        }
+        Err(_) => false,
+    }
 }
 
 impl Chunks {
@@ -47,7 +70,7 @@ impl Chunks {
     {
         Chunks {
             alloc,
-            chunks: Vec::new(alloc),
+            packed: None,
             len: 0,
         }
     }
@@ -65,7 +88,10 @@ impl Chunks {
         requires { place < length self.now }
         ensures { slice_get result.0.now result.1 ≡ slice_get self.now place }
     {
-        find_in(&self.chunks, place)
+        match &self.packed {
+            Some(packed) => packed.find(place),
+            None => unreachable!(),
+        }
     }
 
     /// The entry at a place.
@@ -78,14 +104,14 @@ impl Chunks {
         list.at(i)
     }
 
-    /// What is shown of the entry at a place.
+    /// The entry at a place, borrowed.
     #[inline(always)]
-    pub(crate) fn shown_at(&self, place: usize) -> Shown<'_>
+    pub(crate) fn borrowed_at(&self, place: usize) -> EntryRef<'_>
         requires { place < length self.now }
-        ensures { entry_shown result ≡ entry_at self.now place }
+        ensures { result ≡ entry_at self.now place }
     {
         let (list, i) = self.find(place);
-        list.shown_at(i)
+        list.borrowed_at(i)
     }
 
     /// The kind of the entry at a place.
@@ -109,7 +135,7 @@ impl Chunks {
     }
 
     /// Puts an entry behind the others, where something else grows by it. Else, and if there is no memory, nothing changes.
-    pub(crate) fn push<B: Beside>(&mut self, entry: &Entry, beside: &mut B) -> bool
+    pub(crate) fn push<B: Beside>(&mut self, entry: &EntryRef<'_>, beside: &mut B) -> bool
         requires { B.may_grow beside.old entry.now }
         ensures added { OnTrue result (self.new ≡ self.old ++ entry.now ∷ []) }
         ensures grown { OnTrue result (B.grown beside.old entry.now beside.new) }
@@ -119,7 +145,7 @@ impl Chunks {
         let Some(len) = self.len.checked_add(1) else {
             return false;
         };
-        if !put(&mut self.chunks, self.alloc, entry, beside) {
+        if !put(&mut self.packed, self.alloc, entry, beside) {
             return false;
         }
         self.len = len;
@@ -130,10 +156,10 @@ impl Chunks {
     pub(crate) fn copy(&self, alloc: Global) -> Result<Chunks, OutOfMemory>
         ensures { IfOk result (λ chunks. chunks ≡ self.now) }
     {
-        match self.chunks.clone() {
-            Ok(chunks) => Ok(Chunks {
+        match self.packed.clone() {
+            Ok(packed) => Ok(Chunks {
                 alloc,
-                chunks,
+                packed,
                 len: self.len,
             }),
             Err(_) => Err(OutOfMemory),

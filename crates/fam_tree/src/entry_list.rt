@@ -4,12 +4,11 @@
 
 ghost use Rattle.std.specs.Prelude.{◌≡◌, ◌+◌, ◌<◌, ◌≤◌, ◌++◌, ◌∷◌, [], IfOk, length, vec_capacity, vec_len};
 ghost use Rattle.std.specs.Bool.{OnTrue, OnFalse};
-ghost use Rattle.fam_tree.specs.Rows.{entry_shown};
 ghost use Rattle.fam_tree.specs.Runs.{entry_at};
 
 use crate::beside::Beside;
+use crate::entry_ref::EntryRef;
 use crate::row::Row;
-use crate::shown::Shown;
 use fam_base::{Entry, Extent, Kind, OutOfMemory};
 use std::alloc::{AllocError, Global};
 use std::marker::Model;
@@ -109,13 +108,13 @@ impl EntryList {
         self.rows[place].entry(self.paths.as_slice(), self.extents.as_slice())
     }
 
-    /// What is shown of the entry at a place.
+    /// The entry at a place, borrowed.
     #[inline(always)]
-    pub(crate) fn shown_at(&self, place: usize) -> Shown<'_>
+    pub(crate) fn borrowed_at(&self, place: usize) -> EntryRef<'_>
         requires { place < length self.now }
-        ensures { entry_shown result ≡ entry_at self.now place }
+        ensures { result ≡ entry_at self.now place }
     {
-        self.rows[place].shown(self.paths.as_slice(), self.extents.as_slice())
+        self.rows[place].borrowed(self.paths.as_slice(), self.extents.as_slice())
     }
 
     /// The kind of the entry at a place.
@@ -137,7 +136,7 @@ impl EntryList {
 
     /// Puts an entry behind the others, where something else grows by it. Else, and if there is no memory, nothing changes.
     #[inline(always)]
-    pub fn push<B: Beside>(&mut self, entry: &Entry, beside: &mut B) -> bool
+    pub fn push<B: Beside>(&mut self, entry: &EntryRef<'_>, beside: &mut B) -> bool
         requires { B.may_grow beside.old entry.now }
         ensures added { OnTrue result (self.new ≡ self.old ++ entry.now ∷ []) }
         ensures grown { OnTrue result (B.grown beside.old entry.now beside.new) }
@@ -147,8 +146,8 @@ impl EntryList {
         let Some(row) = Row::new(entry, self.paths.len(), self.extents.len()) else {
             return false;
         };
-        let path = entry.path.bytes();
-        let extents = entry.extents.as_slice();
+        let path = entry.path();
+        let extents = entry.extents();
         if self.rows.reserve(1).is_err() {
             return false;
         }

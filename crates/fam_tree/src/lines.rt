@@ -5,11 +5,10 @@ ghost use Rattle.std.specs.Fmt.{decimal};
 ghost use Rattle.std.specs.List.{flat_map};
 ghost use Rattle.fam_tree.specs.Lines.{kind_letter, octal_digit, mode_text, space, extent_text, extents_text, map_text, entry_line, listing_line, listing};
 ghost use Rattle.fam_tree.specs.NextExtent.{next_text};
-ghost use Rattle.fam_tree.specs.Rows.{entry_shown};
 ghost use Rattle.fam_tree.specs.Runs.{AreWithin, run_of};
 
 use crate::chunks::Chunks;
-use crate::shown::Shown;
+use crate::entry_ref::EntryRef;
 use crate::tree::Tree;
 use fam_base::{Entry, Extent, Kind, MapKind, OutOfMemory, escape};
 use std::alloc::Global;
@@ -124,25 +123,25 @@ fn put_map(map: MapKind, extents: &[Extent], into: &mut Vec<u8>) -> Result<(), O
     }
 }
 
-pub(crate) fn put_entry(shown: &Shown<'_>, into: &mut Vec<u8>) -> Result<(), OutOfMemory>
-    ensures { OnOk result (into.new.items ≡ into.old.items ++ entry_line (entry_shown shown.now)) }
+pub(crate) fn put_entry(entry: &EntryRef<'_>, into: &mut Vec<u8>) -> Result<(), OutOfMemory>
+    ensures { OnOk result (into.new.items ≡ into.old.items ++ entry_line entry.now) }
 {
-    put_kind_and_mode(shown.kind, shown.mode, into)?;
-    put_decimal(shown.uid as u64, into)?;
+    put_kind_and_mode(entry.kind(), entry.mode(), into)?;
+    put_decimal(entry.uid() as u64, into)?;
     put_byte(b' ', into)?;
-    put_decimal(shown.gid as u64, into)?;
+    put_decimal(entry.gid() as u64, into)?;
     put_byte(b' ', into)?;
-    put_decimal(shown.size, into)?;
+    put_decimal(entry.size(), into)?;
     put_byte(b' ', into)?;
-    put_map(shown.map, shown.extents, into)?;
+    put_map(entry.map(), entry.extents(), into)?;
     put_byte(b' ', into)?;
-    escape(shown.path, into)
+    escape(entry.path(), into)
 }
 
-fn put_line(shown: &Shown<'_>, into: &mut Vec<u8>) -> Result<(), OutOfMemory>
-    ensures { OnOk result (into.new.items ≡ into.old.items ++ listing_line (entry_shown shown.now)) }
+fn put_line(entry: &EntryRef<'_>, into: &mut Vec<u8>) -> Result<(), OutOfMemory>
+    ensures { OnOk result (into.new.items ≡ into.old.items ++ listing_line entry.now) }
 {
-    put_entry(shown, into)?;
+    put_entry(entry, into)?;
     put_byte(b'\n', into)
 }
 
@@ -153,7 +152,7 @@ fn put_lines(entries: &Chunks, places: &[u32], into: &mut Vec<u8>) -> Result<(),
         ≡ into.old.items ++ flat_map listing_line (run_of entries.now places.now)) }
 {
     for place in places {
-        put_line(&entries.shown_at(*place as usize), into)?;
+        put_line(&entries.borrowed_at(*place as usize), into)?;
     }
     Ok(())
 }
@@ -165,7 +164,7 @@ pub fn print_entry(alloc: Global, entry: &Entry) -> Result<Vec<u8>, OutOfMemory>
     ensures { IfOk result (λ text. text.items ≡ entry_line entry.now) }
 {
     let mut text = Vec::new(alloc);
-    put_entry(&Shown::new(entry), &mut text)?;
+    put_entry(&EntryRef::of(entry), &mut text)?;
     Ok(text)
 }
 

@@ -7,10 +7,10 @@ ghost use Rattle.fam_tree.specs.Lines.{entry_line};
 ghost use Rattle.fam_tree.specs.Listings.{ComesBehind, LinesSay, ListingSays, played_line, text_lines};
 ghost use Rattle.fam_tree.specs.Said.{IsRead, NamesBad};
 
+use crate::entry_ref::EntryRef;
 use crate::fault::ListingFault;
 use crate::line_words::{cut, entry_of};
 use crate::lines::{put_decimal, put_entry};
-use crate::shown::Shown;
 use fam_base::{Entry, OutOfMemory, Path};
 use std::alloc::Global;
 
@@ -29,7 +29,7 @@ fn is_printed(entry: &Entry, line: &[u8], text: &mut Vec<u8>) -> Result<bool, Ou
     ensures { IfOk result (λ b. IsTrue b ↔ (line.now ≡ entry_line entry.now)) }
 {
     text.clear();
-    put_entry(&Shown::new(entry), text)?;
+    put_entry(&EntryRef::of(entry), text)?;
     Ok(text.as_slice() == line)
 }
 

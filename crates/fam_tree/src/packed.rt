@@ -1,81 +1,141 @@
 //! Chunks one behind another, of which each but the last one is full. `specs/Chunks.antt` says how.
 
-ghost use Rattle.std.specs.Prelude.{◌≡◌, ◌<◌, ◌++◌, ◌∷◌, [], length, slice_get};
+ghost use Rattle.std.specs.Prelude.{◌≡◌, ◌<◌, ◌++◌, ◌∷◌, [], IfOk, OnErr, OnOk, length, slice_get};
 ghost use Rattle.std.specs.Bool.{OnTrue, OnFalse};
-ghost use Rattle.fam_tree.specs.Chunks.{AreFull, ArePacked, HaveRoom};
-ghost use Rattle.fam_tree.specs.Runs.{entries_in};
+ghost use Rattle.fam_tree.specs.Chunks.{AreFull, ArePacked, packed_entries};
 
 use crate::beside::Beside;
 use crate::chunk::Chunk;
 use crate::entry_list::EntryList;
-use fam_base::Entry;
-use std::alloc::Global;
+use crate::entry_ref::EntryRef;
+use fam_base::OutOfMemory;
+use std::alloc::{AllocError, Global};
+use std::marker::Model;
+use std::mem::replace;
+use std::rc::Rc;
 
 /// How many entries a full chunk has.
 pub(crate) const CHUNK: usize = 256;
 
-/// The list in which the entry at a place stands, and where.
-#[inline(always)]
-pub(crate) fn find_in(chunks: &[Chunk], place: usize) -> (&EntryList, usize)
-    requires packed { ArePacked chunks.now }
-    requires within { place < length (entries_in chunks.now) }
-    ensures { slice_get result.0.now result.1 ≡ slice_get (entries_in chunks.now) place }
-{
-    (chunks[place / CHUNK].entries(), place % CHUNK)
+/// Entries in chunks: the full ones, whose list copies share too, and the last one, which grows.
+#[derive(Drop)]
+pub(crate) struct Packed {
+    full: Rc<Vec<Chunk>>,
+    last: Chunk,
 }
 
-/// Whether the last chunk has room for one more.
-pub(crate) fn has_room(chunks: &[Chunk]) -> bool
-    requires { ArePacked chunks.now }
-    ensures room { OnTrue result (HaveRoom chunks.now) }
-    ensures full { OnFalse result (AreFull chunks.now) }
-{
-    match chunks.last() {
-        Some(chunk) => chunk.len() < CHUNK,
-        None => false,
+impl Model for Packed {
+    ghost use Rattle.std.specs.Prelude.{List};
+    ghost use Rattle.std.specs.Coded.{coded_list};
+    ghost use Rattle.fam_base.specs.declared.entry.Entry.{Entry};
+    ghost use Rattle.fam_base.specs.contracts.entry.Entry as entry_type;
+    ghost use Rattle.fam_tree.specs.Chunks.{ArePacked, packed_entries};
+
+    ghost Value = { List Entry };
+
+    ghost coded = { coded_list entry_type.the_row.coded };
+
+    ghost view = { λ p. packed_entries p.full.value.items p.last };
+
+    ghost invariant = { λ p. ArePacked p.full.value.items p.last };
+}
+
+// Copies share all chunks, and the list of the full ones.
+impl Clone for Packed {
+    ghost is_clone = { λ packed copy. copy ≡ packed };
+
+    #[inline(always)]
+    fn clone(&self) -> Result<Packed, AllocError> {
+        let full = self.full.clone()?;
+        let last = self.last.clone()?;
+        Ok(Packed { full, last })
     }
 }
 
-/// Puts an entry into a new chunk behind the others, where something else grows by it. A first chunk takes memory as it
-/// grows, and any other one at once.
-fn begin<B: Beside>(chunks: &mut Vec<Chunk>, alloc: Global, entry: &Entry, beside: &mut B) -> bool
-    requires full { AreFull chunks.old.items }
-    requires beside { B.may_grow beside.old entry.now }
-    ensures packed { ArePacked chunks.new.items }
-    ensures added { OnTrue result (entries_in chunks.new.items ≡ entries_in chunks.old.items ++ entry.now ∷ []) }
-    ensures grown { OnTrue result (B.grown beside.old entry.now beside.new) }
-    ensures kept { OnFalse result (chunks.new.items ≡ chunks.old.items) }
-    ensures same { OnFalse result (beside.new ≡ beside.old) }
+/// Puts the last chunk, which is full, behind the others, and an empty one in its place. If there is no memory, nothing
+/// changes.
+fn close(full: &mut Vec<Chunk>, last: &mut Chunk, alloc: Global) -> bool
+    requires full { AreFull full.old.items }
+    requires last { length last.old ≡ CHUNK }
+    ensures packed { ArePacked full.new.items last.new }
+    ensures room { OnTrue result (length last.new < CHUNK) }
+    ensures entries { packed_entries full.new.items last.new ≡ packed_entries full.old.items last.old }
 {
-    let rows = if chunks.is_empty() { 0 } else { CHUNK };
-    let Ok(mut chunk) = Chunk::with_rows(alloc, rows) else {
+    let Ok(next) = Chunk::with_rows(alloc, CHUNK) else {
         return false;
     };
-    if chunks.reserve(1).is_err() || !chunk.push(entry, beside) {
+    if full.reserve(1).is_err() {
         return false;
     }
-    let _ = chunks.push(chunk);
+    let _ = full.push(replace(last, next));
     true
 }
 
-/// Puts an entry behind the others, where something else grows by it. Else, and if there is no memory, nothing changes.
-pub(crate) fn put<B: Beside>(
-    chunks: &mut Vec<Chunk>,
-    alloc: Global,
-    entry: &Entry,
-    beside: &mut B,
-) -> bool
-    requires packed { ArePacked chunks.old.items }
-    requires beside { B.may_grow beside.old entry.now }
-    ensures packed { ArePacked chunks.new.items }
-    ensures added { OnTrue result (entries_in chunks.new.items ≡ entries_in chunks.old.items ++ entry.now ∷ []) }
-    ensures grown { OnTrue result (B.grown beside.old entry.now beside.new) }
-    ensures kept { OnFalse result (entries_in chunks.new.items ≡ entries_in chunks.old.items) }
-    ensures same { OnFalse result (beside.new ≡ beside.old) }
+/// The same, of chunks whose list a copy may have too: it is copied first.
+fn close_shared(full: &mut Rc<Vec<Chunk>>, last: &mut Chunk, alloc: Global) -> bool
+    requires full { AreFull full.old.value.items }
+    requires last { length last.old ≡ CHUNK }
+    ensures packed { ArePacked full.new.value.items last.new }
+    ensures room { OnTrue result (length last.new < CHUNK) }
+    ensures entries { packed_entries full.new.value.items last.new ≡ packed_entries full.old.value.items last.old }
 {
-    if !has_room(chunks) {
-        return begin(chunks, alloc, entry, beside);
+    match Rc::make_mut(full) {
+        Ok(full) => close(full, last, alloc),
+        Err(_) => false,
     }
-    let last = chunks.len() - 1;
-    chunks[last].push(entry, beside)
+}
+
+impl Packed {
+    /// One entry, where something else grows by it. A first chunk takes memory as it grows, and any other one at once.
+    pub(crate) fn of<B: Beside>(
+        alloc: Global,
+        entry: &EntryRef<'_>,
+        beside: &mut B,
+    ) -> Result<Packed, OutOfMemory>
+        requires { B.may_grow beside.old entry.now }
+        ensures one { IfOk result (λ packed. packed ≡ entry.now ∷ []) }
+        ensures grown { OnOk result (B.grown beside.old entry.now beside.new) }
+        ensures same { OnErr result (beside.new ≡ beside.old) }
+    {
+        let Ok(full) = Rc::new(alloc, Vec::new(alloc)) else {
+            return Err(OutOfMemory);
+        };
+        let mut last = Chunk::with_rows(alloc, 0)?;
+        if !last.push(entry, beside) {
+            return Err(OutOfMemory);
+        }
+        Ok(Packed { full, last })
+    }
+
+    /// The list in which the entry at a place stands, and where.
+    #[inline(always)]
+    pub(crate) fn find(&self, place: usize) -> (&EntryList, usize)
+        requires { place < length self.now }
+        ensures { slice_get result.0.now result.1 ≡ slice_get self.now place }
+    {
+        let i = place % CHUNK;
+        match self.full.get(place / CHUNK) {
+            Some(chunk) => (chunk.entries(), i),
+            None => (self.last.entries(), i),
+        }
+    }
+
+    /// Puts an entry behind the others, where something else grows by it. Else, and if there is no memory, nothing changes.
+    pub(crate) fn push<B: Beside>(
+        &mut self,
+        alloc: Global,
+        entry: &EntryRef<'_>,
+        beside: &mut B,
+    ) -> bool
+        requires { B.may_grow beside.old entry.now }
+        ensures added { OnTrue result (self.new ≡ self.old ++ entry.now ∷ []) }
+        ensures grown { OnTrue result (B.grown beside.old entry.now beside.new) }
+        ensures kept { OnFalse result (self.new ≡ self.old) }
+        ensures same { OnFalse result (beside.new ≡ beside.old) }
+    {
+        if self.last.len() == CHUNK && !close_shared(&mut self.full, &mut self.last, alloc) {
+            return false;
+        }
+        self.last.push(entry, beside)
+    }
 }

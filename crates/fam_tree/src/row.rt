@@ -1,12 +1,10 @@
 //! What an entry of a packed list has of fixed size. `specs/Rows.antt` says where its path and its extents stand.
 
-ghost use Rattle.std.specs.Prelude.{◌≡◌, ◌+◌, ◌≤◌, IfSome, IsTrue, length};
-ghost use Rattle.fam_base.specs.ExtentLists.{extent_limit};
-ghost use Rattle.fam_base.specs.Paths.{is_path};
-ghost use Rattle.fam_tree.specs.Rows.{IsRow, entry_of, entry_shown, extents_in, path_in, row_of};
+ghost use Rattle.std.specs.Prelude.{◌≡◌, ◌+◌, ◌≤◌, IfSome, length};
+ghost use Rattle.fam_tree.specs.Rows.{IsRow, entry_of, extents_in, path_in, row_of};
 
-use crate::shown::Shown;
-use fam_base::{Entry, Extent, Extents, Kind, MapKind, PATH_LIMIT, Path};
+use crate::entry_ref::EntryRef;
+use fam_base::{Entry, Extent, Kind, MapKind};
 
 /// How many places a row can tell from one another.
 const PLACES: usize = 0x1_0000_0000;
@@ -30,53 +28,27 @@ pub(crate) struct Row {
     pub(crate) extents_len: u8,
 }
 
-/// The path of bytes that are one. They are copied, and not looked at.
-#[tactic(auto, unfolding(fam_base::specs::Paths::is_path))]
-#[inline]
-fn path_of(bytes: &[u8]) -> Path
-    requires { IsTrue (is_path bytes.now) }
-    ensures { result ≡ bytes.now }
-{
-    let len = bytes.len();
-    let mut field = [0; PATH_LIMIT];
-    field[..len].copy_from_slice(bytes);
-    Path::in_field(&field, len)
-}
-
-/// At most sixteen extents.
-#[inline]
-fn extents_of(items: &[Extent]) -> Extents
-    requires { length items.now ≤ extent_limit }
-    ensures { result ≡ items.now }
-{
-    let mut extents = Extents::new();
-    for item in items {
-        let _ = extents.push(*item);
-    }
-    extents
-}
-
 impl Row {
     /// The row of an entry whose path and extents begin at these places. `None` comes where a place is too far back.
     #[tactic(auto, unfolding(fam_base::specs::Paths::is_path))]
     #[inline]
-    pub(crate) fn new(entry: &Entry, path_start: usize, extents_start: usize) -> Option<Row>
+    pub(crate) fn new(entry: &EntryRef<'_>, path_start: usize, extents_start: usize) -> Option<Row>
         ensures { IfSome result (λ row. row ≡ row_of entry.now path_start extents_start) }
     {
         if path_start >= PLACES || extents_start >= PLACES {
             return None;
         }
         Some(Row {
-            map: entry.map,
-            size: entry.size,
+            map: entry.map(),
+            size: entry.size(),
             path_start: path_start as u32,
             extents_start: extents_start as u32,
-            mode: entry.mode,
-            uid: entry.uid,
-            gid: entry.gid,
-            path_len: entry.path.bytes().len() as u16,
-            kind: entry.kind,
-            extents_len: entry.extents.as_slice().len() as u8,
+            mode: entry.mode(),
+            uid: entry.uid(),
+            gid: entry.gid(),
+            path_len: entry.path().len() as u16,
+            kind: entry.kind(),
+            extents_len: entry.extents().len() as u8,
         })
     }
 
@@ -100,13 +72,13 @@ impl Row {
         &extents[start..start + self.extents_len as usize]
     }
 
-    /// What is shown of its entry.
+    /// Its entry, borrowed.
     #[inline(always)]
-    pub(crate) fn shown<'a>(&self, paths: &'a [u8], extents: &'a [Extent]) -> Shown<'a>
+    pub(crate) fn borrowed<'a>(&self, paths: &'a [u8], extents: &'a [Extent]) -> EntryRef<'a>
         requires { IsRow paths.now extents.now self.now }
-        ensures { entry_shown result ≡ entry_of paths.now extents.now self.now }
+        ensures { result ≡ entry_of paths.now extents.now self.now }
     {
-        Shown {
+        EntryRef {
             kind: self.kind,
             map: self.map,
             size: self.size,
@@ -124,15 +96,6 @@ impl Row {
         requires { IsRow paths.now extents.now self.now }
         ensures { result ≡ entry_of paths.now extents.now self.now }
     {
-        Entry {
-            kind: self.kind,
-            path: path_of(self.path(paths)),
-            size: self.size,
-            mode: self.mode,
-            uid: self.uid,
-            gid: self.gid,
-            map: self.map,
-            extents: extents_of(self.extents(extents)),
-        }
+        self.borrowed(paths, extents).to_entry()
     }
 }

@@ -6,10 +6,11 @@ ghost use Rattle.std.specs.Bool.{OnTrue, OnFalse};
 ghost use Rattle.fam_tree.specs.Runs.{AreWithin, InOrder, IsAbsent, IsAt, IsFound, IsGap, IsPut, ends_before, entry_at, place_cmp, run_of};
 
 use crate::beside::Beside;
-use crate::bisection::probe;
+use crate::bisection::{end_of, probe};
 use crate::byte_order::order;
 use crate::chunks::Chunks;
-use fam_base::{Entry, OutOfMemory, Path};
+use crate::entry_ref::EntryRef;
+use fam_base::OutOfMemory;
 use std::alloc::{AllocError, Global};
 use std::cmp::Ordering;
 use std::marker::Model;
@@ -58,7 +59,7 @@ fn insert<B: Beside>(
     places: &mut Vec<u32>,
     i: usize,
     entries: &mut Chunks,
-    entry: &Entry,
+    entry: &EntryRef<'_>,
     beside: &mut B,
 ) -> bool
     requires within { i ≤ vec_len places.old }
@@ -150,9 +151,18 @@ impl Run {
         }
     }
 
+    /// Whether the entry that was added last stands last in it.
+    #[inline(always)]
+    pub(crate) fn rises(&self, entries: &Chunks) -> bool {
+        match self.places.last() {
+            Some(place) => *place as usize == entries.len().saturating_sub(1),
+            None => false,
+        }
+    }
+
     /// Where the place of the entry at a path stands, or else where it would.
     #[inline]
-    fn seek(&self, entries: &Chunks, path: &Path) -> Result<usize, usize>
+    fn seek(&self, entries: &Chunks, path: &[u8]) -> Result<usize, usize>
         requires order { InOrder (run_of entries.now self.now) }
         requires inside { AreWithin (length entries.now) self.now }
         ensures found { IfOk result (λ i. IsAt (run_of entries.now self.now) path.now i) }
@@ -160,13 +170,13 @@ impl Run {
         ensures within { IfOk result (λ i. i < length self.now) }
         ensures end { IfErr result (λ i. i ≤ length self.now) }
     {
-        let bytes = path.bytes();
         let places = self.places.as_slice();
+        let end = end_of(places.len(), self.rises(entries));
         let mut low = 0;
         let mut high = places.len();
         while low < high {
-            let middle = probe(low, high, places.len());
-            match order_at(entries, places[middle], bytes) {
+            let middle = probe(low, high, end);
+            match order_at(entries, places[middle], path) {
                 Ordering::Less => low = middle + 1,
                 Ordering::Equal => return Ok(middle),
                 Ordering::Greater => high = middle,
@@ -176,7 +186,7 @@ impl Run {
     }
 
     /// Where the entry at a path stands in the list of all entries.
-    pub(crate) fn place_of(&self, entries: &Chunks, path: &Path) -> Option<usize>
+    pub(crate) fn place_of(&self, entries: &Chunks, path: &[u8]) -> Option<usize>
         requires order { InOrder (run_of entries.now self.now) }
         requires inside { AreWithin (length entries.now) self.now }
         ensures found { IfSome result (λ place. IsFound (run_of entries.now self.now) path.now (entry_at entries.now place)) }
@@ -194,7 +204,7 @@ impl Run {
     pub(crate) fn add<B: Beside>(
         &mut self,
         entries: &mut Chunks,
-        entry: &Entry,
+        entry: &EntryRef<'_>,
         beside: &mut B,
     ) -> bool
         requires order { InOrder (run_of entries.old self.old) }
@@ -208,7 +218,7 @@ impl Run {
         ensures kept { OnFalse result (entries.new ≡ entries.old) }
         ensures same { OnFalse result (beside.new ≡ beside.old) }
     {
-        let Err(i) = self.seek(entries, &entry.path) else {
+        let Err(i) = self.seek(entries, entry.path()) else {
             return false;
         };
         if !unshare(&mut self.places) {

@@ -7,29 +7,29 @@ ghost use Rattle.fam_format.specs.Tree.{with_entry};
 ghost use Rattle.fam_tree.specs.Runs.{AreRunsOf, IsRunFor, entry_at, listed, runs_of, tree_of};
 
 use crate::beside::Beside;
-use crate::bisection::probe;
+use crate::bisection::{end_of, probe};
 use crate::chunks::Chunks;
+use crate::entry_ref::EntryRef;
 use crate::run::Run;
-use fam_base::{Entry, Path};
 use std::alloc::Global;
 
 /// The most entries of a run, where there is memory to cut it.
 const MOST: usize = 256;
 
 /// The run that has a path or would have it, and `None` where there is no run.
-fn run_for(entries: &Chunks, runs: &[Run], path: &Path) -> Option<usize>
+fn run_for(entries: &Chunks, runs: &[Run], path: &[u8]) -> Option<usize>
     requires { AreRunsOf entries.now runs.now }
     ensures some { IfSome result (λ k. IsRunFor (runs_of entries.now runs.now) path.now k) }
     ensures within { IfSome result (λ k. k < length runs.now) }
     ensures none { IfNone result (runs.now ≡ []) }
 {
-    let bytes = path.bytes();
     let last = runs.len().checked_sub(1)?;
+    let end = end_of(last, runs[last].rises(entries));
     let mut low = 0;
     let mut high = last;
     while low < high {
-        let middle = probe(low, high, last);
-        if runs[middle].is_below(entries, bytes) {
+        let middle = probe(low, high, end);
+        if runs[middle].is_below(entries, path) {
             low = middle + 1;
         } else {
             high = middle;
@@ -39,7 +39,7 @@ fn run_for(entries: &Chunks, runs: &[Run], path: &Path) -> Option<usize>
 }
 
 /// Where the entry at a path stands in the list of all entries.
-pub(crate) fn place_in(entries: &Chunks, runs: &[Run], path: &Path) -> Option<usize>
+pub(crate) fn place_in(entries: &Chunks, runs: &[Run], path: &[u8]) -> Option<usize>
     requires { AreRunsOf entries.now runs.now }
     ensures value { option_map (entry_at entries.now) result
         ≡ map.get (tree_of (listed entries.now runs.now)) path.now }
@@ -74,7 +74,7 @@ fn begin<B: Beside>(
     entries: &mut Chunks,
     runs: &mut Vec<Run>,
     alloc: Global,
-    entry: &Entry,
+    entry: &EntryRef<'_>,
     beside: &mut B,
 ) -> bool
     requires none { runs.old.items ≡ [] }
@@ -103,7 +103,7 @@ pub(crate) fn put<B: Beside>(
     entries: &mut Chunks,
     runs: &mut Vec<Run>,
     alloc: Global,
-    entry: &Entry,
+    entry: &EntryRef<'_>,
     beside: &mut B,
 ) -> bool
     requires runs { AreRunsOf entries.old runs.old.items }
@@ -118,7 +118,7 @@ pub(crate) fn put<B: Beside>(
     ensures kept { OnFalse result (listed entries.new runs.new.items ≡ listed entries.old runs.old.items) }
     ensures same { OnFalse result (beside.new ≡ beside.old) }
 {
-    let Some(k) = run_for(entries, runs, &entry.path) else {
+    let Some(k) = run_for(entries, runs, entry.path()) else {
         return begin(entries, runs, alloc, entry, beside);
     };
     if !runs[k].add(entries, entry, beside) {

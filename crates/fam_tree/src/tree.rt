@@ -17,7 +17,9 @@ ghost use Rattle.fam_tree.specs.Runs.{RunsWithin, listed};
 
 use crate::beside::{Beside, Nothing};
 use crate::chunks::Chunks;
+use crate::entry_ref::EntryRef;
 use crate::fault::ApplyFault;
+use crate::parent::parent_in;
 use crate::run::Run;
 use crate::runs::{place_in, put};
 use crate::tree_iter::TreeIter;
@@ -72,7 +74,7 @@ impl Tree {
         ensures value { result ≡ map.get self.now path.now }
         ensures own { IfSome result (λ entry. entry.path ≡ path.now) }
     {
-        match place_in(&self.entries, &self.runs, path) {
+        match place_in(&self.entries, &self.runs, path.bytes()) {
             Some(place) => Some(self.entries.at(place)),
             None => None,
         }
@@ -109,7 +111,7 @@ impl Tree {
     }
 
     /// The kind of what stands at a path.
-    fn kind_at(&self, path: &Path) -> Option<Kind>
+    fn kind_at(&self, path: &[u8]) -> Option<Kind>
         ensures { result ≡ option_map (λ e. e.kind) (map.get self.now path.now) }
     {
         match place_in(&self.entries, &self.runs, path) {
@@ -119,7 +121,7 @@ impl Tree {
     }
 
     /// What stands at a path, as a fault, or else this one.
-    fn fault_at(&self, path: &Path, fault: ApplyFault) -> ApplyFault
+    fn fault_at(&self, path: &[u8], fault: ApplyFault) -> ApplyFault
         ensures { reason_of result ≡ or_else (exists_fault (map.get self.now path.now)) (reason_of fault) }
     {
         match self.kind_at(path) {
@@ -132,18 +134,25 @@ impl Tree {
     pub fn parent_kind(&self, path: &Path) -> Option<Kind>
         ensures { result ≡ parents.parent_kind self.now (parent_of path.now) }
     {
-        match path.parent() {
-            Some(parent) => self.kind_at(&parent),
+        self.kind_above(path.bytes())
+    }
+
+    /// The same, of the bytes of a path.
+    fn kind_above(&self, path: &[u8]) -> Option<Kind>
+        ensures { result ≡ parents.parent_kind self.now (parent_of path.now) }
+    {
+        match parent_in(path) {
+            Some(parent) => self.kind_at(parent),
             None => Some(Kind::Directory),
         }
     }
 
-    /// Why the parent of an entry has no entry below it.
-    fn parent_fault(&self, entry: &Entry) -> Option<ApplyFault>
-        ensures none { result ≡ None → root_fault self.now (parent_of entry.now.path) ≡ None }
-        ensures fault { IfSome result (λ e. (reason_of e ≡ root_fault self.now (parent_of entry.now.path))) }
+    /// Why the parent of a path has no entry below it.
+    fn parent_fault(&self, path: &[u8]) -> Option<ApplyFault>
+        ensures none { result ≡ None → root_fault self.now (parent_of path.now) ≡ None }
+        ensures fault { IfSome result (λ e. (reason_of e ≡ root_fault self.now (parent_of path.now))) }
     {
-        match self.parent_kind(&entry.path) {
+        match self.kind_above(path) {
             None => Some(ApplyFault::NoParent),
             Some(Kind::File) => Some(ApplyFault::ParentIsFile),
             Some(Kind::Directory) => None,
@@ -159,14 +168,14 @@ impl Tree {
         ensures cause { IfErr result (λ fault. reason_of fault ≡ tree_fault self.old entry.now) }
         ensures same { OnErr result (self.new ≡ self.old) }
     {
-        self.apply_beside(entry, &mut Nothing)
+        self.apply_beside(&EntryRef::of(entry), &mut Nothing)
     }
 
     /// Adds an entry as `apply` does, where something else grows by it, and else says that memory is out. What the tree wants
     /// of memory is found before the other part grows, so that either both change or neither.
     pub fn apply_beside<B: Beside>(
         &mut self,
-        entry: &Entry,
+        entry: &EntryRef<'_>,
         beside: &mut B,
     ) -> Result<(), ApplyFault>
         requires { B.may_grow beside.old entry.now }
@@ -178,18 +187,19 @@ impl Tree {
         ensures same { OnErr result (self.new ≡ self.old) }
         ensures beside { OnErr result (beside.new ≡ beside.old) }
     {
+        let path = entry.path();
         // What stands at the path is found out first.
-        if let Some(fault) = self.parent_fault(entry) {
-            return Err(self.fault_at(&entry.path, fault));
+        if let Some(fault) = self.parent_fault(path) {
+            return Err(self.fault_at(path, fault));
         }
         let Some(count) = self.count.checked_add(1) else {
-            return Err(self.fault_at(&entry.path, ApplyFault::OutOfMemory));
+            return Err(self.fault_at(path, ApplyFault::OutOfMemory));
         };
         if put(&mut self.entries, &mut self.runs, self.alloc, entry, beside) {
             self.count = count;
             return Ok(());
         }
-        Err(self.fault_at(&entry.path, ApplyFault::OutOfMemory))
+        Err(self.fault_at(path, ApplyFault::OutOfMemory))
     }
 
     /// An equal tree. The two share all entries, until one joins either of them.

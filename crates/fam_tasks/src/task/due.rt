@@ -52,8 +52,10 @@ impl Task {
         ensures { IsDue result self.now }
     {
         self.is_sound();
+        let at = self.part_line(Part::Slot(slot), line);
         Due::Slot(SlotDue {
             slot,
+            first: at.0 - line,
             line,
             lines: lines_of_a_slot(&self.params),
         })

@@ -2,13 +2,13 @@
 
 ghost use Rattle.std.specs.Prelude.{◌≡◌, ◌+◌, ◌^◌, ◌<◌, ◌++◌, nat_lt, if◌then◌else◌};
 ghost use Rattle.fam_base.specs.Image.{eight};
-ghost use Rattle.fam_format.specs.Layout.{geometry};
+ghost use Rattle.fam_format.specs.Layout.{geometry, slot_line};
 ghost use Rattle.fam_commands.specs.declared.phase.Part.TheVariants as part;
 ghost use Rattle.fam_commands.specs.declared.phase.Phase.TheVariants as at;
 ghost use Rattle.fam_tasks.specs.Rest.{DropsLine};
 ghost use Rattle.fam_tasks.specs.SlotLines.{IsSlotLine, LoadsSlotLine};
 
-use super::{Task, last_line};
+use super::Task;
 use fam_base::{Line, LineNo};
 use fam_commands::{Part, Phase};
 use fam_replay::line_of_slot;
@@ -17,6 +17,8 @@ use fam_replay::line_of_slot;
 #[derive(Clone, Copy)]
 pub struct SlotDue {
     pub slot: u64,
+    /// The number in the image of the slot's first line.
+    pub first: u64,
     /// Counted from 0 in the slot.
     pub line: u64,
     /// How many lines each slot has.
@@ -42,10 +44,11 @@ impl Task {
     #[inline(always)]
     pub fn line_of_slot_due(&self, due: SlotDue) -> LineNo
         requires due { self.now.phase ≡ at.Drop (part.Slot due.slot) due.line }
+        requires first { due.first ≡ slot_line self.now.params due.slot 0 }
         ensures { IsSlotLine result self.now }
     {
         self.is_sound();
-        self.part_line(Part::Slot(due.slot), due.line)
+        LineNo(due.first + due.line)
     }
 
     /// The line that is dropped next was dropped: its first word is loaded next.
@@ -73,13 +76,14 @@ impl Task {
     {
         let _ = line;
         self.is_sound();
-        self.take_line_of_slot(due.slot, due.line, words);
+        self.take_line_of_slot(due.slot, due.line, due.lines, words);
     }
 
     /// All words of a line of a slot were loaded.
     #[inline(always)]
-    fn take_line_of_slot(&mut self, slot: u64, number: u64, words: &Line)
-        requires { self.old.phase ≡ at.Drop (part.Slot slot) number }
+    fn take_line_of_slot(&mut self, slot: u64, number: u64, lines: u64, words: &Line)
+        requires due { self.old.phase ≡ at.Drop (part.Slot slot) number }
+        requires lines { lines ≡ (geometry self.old.params).lines }
         ensures { self.new ≡ record self.old {
           words = self.old.words ++ eight words.now;
           phase = if nat_lt (number + 1) (geometry self.old.params).lines then at.Drop (part.Slot slot) (number + 1)
@@ -87,7 +91,7 @@ impl Task {
         } }
     {
         self.buffer.push_line(words);
-        if number < last_line(&self.params) {
+        if number + 1 < lines {
             move_on(&mut self.phase, Part::Slot(slot), number);
         } else {
             self.phase = Phase::Check { slot };

@@ -1,4 +1,4 @@
-use Rattle.std.proofs.Common.{◌∙◌, ◌≤◌, ◌*◌, Option, Some, refl, sym, ap, subst, inr, length, arith}
+use Rattle.std.proofs.Common.{◌∙◌, ◌≤◌, ◌*◌, ℕ, Option, Some, refl, sym, ap, subst, inr, length, arith}
 use Rattle.std.specs.Option.{option_map}
 use Rattle.std.proofs.lemmas.Result.{err_from_is_err_and}
 use Rattle.fam_base.specs.declared.entry.Params.{Params}
@@ -6,6 +6,7 @@ use Rattle.fam_base.specs.Image.{Image, line_at}
 use Rattle.fam_format.specs.Layout.{least_lines}
 use Rattle.fam_rules.specs.Place.{line_bytes}
 use Rattle.fam_rules.specs.Written.{put_lines}
+use Rattle.fam_dup.specs.Ends.{NamesLine}
 use Rattle.fam_dup.specs.Findings.{class_of, finding}
 use Rattle.fam_dup.specs.Lines.{AreCut, copy_puts}
 use Rattle.fam_dup.proofs.Cutting.{cut_others, cut_reads, cut_some}
@@ -144,3 +145,11 @@ returns-clause-ends g c = λ source told old is.
         copied = whole_copy p s.entries k.entries source old t.sound fits so.history so.are;
       },
     )
+
+pub returns-in_err-write_copy-clause-line : goal.returns-in_err-write_copy-clause-line
+returns-in_err-write_copy-clause-line g c =
+    let q = err_from_is_err_and c.from_residual-in_err-write_copy.result c.from_residual-in_err-write_copy.ensures.1 in
+    let e = c.in_err-write_copy in
+    rw (q.1, q.2)
+    (subst (λ (n : ℕ). NamesLine n (g.N.Media.size c.args.to.now) e.field-0.0) c.in_ok-source.ensures.steady.size
+    (subst (λ (n : ℕ). NamesLine (g.M.Media.size c.read_source.new.from) n e.field-0.0) c.in_ok-check_target.ensures.steady.size e.ensures.line))

@@ -4,4 +4,4 @@ use Rattle.fam_base.specs.Units.{strip_bytes}
 use Rattle.fam_entry.proofs.map_rule.are_strips.Given as goal
 
 abbrev pub invariant-loop-i : goal.invariant-loop-i
-invariant-loop-i l = list_all (λ x. nat_eq x.length (strip_bytes l.entry.size l.chunk (length l.entry.extents))) (take l.i l.entry.extents) ≡ true
+invariant-loop-i l = list_all (λ x. nat_eq x.length (strip_bytes l.entry.size l.chunk (length l.entry.extents))) (take l.i l.extents) ≡ true

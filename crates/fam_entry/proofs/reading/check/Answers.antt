@@ -1,7 +1,5 @@
-use Rattle.std.proofs.Common.{arith, rules}
-use Rattle.fam_format.specs.Slot.{entry_of}
-use Rattle.fam_format.proofs.Formats.{IsShape, shape, slot_long}
-use Rattle.fam_format.specs.Layout.{geometry}
+use Rattle.std.proofs.Common.{arith}
+use Rattle.fam_format.proofs.Formats.{shape, slot_long}
 use Rattle.fam_entry.proofs.reading.check.Goals as goal
 
 pub check_crc-requires : goal.check_crc-requires

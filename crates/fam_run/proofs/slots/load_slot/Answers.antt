@@ -1,7 +1,7 @@
 use Rattle.std.proofs.Common.{◌≡◌, Err, ap, sym, subst, ◌∙◌, arith}
 use Rattle.fam_base.specs.declared.entry.Params.{Params}
 use Rattle.fam_cache.specs.States.{CacheState}
-use Rattle.fam_format.specs.Layout.{geometry}
+use Rattle.fam_format.specs.Layout.{geometry, slot_line}
 use Rattle.fam_tasks.specs.declared.answer.Turn.{Turn}
 use Rattle.fam_tasks.specs.declared.answer.Turn.TheVariants.{Go}
 use Rattle.fam_run.specs.Led.{HasBrokenOff, HasDone}
@@ -23,6 +23,7 @@ load_line-requires-in-lines g c =
       lines = led_lines a.media.old.image a.task a.next a.old a.new (done_led a inv.image inv.done) ∙ c.requires.lines ∙ sym inv.steady.size;
       due = inv.phase (omega arith);
       count = c.requires.count ∙ ap (λ (p : Params). (geometry p).lines) (sym inv.params);
+      first = c.requires.first ∙ ap (λ (p : Params). slot_line p c.args.due.slot 0) (sym inv.params);
     }
 
 -- src/slots.rt:96:54

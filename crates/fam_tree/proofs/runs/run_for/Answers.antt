@@ -1,4 +1,4 @@
-use Rattle.std.proofs.Common.{◌≡◌, ◌-◌, List, ℕ, true, false, length, sym, ap, subst, ◌∙◌, arith}
+use Rattle.std.proofs.Common.{◌≡◌, ◌-◌, List, ℕ, true, false, length, sym, subst, ◌∙◌, arith}
 use Rattle.std.specs.List.{AllWithin}
 use Rattle.fam_tree.specs.Runs.{ends_before}
 use Rattle.fam_tree.proofs.RunPlaces.{ends_from, ends_to, first_placed}
@@ -11,7 +11,7 @@ loop-low-preserved-then-is_below c =
     let runs = c.args.runs.now in
     let run = c.index-runs-middle.result in
     let m : ℕ = c.probe-middle.result in
-    let ends : ends_before es q run ≡ true = ap (λ (p : List ℕ). ends_before es p run) (sym c.bytes-bytes.ensures.same) ∙ sym c.is_below.ensures ∙ c.if-is_below.true in
+    let ends : ends_before es q run ≡ true = sym c.is_below.ensures ∙ c.if-is_below.true in
     record {
       ordered = omega (arith, c.probe-middle.ensures.below);
       within = c.loop-low.invariant.within;
@@ -26,7 +26,7 @@ loop-low-preserved c =
     let runs = c.args.runs.now in
     let run = c.index-runs-middle.result in
     let m : ℕ = c.probe-middle.result in
-    let ends : ends_before es q run ≡ false = ap (λ (p : List ℕ). ends_before es p run) (sym c.bytes-bytes.ensures.same) ∙ sym c.is_below.ensures ∙ c.if-is_below.false in
+    let ends : ends_before es q run ≡ false = sym c.is_below.ensures ∙ c.if-is_below.false in
     record {
       ordered = c.probe-middle.ensures.from;
       within = omega (arith, c.probe-middle.ensures.below, c.loop-low.invariant.within);

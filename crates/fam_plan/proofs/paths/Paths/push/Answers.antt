@@ -19,9 +19,9 @@ done (Err e) x y z ok is = absurd (cc (ok))
 longer : (g : Over) (c : After-push g) → c.extend_from_slice.new.self.items ≡ c.self.inside.bytes.items ++ c.args.entry.now.path
 longer g c =
     let room = with_room c.reserve.result _ (sym c.is_err.ensures.value ∙ c.if-is_err.false) c.reserve.ensures.ok in
-    let size : c.bytes-path.result.now ≡ c.args.entry.now.path = c.bytes-path.ensures.same in
+    let size : c.path-path.result.now ≡ c.args.entry.now.path = c.path-path.ensures.same in
     done {X = List ℕ} c.extend_from_slice.result _ _ _ (c.extend_from_slice.ensures.succeeds room) c.extend_from_slice.ensures.items
-    ∙ ap (λ (l : List ℕ). l ++ c.bytes-path.result.now) c.reserve.ensures.items
+    ∙ ap (λ (l : List ℕ). l ++ c.path-path.result.now) c.reserve.ensures.items
     ∙ ap (λ (l : List ℕ). c.self.inside.bytes.items ++ l) size
 
 more : (g : Over) (c : After-push g) → c.push.new.self.items ≡ c.self.inside.ends.items ++ c.len.result ∷ []
@@ -37,7 +37,7 @@ pub invariant_of-self-2 : goal.invariant_of-self-2
 invariant_of-self-2 g c =
     let own = c.self.inside in
     paths_more own.bytes.items own.ends.items c.args.entry.now.path c.extend_from_slice.new.self.items c.push.new.self.items c.len.result
-    c.self.invariant (longer g c) (more g c) (end_is g c) c.bytes-path.ensures.path
+    c.self.invariant (longer g c) (more g c) (end_is g c) c.path-path.ensures.path
 
 pub returns-clause-added : goal.returns-clause-added
 returns-clause-added g c =

@@ -5,5 +5,5 @@ use Rattle.fam_tasks.proofs.task.Task.take_line_of_slot.Goals as goal
 pub invariant_of-self : goal.invariant_of-self
 invariant_of-self c = search (rules, shape c.self.inside.params)
 
-pub invariant_of-self-else-number-last_line : goal.invariant_of-self-else-number-last_line
-invariant_of-self-else-number-last_line c = search (rules, shape c.self.inside.params)
+pub invariant_of-self-else-number-lines : goal.invariant_of-self-else-number-lines
+invariant_of-self-else-number-lines c = search (rules, shape c.self.inside.params)

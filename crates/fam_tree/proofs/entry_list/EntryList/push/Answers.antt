@@ -21,20 +21,20 @@ rows_longer g c =
 paths_longer : (g : Over) (c : After-put-2 g) → c.put.new.items.items ≡ c.self.inside.paths.items ++ c.args.entry.now.path
 paths_longer g c =
     c.put.ensures
-    ∙ ap (λ (l : List ℕ). l ++ c.bytes-path.result.now) c.reserve-2.ensures.items
-    ∙ ap (λ (l : List ℕ). c.self.inside.paths.items ++ l) c.bytes-path.ensures.same
+    ∙ ap (λ (l : List ℕ). l ++ c.path-path.result.now) c.reserve-2.ensures.items
+    ∙ ap (λ (l : List ℕ). c.self.inside.paths.items ++ l) c.path-path.ensures.same
 
 extents_longer : (g : Over) (c : After-put-2 g) → c.put-2.new.items.items ≡ c.self.inside.extents.items ++ c.args.entry.now.extents
 extents_longer g c =
     c.put-2.ensures
-    ∙ ap (λ (l : List Extent). l ++ c.as_slice-extents.result.now) c.reserve-3.ensures.items
-    ∙ ap (λ (l : List Extent). c.self.inside.extents.items ++ l) c.as_slice-extents.ensures.same
+    ∙ ap (λ (l : List Extent). l ++ c.extents-extents.result.now) c.reserve-3.ensures.items
+    ∙ ap (λ (l : List Extent). c.self.inside.extents.items ++ l) c.extents-extents.ensures.same
 
 pub invariant_of-self-2 : goal.invariant_of-self-2
 invariant_of-self-2 g c =
     let own = c.self.inside in
     put_rows own.paths.items c.put.new.items.items own.extents.items c.put-2.new.items.items own.rows.items c.push.new.self.items c.in-Some.row c.args.entry.now
-    c.self.invariant (row_is g c) (paths_longer g c) (extents_longer g c) (rows_longer g c) c.bytes-path.ensures.path c.as_slice-extents.ensures.few
+    c.self.invariant (row_is g c) (paths_longer g c) (extents_longer g c) (rows_longer g c) c.path-path.ensures.path c.extents-extents.ensures.few
 
 pub returns-clause-added : goal.returns-clause-added
 returns-clause-added g c =

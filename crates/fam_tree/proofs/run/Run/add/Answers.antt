@@ -13,7 +13,7 @@ returns-clause-added g c =
     let new = c.make_mut.follows.lender c.insert.new.places in
     let held = c.make_mut.follows.holds c.insert.new.places (rw c.in-Ok.is refl) in
     let same = same_items c.unshare.new.places.value c.in-Ok.places.now c.in-Ok.ensures.value in
-    let gap : IsGap (run_of es xs) e.path c.in-Err.i = rw c.self.view_is c.in-Err.ensures.gap in
+    let gap : IsGap (run_of es xs) e.path c.in-Err.i = rw (c.self.view_is, ← c.path.ensures.same) c.in-Err.ensures.gap in
     let within : AreWithin (length es) xs = rw c.self.view_is c.requires.inside in
     where_true c.insert.result c.insert.ensures.places c.insert.ensures.entries (λ put longer.
     let is : new.value.items ≡ insert xs c.in-Err.i (length es) = ap (λ v. v.items) held ∙ put ∙ ap (λ l. insert l c.in-Err.i (length es)) (same ∙ kept) in

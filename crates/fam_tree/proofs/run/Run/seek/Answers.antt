@@ -14,7 +14,7 @@ loop-low-preserved-in-Less c =
     let m : ℕ = c.probe-middle.result in
     let inside : AreWithin (length es) xs = rw here c.requires.inside in
     let order : InOrder (run_of es xs) = rw here c.requires.order in
-    let less : place_cmp es q (get_or xs m 0) ≡ Less = ap (λ (p : List ℕ). place_cmp es p (get_or xs m 0)) (sym c.bytes-bytes.ensures.same) ∙ sym c.order_at.ensures ∙ c.in-Less.is in
+    let less : place_cmp es q (get_or xs m 0) ≡ Less = sym c.order_at.ensures ∙ c.in-Less.is in
     record {
       ordered = omega (arith, c.probe-middle.ensures.below);
       within = c.loop-low.invariant.within;
@@ -31,7 +31,7 @@ returns-in-Equal-clause-found c =
     let m : ℕ = c.probe-middle.result in
     let inside : AreWithin (length es) xs = rw here c.requires.inside in
     let order : InOrder (run_of es xs) = rw here c.requires.order in
-    let same : place_cmp es q (get_or xs m 0) ≡ Equal = ap (λ (p : List ℕ). place_cmp es p (get_or xs m 0)) (sym c.bytes-bytes.ensures.same) ∙ sym c.order_at.ensures ∙ c.in-Equal.is in
+    let same : place_cmp es q (get_or xs m 0) ≡ Equal = sym c.order_at.ensures ∙ c.in-Equal.is in
     subst (λ (l : List ℕ). IsAt (run_of es l) q m) here (found_at es q xs inside order m (omega (arith, c.probe-middle.ensures.below, c.loop-low.invariant.within)) same)
 
 pub loop-low-preserved : goal.loop-low-preserved
@@ -43,7 +43,7 @@ loop-low-preserved c =
     let m : ℕ = c.probe-middle.result in
     let inside : AreWithin (length es) xs = rw here c.requires.inside in
     let order : InOrder (run_of es xs) = rw here c.requires.order in
-    let greater : place_cmp es q (get_or xs m 0) ≡ Greater = ap (λ (p : List ℕ). place_cmp es p (get_or xs m 0)) (sym c.bytes-bytes.ensures.same) ∙ sym c.order_at.ensures ∙ c.in-Greater.is in
+    let greater : place_cmp es q (get_or xs m 0) ≡ Greater = sym c.order_at.ensures ∙ c.in-Greater.is in
     record {
       ordered = c.probe-middle.ensures.from;
       within = omega (arith, c.probe-middle.ensures.below, c.loop-low.invariant.within);

@@ -11,7 +11,7 @@ use Rattle.fam_plan.specs.declared.ledger.Ledger.{Ledger}
 use Rattle.fam_plan.specs.State.{PlanState, entries_at}
 use Rattle.fam_plan.proofs.Entries.{free_there, entries_with}
 use Rattle.fam_plan.proofs.Histories.{once_in, within_view, fault_of_view, units_of_view, plan_added}
-use Rattle.fam_plan.proofs.plan.Plan.add.Goals as goal
+use Rattle.fam_plan.proofs.plan.Plan.add_borrowed.Goals as goal
 
 pub apply_beside-requires : goal.apply_beside-requires
 apply_beside-requires c =

@@ -1,5 +1,5 @@
 use Rattle.fam_base.proofs.PathLemmas.{stored_field}
-use Rattle.fam_tree.proofs.row.path_of.Goals as goal
+use Rattle.fam_tree.proofs.entry_ref.path_of.Goals as goal
 
 pub in_field-requires : goal.in_field-requires
 in_field-requires c = rw c.copy_from_slice.ensures.after (stored_field _ c.requires)
