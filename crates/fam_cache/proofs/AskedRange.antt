@@ -1,15 +1,13 @@
 -- Between which lines the asked ones are.
-use Rattle.std.proofs.Common.{◌≡◌, ◌≢◌, ℕ, zero, suc, ◌⊎◌, inl, inr, ◌<◌, ◌≤◌, Bool, true, false, cond, IsTrue, List, [], ◌∷◌, length, take, drop, Option, Some, None, refl, sym, ap, subst, ◌∙◌, arith}
+use Rattle.std.proofs.Common.{◌≡◌, ◌≢◌, ℕ, inl, inr, ◌≤◌, false, List, [], ◌∷◌, take, Option, Some, None, refl, sym, subst, ◌∙◌, arith}
 use Rattle.std.proofs.lemmas.Bool.{cases_eq, false≢true}
-use Rattle.std.specs.Ordering.{nat_cmp}
 use Rattle.std.specs.FinMap as map
-use Rattle.std.specs.FinMap.{is_sorted}
 use Rattle.std.specs.Prelude.{IfSome}
 use Rattle.fam_base.specs.Image.{Image, eight}
 use Rattle.fam_machine.specs.declared.cell.Cell.{Cell}
 use Rattle.fam_machine.specs.declared.cell.Cell.TheVariants.{Absent, Clean, Dirty}
 use Rattle.fam_machine.specs.Caches.{Cache, asked_lines, cell_at, cell_changed, with_cell}
-use Rattle.fam_machine.specs.OneLine.{IsAsked, asked_for, brought, cleaned, fetched, is_asked, stored}
+use Rattle.fam_machine.specs.OneLine.{IsAsked, asked_for, brought, cleaned, fetched}
 use Rattle.fam_machine.specs.Operations.{machine}
 use Rattle.fam_machine.proofs.CacheLemmas.{cell_at-empty, cell_at-with_cell_other, cell_at-with_cell_same}
 use Rattle.fam_machine.proofs.FenceLemmas.{none_asked}
@@ -73,7 +71,7 @@ module _ (first last : ℕ) (old new : Cache) (was : AskedWithin first last old)
   within_renewed line None is other = within_same (other refl)
 
   -- lines were sent
-  lines_asked : (lines : List ℕ) (cache : Cache) (l : ℕ) → IsAsked (cell_at (cleaned_lines lines cache) l) → IsAsked (cell_at cache l)
+  pub lines_asked : (lines : List ℕ) (cache : Cache) (l : ℕ) → IsAsked (cell_at (cleaned_lines lines cache) l) → IsAsked (cell_at cache l)
   lines_asked [] cache l is = is
   lines_asked (x ∷ lines) cache l is =
       changed x (cleaned (cell_at cache x)) cache (cell_changed x cleaned cache) refl (cleaned_asked (cell_at cache x)) l (lines_asked lines (cell_changed x cleaned cache) l is)

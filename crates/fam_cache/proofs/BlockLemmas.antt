@@ -1,5 +1,5 @@
 -- The cache that blocks stand for, line by line.
-use Rattle.std.proofs.Common.{◌≡◌, ◌≢◌, ℕ, zero, suc, ◌+◌, ◌-◌, ◌*◌, ◌/◌, ◌%◌, ◌<◌, ◌≤◌, Bool, true, false, inl, inr, List, [], ◌∷◌, ◌++◌, length, replicate, set, get_or, vec_len, vec_capacity, Option, Some, None, refl, sym, ap, ap₂, subst, ◌∙◌, arith}
+use Rattle.std.proofs.Common.{◌≡◌, ◌≢◌, ℕ, zero, suc, ◌+◌, ◌-◌, ◌*◌, ◌/◌, ◌%◌, ◌<◌, ◌≤◌, true, false, inl, inr, List, [], ◌∷◌, ◌++◌, length, replicate, set, get_or, vec_len, vec_capacity, Some, None, refl, sym, ap, ap₂, subst, ◌∙◌, arith}
 use Rattle.std.proofs.lemmas.Bool.{cases_eq, false≢true}
 use Rattle.fam_machine.specs.OneLine.{is_held, words_of}
 use Rattle.std.proofs.lemmas.List.{get_or-set_same, get_or-set_other, get_or_default, get_or_append_left, get_or_at, length-append, length-set}
@@ -170,7 +170,7 @@ module _ (c : Blocks) (kept : IsKept c) (at l : ℕ) (stands : IsBlockOf c.block
   b_is : b ≡ block_at c.blocks.items at
   b_is = read ∙ get_or_default c.blocks.items at b no_block stands.within
 
-  b_whole : IsWhole b
+  pub b_whole : IsWhole b
   b_whole = subst IsWhole (sym b_is) (kept.whole at stands.within)
 
   -- the copy of the line

@@ -1,5 +1,5 @@
 -- Dirty marks are as many as dirty lines.
-use Rattle.std.proofs.Common.{◌≡◌, ◌≢◌, ℕ, zero, suc, ◌+◌, ◌*◌, ◌/◌, ◌<◌, ◌≤◌, Bool, true, false, cond, inl, inr, List, [], ◌∷◌, ◌++◌, length, get_or, take, Option, Some, None, refl, sym, ap, ap₂, subst, ◌∙◌, arith}
+use Rattle.std.proofs.Common.{◌≡◌, ℕ, zero, suc, ◌+◌, ◌*◌, ◌/◌, ◌<◌, ◌≤◌, Bool, true, false, cond, inl, inr, List, [], ◌∷◌, ◌++◌, length, get_or, take, Option, Some, None, refl, sym, ap, ap₂, subst, ◌∙◌, arith}
 use Rattle.std.specs.Prelude.{count_by}
 use Rattle.std.proofs.lemmas.Bool.{cases_order}
 use Rattle.std.proofs.lemmas.List.{get_or-take, length-take-le, take_all, take_more}
@@ -12,7 +12,7 @@ use Rattle.fam_machine.specs.declared.cell.Cell.{Cell}
 use Rattle.fam_machine.specs.declared.cell.Cell.TheVariants.{Absent, Clean, Dirty}
 use Rattle.fam_machine.specs.Caches.{Cache, CachedLine, cell_at, cell_of, dirty_count, is_marked_dirty, unsent_mark, with_cell}
 use Rattle.fam_machine.specs.OneLine.{is_dirty}
-use Rattle.fam_machine.proofs.CacheLemmas.{equal, greater, less, same_key, other_key, with_cell_own}
+use Rattle.fam_machine.proofs.CacheLemmas.{greater, less, same_key, other_key, with_cell_own}
 use Rattle.fam_machine.proofs.DirtyLemmas.{Lines, count_first, count_lines}
 use Rattle.fam_cache.specs.declared.blocks.Block.{Block}
 use Rattle.fam_cache.specs.declared.blocks.Mark.{Mark}

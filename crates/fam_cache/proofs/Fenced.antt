@@ -1,5 +1,5 @@
 -- A fence, one sent line after another.
-use Rattle.std.proofs.Common.{◌≡◌, ◌≢◌, ℕ, zero, suc, ◌+◌, ◌<◌, ◌≤◌, List, [], ◌∷◌, ◌++◌, length, take, drop, Option, Some, None, inl, inr, refl, sym, ap, ap₂, subst, ◌∙◌, arith}
+use Rattle.std.proofs.Common.{◌≡◌, ℕ, zero, suc, List, [], ◌∷◌, ◌++◌, take, drop, Option, Some, None, inl, refl, sym, ap, subst, ◌∙◌}
 use Rattle.std.specs.Option.{option_map}
 use Rattle.fam_base.specs.declared.line.LineNo.{LineNo}
 use Rattle.fam_base.specs.Image.{Image, line_at}
@@ -8,7 +8,7 @@ use Rattle.fam_machine.specs.Caches.{Cache, asked_lines, cell_at, cell_changed, 
 use Rattle.fam_machine.specs.Cuts.{HasFailed, IsMachine}
 use Rattle.fam_machine.specs.Fences.{IsAmong}
 use Rattle.fam_machine.specs.OneLine.{IsAsked, cleaned, failed_send, sent}
-use Rattle.fam_machine.specs.Operations.{Machine, first_not_sent, line_no, machine, operated, send_line, send_lines, torn_at}
+use Rattle.fam_machine.specs.Operations.{Machine, first_not_sent, machine, operated, send_line, send_lines, torn_at}
 use Rattle.fam_machine.proofs.FenceLemmas.{among_drop, among_is_asked}
 use Rattle.fam_media.specs.Outside.{IfModelled}
 use Rattle.fam_cache.specs.Effects.{FailsTo}

@@ -10,3 +10,6 @@ pub mod SpotLemmas
 pub mod StoreLemmas
 pub mod Performed
 pub mod Runs
+pub mod SentRunLemmas
+pub mod Shedding
+pub mod BroughtRunLemmas

@@ -1,5 +1,5 @@
 -- One operation on a cache, as the machine says it.
-use Rattle.std.proofs.Common.{◌≡◌, ◌≢◌, ◌<◌, ℕ, inl, inr, List, [], ◌∷◌, Option, Some, take, refl, sym, ap, subst, ◌∙◌, arith}
+use Rattle.std.proofs.Common.{◌≡◌, ◌≢◌, ℕ, inl, inr, List, [], ◌∷◌, Option, Some, take, refl, sym, ap, subst, ◌∙◌, arith}
 use Rattle.std.specs.Prelude.{option_map, slice_index}
 use Rattle.std.proofs.lemmas.Bool.{cases_eq}
 use Rattle.fam_base.specs.declared.line.LineNo.{LineNo}
@@ -10,7 +10,7 @@ use Rattle.fam_machine.specs.declared.op.Op.{Op}
 use Rattle.fam_machine.specs.declared.op.Op.TheVariants.{Load, Store, WriteBack, Fence, Invalidate, Digest}
 use Rattle.fam_machine.specs.Caches.{Cache, asked_lines, cell_at, cell_changed, with_cell}
 use Rattle.fam_machine.specs.Cuts.{HasFailed}
-use Rattle.fam_machine.specs.OneLine.{IsAsked, IsHeld, asked_for, brought, cleaned, current, failed_send, stored, words_of}
+use Rattle.fam_machine.specs.OneLine.{IsHeld, asked_for, brought, cleaned, current, failed_send, stored, words_of}
 use Rattle.fam_machine.specs.Operations.{Breaking, Machine, failed, given, line_no, machine, not_brought, not_sent, op_line, torn_at}
 use Rattle.fam_cache.specs.Operations.{IsOneLine, LeavesCache, LeavesFailed, SendsWithin, cleaned_lines}
 use Rattle.fam_machine.proofs.CacheLemmas.{cell_at-with_cell_same, cell_at-with_cell_other, with_cell_own}

@@ -4,3 +4,6 @@ pub mod States
 pub mod Faults
 pub mod Operations
 pub mod Runs
+pub mod SentRuns
+pub mod Shed
+pub mod BroughtRuns

@@ -16,8 +16,13 @@ ghost use Rattle.fam_machine.specs.declared.cell.Cell.{Cell};
 ghost use Rattle.fam_cache.specs.Blocks.{Before, HasNone, IsBlockOf, IsKept, IsSpot, IsWhole, area_at, cache_of, cell_in, is_gap, lines_of, marked, normal, number_at, words_there, HasRoom, is_dirty_by, IsEnlisted, IsFirstAsked, NoneAsked};
 ghost use Rattle.fam_cache.specs.Operations.{rest_stored};
 
+mod asked;
+mod runs;
+
+pub(crate) use asked::asked_run;
 use fam_base::{Line, OutOfMemory};
 use fam_machine::Cell;
+pub(crate) use runs::{empty_block, lacks_none, set_fresh};
 use std::alloc::Global;
 
 /// So many blocks at most, so that all their lines can be counted: more than any memory has.

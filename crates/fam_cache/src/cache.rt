@@ -1,6 +1,6 @@
 //! A host's cache, as a task and the machine use it.
 
-ghost use Rattle.std.specs.Prelude.{ℕ, ◌≡◌, ◌+◌, ◌/◌, ◌<◌, ◌≤◌, IsOk, IfErr, IfOk, IfSome, OnOk, OnErr, IsErrOf, None, length, slice_index, true, false};
+ghost use Rattle.std.specs.Prelude.{ℕ, ◌≡◌, ◌==◌, ◌+◌, ◌/◌, ◌<◌, ◌≤◌, IsOk, IfErr, IfOk, IfSome, OnOk, OnErr, IsErrOf, None, length, slice_index, true, false};
 ghost use Rattle.std.specs.Option.{option_map};
 ghost use Rattle.std.specs.FinMap as map;
 ghost use Rattle.fam_base.specs.Image.{eight, line_at, with_line};
@@ -16,6 +16,9 @@ ghost use Rattle.fam_media.specs.Runs.{IsRunTorn, line_in, run_written};
 ghost use Rattle.fam_cache.specs.Effects.{FailsTo, FromMemory};
 ghost use Rattle.fam_cache.specs.Operations.{CleansSome, cleaned_lines, rest_stored};
 ghost use Rattle.fam_cache.specs.Blocks.{AskedWithin, IsBlockOf, IsKept, IsSpot, lines_of};
+ghost use Rattle.fam_cache.specs.Shed.{IsShed};
+
+mod bringing;
 
 use crate::blocks::{
     Blocks, absent_lines, ask_copy, copy, dirty_lines_of, drop_copy, empty, has_room, held_at,
@@ -31,6 +34,25 @@ use fam_machine::Cell;
 use fam_media::{Failed, Media, RunFailed};
 use std::alloc::Global;
 use std::marker::Model;
+
+/// A cache that has so many blocks is large: those of one area.
+const MANY_BLOCKS: usize = 64;
+
+/// Makes every line absent where none is dirty, and says whether none is. This looks at all blocks.
+fn lose_clean(places: &mut Blocks) -> bool
+    requires { IsKept places.old }
+    ensures clean { result ≡ (dirty_count (lines_of places.old) == 0) }
+    ensures kept { IsKept places.new }
+    ensures lines { result ≡ true → lines_of places.new ≡ map.empty }
+    ensures other { result ≡ false → places.new ≡ places.old }
+    ensures room { places.new.room ≡ places.old.room }
+{
+    if dirty_lines_of(places) > 0 {
+        return false;
+    }
+    lose_all(places);
+    true
+}
 
 /// The place of an absent line, which is brought from memory. Room is taken first.
 #[inline(always)]
@@ -273,6 +295,26 @@ impl HostCache {
         ensures spare { self.old.spare ≤ self.new.spare }
     {
         lose_all(&mut self.places);
+    }
+
+    /// Whether it may hold so many lines that their memory is worth using again. No contract hangs on it.
+    #[inline]
+    pub fn is_large(&self) -> bool {
+        next_place(&self.places) >= MANY_BLOCKS
+    }
+
+    /// Makes every line absent where none is dirty, and says whether none is: memory lacks none of their words. The cache
+    /// keeps what they took for other lines. This looks at each place, so it is no call for every step.
+    pub fn forget(&mut self) -> bool
+        ensures clean { result ≡ (dirty_count self.old.lines == 0) }
+        ensures lines { result ≡ true → self.new.lines ≡ map.empty }
+        ensures other { result ≡ false → self.new ≡ self.old }
+
+        // What a host reads through the cache from there on it may have read through the one before.
+        ensures shed { IsShed self.new.lines self.old.lines }
+        ensures spare { self.old.spare ≤ self.new.spare }
+    {
+        lose_clean(&mut self.places)
     }
 
     /// Gives a word of a line. An absent line is brought from memory.

@@ -57,6 +57,25 @@ fn partner(found: &FoundList, number: u64, last: &Entry, unit: u64, units: u64) 
     None
 }
 
+/// The same of an entry that is borrowed. It stands apart, since it is rare.
+#[inline(never)]
+fn partner_of(
+    found: &FoundList,
+    number: u64,
+    last: &EntryRef<'_>,
+    unit: u64,
+    units: u64,
+) -> Option<u64>
+    requires unit { 0 < unit }
+    requires first { All (LiesWithin unit units) found.now }
+    requires second { LieWithin unit units last.now.extents }
+    requires few { units ≤ MOST_UNITS }
+    ensures { result ≡ option_map (λ f. f.number)
+        (find (λ f. overlaps unit (pair_of f, (number, last.now))) found.now) }
+{
+    partner(found, number, &last.to_entry(), unit, units)
+}
+
 /// The first unit of an entry that is used, or that stands twice in it. Most entries have no extents.
 fn first_shared(used: &UsedUnits, last: &EntryRef<'_>, unit: u64) -> Option<u64>
     requires unit { 0 < unit }
@@ -107,7 +126,7 @@ pub fn least_overlap(
     if first_shared(used, last, unit).is_none() {
         return None;
     }
-    match partner(found, number, &last.to_entry(), unit, used.units()) {
+    match partner_of(found, number, last, unit, used.units()) {
         Some(earlier) => Some((earlier, number)),
         None => None,
     }

@@ -8,6 +8,7 @@ use Rattle.fam_tasks.specs.declared.answer.Answer.{Answer as Given}
 use Rattle.fam_tasks.specs.declared.answer.Answer.TheVariants as given
 use Rattle.fam_journal.specs.Notes.{Answer, Replied, MediaFault}
 use Rattle.fam_journal.specs.Notes as journal
+use Rattle.fam_notes.specs.Commands.{command_of}
 use Rattle.fam_notes.specs.declared.note.Note.{Note}
 use Rattle.fam_notes.specs.declared.note.Note.TheVariants as note
 
@@ -43,7 +44,7 @@ abbrev pub note_view : Note → journal.Note
 note_view (note.Host name uuid) = journal.Host name uuid
 note_view (note.Made host params) = journal.Made host.0 params
 note_view (note.Cut host k) = journal.Cut host.0 k
-note_view (note.Start host cmd) = journal.Start host.0 cmd
+note_view (note.Start host cmd) = journal.Start host.0 (command_of cmd)
 note_view (note.Mark host) = journal.Mark host.0
 note_view (note.Found host n) = journal.Found host.0 n
 note_view (note.Writes host seq entry) = journal.Writes host.0 seq entry

@@ -1,6 +1,7 @@
 //! Notes. `specs/Notes.antt` says which note of a journal each one is.
 
-use fam_base::{Boxed, Cmd, Entry, HostName, Params};
+use crate::noted_command::NotedCommand;
+use fam_base::{Boxed, Entry, HostName, Params};
 use fam_journal::{HostId, Refusal};
 use fam_tasks::Answer;
 use uuid::Uuid;
@@ -27,7 +28,7 @@ pub enum Note {
     /// A host begins a command.
     Start {
         host: HostId,
-        cmd: Boxed<Cmd>,
+        cmd: NotedCommand,
     },
     /// Its task dropped the gate's line: all that was settled by now will be read.
     Mark {

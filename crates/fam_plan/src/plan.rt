@@ -25,11 +25,22 @@ use std::marker::Model;
 
 /// The entries of a log in their tree, with the order of their paths and the units that they use. A contract sees the
 /// parameters of the file system and the list of entries, in which each entry joins those before it.
-#[derive(Drop)]
 pub struct Plan {
     pub(crate) params: Params,
     pub(crate) tree: Tree,
     pub(crate) ledger: Ledger,
+}
+
+// It is dropped by one call, so that no caller's proof goes through its parts.
+impl Drop for Plan {
+    #[inline(never)]
+    fn drop(self) {
+        let Plan {
+            params: _,
+            tree: _,
+            ledger: _,
+        } = self;
+    }
 }
 
 impl Model for Plan {
@@ -161,7 +172,12 @@ impl Plan {
     pub fn into_tree(self) -> Tree
         ensures { result ≡ replay self.entries }
     {
-        self.tree
+        let Plan {
+            params: _,
+            tree,
+            ledger: _,
+        } = self;
+        tree
     }
 
     /// The parameters of the file system.

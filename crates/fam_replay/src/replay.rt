@@ -68,7 +68,8 @@ fn take_over(kept: &mut Option<Replica>, keeps: bool, params: &Params, gate: u64
     }
 }
 
-/// Why the first entry of a log doesn't join, where no memory is left for a plan.
+/// Why the first entry of a log doesn't join, where no memory is left for a plan. It stands apart, since it is rare.
+#[inline(never)]
 fn fault_alone(params: &Params, entry: &EntryRef<'_>) -> Result<Option<Reason>, OutOfMemory>
     requires sound { SoundParams params.now }
     requires proper { Proper params.now entry.now }

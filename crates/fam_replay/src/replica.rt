@@ -106,6 +106,23 @@ pub(crate) fn reason_or_memory(fault: Option<Reason>) -> Result<Option<Reason>, 
     }
 }
 
+/// Why an entry doesn't join the first ones of a plan, or out of memory where nothing is against it. It stands apart, since it
+/// is rare.
+#[inline(never)]
+fn reason_among(
+    plan: &Plan,
+    found: u64,
+    entry: &EntryRef<'_>,
+) -> Result<Option<Reason>, OutOfMemory>
+    requires proper { Proper plan.now.params entry.now }
+    requires within { found ≤ length plan.now.entries }
+    ensures fault { IfOk result (λ reason. reason ≡ join_fault plan.now.params (take found plan.now.entries) entry.now) }
+    ensures some { IfOk result (λ reason. IsSome reason) }
+    ensures want { OnErr result (join_fault plan.now.params (take found plan.now.entries) entry.now ≡ None) }
+{
+    reason_or_memory(plan.fault_among(found, &entry.to_entry()))
+}
+
 /// The fault of a plan among the reasons of a log's reader, if memory didn't run out.
 fn reason_against(fault: AddFault) -> Option<Reason>
     ensures { result ≡ reason_of fault }
@@ -200,7 +217,8 @@ impl Replica {
 
     /// Whether it is of the file system with these parameters, and the gate counts no fewer entries.
     pub fn is_of(&self, params: &Params, gate: u64) -> bool
-        ensures { result ≡ true → IsReplayOf params.now gate (Some self.now) }
+        ensures same { result ≡ true → IsReplayOf params.now gate (Some self.now) }
+        ensures all { IsReplayOf params.now gate (Some self.now) → result ≡ true }
     {
         self.plan.params() == params && self.plan.count() <= gate
     }
@@ -249,7 +267,7 @@ impl Replica {
             self.found,
         ) {
             Ok(()) => {}
-            Err(_) => return reason_or_memory(self.plan.fault_among(self.found, &entry.to_entry())),
+            Err(_) => return reason_among(&self.plan, self.found, entry),
         }
         match self.plan.add_borrowed(entry) {
             Ok(()) => {

@@ -31,9 +31,12 @@ fn same_eight(left: &[u64], right: &[u64]) -> bool
 pub(crate) fn same_slot(left: &[u64], right: &[u64]) -> bool
     ensures { result ≡ true → left.now ≡ right.now }
 {
+    if left.len() != right.len() {
+        return false;
+    }
     let mut left_words = left;
     let mut right_words = right;
-    'lines: while left_words.len() >= LINE_WORDS && right_words.len() >= LINE_WORDS {
+    'lines: while left_words.len() >= LINE_WORDS {
         let (left_line, left_rest) = left_words.split_at(LINE_WORDS);
         let (right_line, right_rest) = right_words.split_at(LINE_WORDS);
         if !same_eight(left_line, right_line) {
@@ -42,5 +45,5 @@ pub(crate) fn same_slot(left: &[u64], right: &[u64]) -> bool
         left_words = left_rest;
         right_words = right_rest;
     }
-    left_words.is_empty() && right_words.is_empty()
+    left_words.is_empty()
 }

@@ -17,3 +17,4 @@ pub mod SentRuns
 pub mod Gathered
 pub mod RunAlone
 pub mod SentLeft
+pub mod SlotRuns

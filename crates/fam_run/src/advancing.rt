@@ -62,7 +62,7 @@ fn go_on<M: Media>(
     ensures steady { IsSteady M.size M.state media.old media.new }
 {
     match task.due() {
-        Due::Slot(due) => load_slot(cache, task, media, turn, due),
+        Due::Slot(due) => load_slot(cache, task, media, turn, due, lines),
         Due::Checked(slot) => check_slot(task, turn, slot),
         Due::Stored(number) => store_lines(cache, task, media, turn, number, lines),
         Due::Compared(line) => compare_line(cache, task, media, turn, line),

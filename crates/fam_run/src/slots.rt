@@ -16,6 +16,8 @@ ghost use Rattle.fam_run.specs.TaskChange.{task_change};
 ghost use Rattle.fam_run.specs.Room.{LacksRoomWhole, WantsRoom};
 
 use crate::operation::operate;
+use crate::slot_run::{has_lines, load_run};
+use fam_base::Line;
 use fam_cache::{CacheFault, HostCache, OperationFault};
 use fam_media::Media;
 use fam_tasks::{SlotDue, Task, Turn};
@@ -79,8 +81,8 @@ fn load_line<M: Media>(
 ///
 /// `MediaFault` names the line: those before it were loaded, it was dropped, and the task stands before its first word.
 /// `OutOfMemory` comes where the cache has no room for the first of them, and then nothing was done.
-#[inline(always)]
-pub(crate) fn load_slot<M: Media>(
+#[inline(never)]
+fn load_each<M: Media>(
     cache: &mut HostCache,
     task: &mut Task,
     media: &mut M,
@@ -122,4 +124,41 @@ pub(crate) fn load_slot<M: Media>(
         }
     }
     Ok(())
+}
+
+/// Drops and loads the lines of a slot from the one on that the task drops next, up to the slot's last one: all of them by one
+/// call of the media, where memory lacks no word of them, and else as `load_each`. `lines` is lent as room for their words.
+///
+/// `MediaFault` names the line: those before it were loaded, it was dropped, and the task stands before its first word.
+/// `OutOfMemory` comes where the cache has no room for the first of them, and then nothing was done.
+#[inline(always)]
+pub(crate) fn load_slot<M: Media>(
+    cache: &mut HostCache,
+    task: &mut Task,
+    media: &mut M,
+    turn: &mut Turn,
+    due: SlotDue,
+    lines: &mut Vec<Line>,
+) -> Result<(), OperationFault>
+    requires go { turn.old ≡ Go }
+    requires lines { task.old.lines ≡ M.size media.old }
+    requires asked { SendsWithin (op_of task.old) (M.size media.old) cache.old.lines }
+    requires due { task.old.phase ≡ at.Drop (part.Slot due.slot) due.line }
+    requires below { due.line < due.lines }
+    requires count { due.lines ≡ (geometry task.old.params).lines }
+    requires first { due.first ≡ slot_line task.old.params due.slot 0 }
+
+    ensures advanced { Advanced
+        (task_change M.size M.state task.old task.new cache.old cache.new media.old media.new) (said_of result turn.new) }
+    ensures want { IsErrOf result OperationFault.OutOfMemory → WantsRoom task.old cache.old }
+    ensures steady { IsSteady M.size M.state media.old media.new }
+{
+    if due.line == 0 && has_lines(lines, due.lines as usize) {
+        match load_run(cache, task, media, due, lines.as_mut_slice()) {
+            Ok(true) => return Ok(()),
+            Ok(false) => {}
+            Err(line) => return Err(OperationFault::MediaFault(line)),
+        }
+    }
+    load_each(cache, task, media, turn, due)
 }

@@ -2,10 +2,12 @@
 
 ghost use Rattle.std.specs.Prelude.{◌≡◌, ◌++◌, IfOk, string_bytes, codes};
 ghost use Rattle.fam_base.specs.declared.cmd.Cmd.TheVariants as cmd;
+ghost use Rattle.fam_notes.specs.Commands.{command_of};
 ghost use Rattle.fam_outcomes.specs.Texts as text;
 
 use crate::lines::{line, line_of, line_with_name};
-use fam_base::{Attr, Cmd, Content, OutOfMemory, Path, Stripe};
+use fam_base::{Attr, Content, OutOfMemory, Path, Stripe};
+use fam_notes::NotedCommand;
 use std::alloc::{AllocError, Global};
 
 /// Mode, user and group. The mode has four octal digits.
@@ -139,34 +141,34 @@ fn read_line(alloc: Global, path: &Path, offset: u64, count: u64) -> Result<Vec<
 }
 
 /// The line with which a command begins.
-pub(crate) fn start_line(alloc: Global, cmd: &Cmd) -> Result<Vec<u8>, OutOfMemory>
-    ensures { IfOk result (λ bytes. bytes.items ≡ text.line (codes "start " ++ text.cmd_text cmd.now)) }
+pub(crate) fn start_line(alloc: Global, cmd: &NotedCommand) -> Result<Vec<u8>, OutOfMemory>
+    ensures { IfOk result (λ bytes. bytes.items ≡ text.line (codes "start " ++ text.cmd_text (command_of cmd.now))) }
 {
     match cmd {
-        Cmd::Logplay => line(alloc, "start logplay"),
-        Cmd::Mount => line(alloc, "start mount"),
-        Cmd::Fsck => line(alloc, "start fsck"),
-        Cmd::Mkdir { path, attr } => mkdir_line(alloc, path, *attr),
-        Cmd::Creat {
+        NotedCommand::Logplay => line(alloc, "start logplay"),
+        NotedCommand::Mount => line(alloc, "start mount"),
+        NotedCommand::Fsck => line(alloc, "start fsck"),
+        NotedCommand::Mkdir { path, attr } => mkdir_line(alloc, &path.to_path(), *attr),
+        NotedCommand::Creat {
             path,
             size,
             attr,
             stripe,
             fill,
-        } => creat_line(alloc, path, *size, *attr, *stripe, fill),
-        Cmd::Cp {
+        } => creat_line(alloc, &path.to_path(), *size, *attr, *stripe, fill),
+        NotedCommand::Cp {
             path,
             attr,
             stripe,
             bytes,
-        } => cp_line(alloc, path, *attr, *stripe, bytes.as_slice()),
-        Cmd::Verify { path, against } => verify_line(alloc, path, against),
-        Cmd::Read {
+        } => cp_line(alloc, &path.to_path(), *attr, *stripe, bytes.as_slice()),
+        NotedCommand::Verify { path, against } => verify_line(alloc, &path.to_path(), against),
+        NotedCommand::Read {
             path,
             offset,
             count,
-        } => read_line(alloc, path, *offset, *count),
-        Cmd::Check { listing } => {
+        } => read_line(alloc, &path.to_path(), *offset, *count),
+        NotedCommand::Check { listing } => {
             let count = listing.as_slice().len();
             line_of(alloc, format!(in alloc; "start check {count}"))
         }

@@ -58,7 +58,7 @@ pub fn note_text(alloc: Global, note: &Note, names: &[HostName]) -> Result<Vec<u
         Note::Host { uuid, .. } => line_of(alloc, format!(in alloc; "host {uuid}")),
         Note::Made { params, .. } => line_of(alloc, made_text(alloc, params)),
         Note::Cut { k, .. } => line_of(alloc, format!(in alloc; "mkfs halted {k}")),
-        Note::Start { cmd, .. } => start_line(alloc, cmd.get()),
+        Note::Start { cmd, .. } => start_line(alloc, cmd),
         Note::Mark { .. } => line(alloc, "mark"),
         Note::Found { n, .. } => line_of(alloc, format!(in alloc; "found {n}")),
         Note::Writes { seq, entry, .. } => writes_line(alloc, *seq, entry.get()),

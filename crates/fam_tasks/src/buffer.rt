@@ -86,14 +86,8 @@ impl Buffer {
         ensures count { length self.new ≡ length self.old + LINE_WORDS }
     {
         let count = self.count();
-        self.push_behind(count, words[0]);
-        self.push_behind(count + 1, words[1]);
-        self.push_behind(count + 2, words[2]);
-        self.push_behind(count + 3, words[3]);
-        self.push_behind(count + 4, words[4]);
-        self.push_behind(count + 5, words[5]);
-        self.push_behind(count + 6, words[6]);
-        self.push_behind(count + 7, words[7]);
+        self.words[count..count + LINE_WORDS].copy_from_slice(words);
+        self.len = count + LINE_WORDS;
     }
 
     /// Forgets the words.

@@ -192,6 +192,7 @@ impl History {
         ensures { result.0 ≡ self.kept }
     {
         let History {
+            alloc,
             kept,
             follows,
             replay,
@@ -200,8 +201,8 @@ impl History {
         let Some(mut kept) = kept else {
             return (None, replay.into_kept());
         };
-        if follows {
-            kept.remember(replay.into_replica());
+        if follows && let Some(read) = replay.into_replica() {
+            kept.remember(alloc, read);
         }
         (Some(kept), None)
     }

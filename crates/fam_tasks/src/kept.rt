@@ -5,7 +5,7 @@ ghost use Rattle.fam_commands.specs.Kept.{AllJoin, is_same_params};
 ghost use Rattle.fam_replay.specs.Replay.{IsReplayOf};
 ghost use Rattle.fam_tasks.specs.History.{BeginsWith, MayResume};
 
-use fam_base::{OutOfMemory, Params};
+use fam_base::{Boxed, OutOfMemory, Params};
 use fam_plan::Plan;
 use fam_replay::Replica;
 use std::alloc::Global;
@@ -19,7 +19,7 @@ pub struct Kept {
     /// The entries. A log without any takes no memory.
     plan: Option<Plan>,
     /// What the host's last command read behind them, for the next one. No answer hangs on it.
-    read: Option<Replica>,
+    read: Option<Boxed<Replica>>,
 }
 
 impl Model for Kept {
@@ -101,12 +101,15 @@ impl Kept {
         count > 0 && self.params == *params && count <= gate
     }
 
-    /// What a command read behind the entries is held for the next one. It changes nothing that is kept.
-    pub(crate) fn remember(&mut self, read: Option<Replica>)
-        requires { MayResume self.old read }
+    /// What a command read behind the entries is held for the next one, where there is memory for that. It changes nothing that
+    /// is kept.
+    pub(crate) fn remember(&mut self, alloc: Global, read: Replica)
+        requires { BeginsWith self.old read }
         ensures { self.new ≡ self.old }
     {
-        self.read = read;
+        if let Ok(read) = Boxed::new(alloc, read) {
+            self.read = Some(read);
+        }
     }
 
     /// What the last command read behind the entries, where it is of the file system with these parameters and the gate counts
@@ -117,10 +120,10 @@ impl Kept {
         ensures same { self.new ≡ self.old }
     {
         let read = self.read.take()?;
-        if !read.is_of(params, gate) {
+        if !read.get().is_of(params, gate) {
             return None;
         }
-        Some(read)
+        Some(read.into_inner())
     }
 
     /// How many entries are kept.

@@ -4,18 +4,31 @@ use Rattle.std.specs.FinMap as finmap
 use Rattle.std.specs.List.{AllWithin, insert}
 use Rattle.std.specs.List.Sorted.{IsPartitionedBy, IsPartitionPoint}
 use Rattle.std.proofs.lemmas.Bool.{cases_lt}
-use Rattle.std.proofs.lemmas.List.{get_or-map, get_or_default, get_or_read, length-map, map-append, map-set}
+use Rattle.std.proofs.lemmas.List.{drop_all, get_or-map, get_or_default, get_or_read, length-map, map-append, map-set, take_all}
 use Rattle.fam_base.specs.declared.entry.Entry.{Entry}
 use Rattle.fam_format.specs.Tree.{with_entry}
-use Rattle.fam_tree.specs.Runs.{AreRuns, AreRunsOf, AreWithin, InOrder, IsPut, IsRunFor, RunsWithin, ends_before, ends_below, entries_in, entry_at, listed, run_of, runs_of, tree_of}
+use Rattle.fam_tree.specs.Runs.{AllAbove, AllBelow, AreRuns, AreRunsOf, AreWithin, InOrder, IsGap, IsPut, IsRunFor, RunsWithin, ends_before, ends_below, entries_in, entry_at, listed, run_of, runs_of, tree_of}
 use Rattle.fam_tree.proofs.Ordered.{all_back, all_front}
 use Rattle.fam_tree.proofs.Places.{ends_told, grown_run, within_more}
 use Rattle.fam_tree.proofs.Edits.{all_at, all_insert, all_set, map_insert}
-use Rattle.fam_tree.proofs.Search.{parted, placed, run_order}
+use Rattle.fam_tree.proofs.Search.{ends_all, parted, placed, run_order}
 use Rattle.fam_tree.proofs.Nested.{cut_runs, cut_whole, put_count, put_free, put_runs, put_view}
 
 abbrev pub Places : Type 0
 Places = List (List ℕ)
+
+-- ---- one run
+
+-- where it ends below a path, that would go behind it
+pub end_gap : (es : List Entry) (q : List ℕ) (run : List ℕ) → AreWithin (length es) run → InOrder (run_of es run) → ends_before es q run ≡ true → IsGap (run_of es run) q (length run)
+end_gap es q run within order ends =
+    let count : length (run_of es run) ≡ length run = length-map run (entry_at es) in
+    let all : AllBelow q (run_of es run) = ends_all q (run_of es run) order (sym (ends_told es q run within) ∙ ends) in
+    record {
+      within = omega (arith, count);
+      below = subst (AllBelow q) (sym (take_all (length run) (run_of es run) (omega (arith, count)))) all;
+      above = subst (AllAbove q) (sym (drop_all (length run) (run_of es run) (omega (arith, count)))) tt;
+    }
 
 -- ---- places within so many entries
 

@@ -32,7 +32,7 @@ less_by a b is = elim (path_cmp a b) as (λ o. is_lt o ≡ true → o ≡ Less) 
 ] is
 
 -- a run that ends below a path is below it
-ends_all : (q : List ℕ) (r : List Entry) → InOrder r → ends_below q r ≡ true → AllBelow q r
+pub ends_all : (q : List ℕ) (r : List Entry) → InOrder r → ends_below q r ≡ true → AllBelow q r
 ends_all q [] order ends = tt
 ends_all q (x ∷ []) order ends = (less_by x.path q (ap (is_below q) (sym (last_of_one x)) ∙ ends), tt)
 ends_all q (x ∷ y ∷ es) order ends =

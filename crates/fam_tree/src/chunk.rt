@@ -40,6 +40,28 @@ impl Clone for Chunk {
     }
 }
 
+/// Copies entries that another tree has too, and says whether there was memory for that.
+#[inline(always)]
+fn unshare(entries: &mut Rc<EntryList>) -> bool
+    ensures { entries.new.value ≡ entries.old.value }
+{
+    if Rc::strong_count(entries) == 1 {
+        return true;
+    }
+    copy_shared(entries)
+}
+
+/// Copies them. It stands apart, since it is rare.
+#[inline(never)]
+fn copy_shared(entries: &mut Rc<EntryList>) -> bool
+    ensures { entries.new.value ≡ entries.old.value }
+{
+    match Rc::make_mut(entries) {
+        Ok(_) => true,
+        Err(_) => false,
+    }
+}
+
 impl Chunk {
     /// No entries, and memory for the rows of so many.
     pub(crate) fn with_rows(alloc: Global, count: usize) -> Result<Chunk, OutOfMemory>
@@ -78,9 +100,12 @@ impl Chunk {
         ensures kept { OnFalse result (self.new ≡ self.old) }
         ensures same { OnFalse result (beside.new ≡ beside.old) }
     {
-        match Rc::make_mut(&mut self.entries) {
-            Ok(entries) => entries.push(entry, beside),
-            Err(_) => false,
+        if !unshare(&mut self.entries) {
+            return false;
+        }
+        match Rc::get_mut(&mut self.entries) {
+            Some(entries) => entries.push(entry, beside),
+            None => false,
         }
     }
 }

@@ -6,6 +6,7 @@ ghost use Rattle.fam_tree.specs.Chunks.{entries_held};
 ghost use Rattle.fam_tree.specs.Runs.{entry_at};
 
 use crate::beside::Beside;
+use crate::chunk_view::ChunkView;
 use crate::entry_list::EntryList;
 use crate::entry_ref::EntryRef;
 use crate::packed::Packed;
@@ -82,16 +83,27 @@ impl Chunks {
         self.len
     }
 
+    /// The entries, to be looked at in many places.
+    #[inline(always)]
+    pub(crate) fn view(&self) -> ChunkView<'_>
+        ensures { result ≡ self.now }
+    {
+        match &self.packed {
+            Some(packed) => packed.view(),
+            None => ChunkView {
+                full: &[],
+                last: None,
+            },
+        }
+    }
+
     /// The list in which the entry at a place stands, and where.
     #[inline(always)]
     fn find(&self, place: usize) -> (&EntryList, usize)
         requires { place < length self.now }
         ensures { slice_get result.0.now result.1 ≡ slice_get self.now place }
     {
-        match &self.packed {
-            Some(packed) => packed.find(place),
-            None => unreachable!(),
-        }
+        self.view().find(place)
     }
 
     /// The entry at a place.
@@ -122,16 +134,6 @@ impl Chunks {
     {
         let (list, i) = self.find(place);
         list.kind_at(i)
-    }
-
-    /// The bytes of the path of the entry at a place.
-    #[inline(always)]
-    pub(crate) fn path_at(&self, place: usize) -> &[u8]
-        requires { place < length self.now }
-        ensures { result.now ≡ (entry_at self.now place).path }
-    {
-        let (list, i) = self.find(place);
-        list.path_at(i)
     }
 
     /// Puts an entry behind the others, where something else grows by it. Else, and if there is no memory, nothing changes.

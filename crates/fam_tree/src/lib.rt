@@ -6,9 +6,9 @@
 #![tactic(auto)]
 
 mod beside;
-mod bisection;
 mod byte_order;
 mod chunk;
+mod chunk_view;
 mod chunks;
 mod entry_list;
 mod entry_ref;

@@ -1,12 +1,12 @@
 //! Chunks one behind another, of which each but the last one is full. `specs/Chunks.antt` says how.
 
-ghost use Rattle.std.specs.Prelude.{◌≡◌, ◌<◌, ◌++◌, ◌∷◌, [], IfOk, OnErr, OnOk, length, slice_get};
+ghost use Rattle.std.specs.Prelude.{◌≡◌, ◌<◌, ◌++◌, ◌∷◌, [], IfOk, OnErr, OnOk, length};
 ghost use Rattle.std.specs.Bool.{OnTrue, OnFalse};
 ghost use Rattle.fam_tree.specs.Chunks.{AreFull, ArePacked, packed_entries};
 
 use crate::beside::Beside;
 use crate::chunk::Chunk;
-use crate::entry_list::EntryList;
+use crate::chunk_view::ChunkView;
 use crate::entry_ref::EntryRef;
 use fam_base::OutOfMemory;
 use std::alloc::{AllocError, Global};
@@ -107,16 +107,14 @@ impl Packed {
         Ok(Packed { full, last })
     }
 
-    /// The list in which the entry at a place stands, and where.
+    /// The entries, to be looked at in many places.
     #[inline(always)]
-    pub(crate) fn find(&self, place: usize) -> (&EntryList, usize)
-        requires { place < length self.now }
-        ensures { slice_get result.0.now result.1 ≡ slice_get self.now place }
+    pub(crate) fn view(&self) -> ChunkView<'_>
+        ensures { result ≡ self.now }
     {
-        let i = place % CHUNK;
-        match self.full.get(place / CHUNK) {
-            Some(chunk) => (chunk.entries(), i),
-            None => (self.last.entries(), i),
+        ChunkView {
+            full: self.full.as_slice(),
+            last: Some(self.last.entries()),
         }
     }
 

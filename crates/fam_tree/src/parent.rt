@@ -42,7 +42,11 @@ fn place_in_name(bytes: &[u8]) -> usize
 pub(crate) fn parent_in(path: &[u8]) -> Option<&[u8]>
     ensures { option_map (λ parent. parent.now) result ≡ parent_of path.now }
 {
-    for i in (0..place_in_name(path)).rev() {
+    let end = place_in_name(path);
+    if end < 8 && begin_in_name(path) {
+        return None;
+    }
+    for i in (0..end).rev() {
         if path[i] == b'/' {
             return Some(&path[..i]);
         }

@@ -6,8 +6,8 @@ ghost use Rattle.std.specs.Bool.{OnTrue, OnFalse};
 ghost use Rattle.fam_tree.specs.Runs.{AreWithin, InOrder, IsAbsent, IsAt, IsFound, IsGap, IsPut, ends_before, entry_at, place_cmp, run_of};
 
 use crate::beside::Beside;
-use crate::bisection::{end_of, probe};
 use crate::byte_order::order;
+use crate::chunk_view::ChunkView;
 use crate::chunks::Chunks;
 use crate::entry_ref::EntryRef;
 use fam_base::OutOfMemory;
@@ -46,7 +46,7 @@ impl Clone for Run {
 
 /// The order of the path of the entry at a place and another, by its bytes.
 #[inline(always)]
-fn order_at(entries: &Chunks, place: u32, path: &[u8]) -> Ordering
+fn order_at(entries: &ChunkView<'_>, place: u32, path: &[u8]) -> Ordering
     requires { place < length entries.now }
     ensures { result ≡ place_cmp entries.now path.now place }
 {
@@ -140,8 +140,8 @@ impl Run {
     }
 
     /// Whether the last entry is below a path.
-    #[inline]
-    pub(crate) fn is_below(&self, entries: &Chunks, path: &[u8]) -> bool
+    #[inline(always)]
+    pub(crate) fn is_below(&self, entries: &ChunkView<'_>, path: &[u8]) -> bool
         requires { AreWithin (length entries.now) self.now }
         ensures { result ≡ ends_before entries.now path.now self.now }
     {
@@ -160,7 +160,7 @@ impl Run {
         }
     }
 
-    /// Where the place of the entry at a path stands, or else where it would.
+    /// Where the place of the entry at a path stands, or else where it would. While paths rise that is behind all others.
     #[inline]
     fn seek(&self, entries: &Chunks, path: &[u8]) -> Result<usize, usize>
         requires order { InOrder (run_of entries.now self.now) }
@@ -170,13 +170,16 @@ impl Run {
         ensures within { IfOk result (λ i. i < length self.now) }
         ensures end { IfErr result (λ i. i ≤ length self.now) }
     {
+        let view = entries.view();
         let places = self.places.as_slice();
-        let end = end_of(places.len(), self.rises(entries));
+        if self.rises(entries) && self.is_below(&view, path) {
+            return Err(places.len());
+        }
         let mut low = 0;
         let mut high = places.len();
         while low < high {
-            let middle = probe(low, high, end);
-            match order_at(entries, places[middle], path) {
+            let middle = low + (high - low) / 2;
+            match order_at(&view, places[middle], path) {
                 Ordering::Less => low = middle + 1,
                 Ordering::Equal => return Ok(middle),
                 Ordering::Greater => high = middle,
@@ -224,7 +227,7 @@ impl Run {
         if !unshare(&mut self.places) {
             return false;
         }
-        let Ok(places) = Rc::make_mut(&mut self.places) else {
+        let Some(places) = Rc::get_mut(&mut self.places) else {
             return false;
         };
         insert(places, i, entries, entry, beside)

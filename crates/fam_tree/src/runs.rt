@@ -7,7 +7,6 @@ ghost use Rattle.fam_format.specs.Tree.{with_entry};
 ghost use Rattle.fam_tree.specs.Runs.{AreRunsOf, IsRunFor, entry_at, listed, runs_of, tree_of};
 
 use crate::beside::Beside;
-use crate::bisection::{end_of, probe};
 use crate::chunks::Chunks;
 use crate::entry_ref::EntryRef;
 use crate::run::Run;
@@ -16,7 +15,7 @@ use std::alloc::Global;
 /// The most entries of a run, where there is memory to cut it.
 const MOST: usize = 256;
 
-/// The run that has a path or would have it, and `None` where there is no run.
+/// The run that has a path or would have it, and `None` where there is no run. While paths rise it is the last one.
 fn run_for(entries: &Chunks, runs: &[Run], path: &[u8]) -> Option<usize>
     requires { AreRunsOf entries.now runs.now }
     ensures some { IfSome result (λ k. IsRunFor (runs_of entries.now runs.now) path.now k) }
@@ -24,12 +23,15 @@ fn run_for(entries: &Chunks, runs: &[Run], path: &[u8]) -> Option<usize>
     ensures none { IfNone result (runs.now ≡ []) }
 {
     let last = runs.len().checked_sub(1)?;
-    let end = end_of(last, runs[last].rises(entries));
+    let view = entries.view();
+    if 0 < last && runs[last].rises(entries) && runs[last - 1].is_below(&view, path) {
+        return Some(last);
+    }
     let mut low = 0;
     let mut high = last;
     while low < high {
-        let middle = probe(low, high, end);
-        if runs[middle].is_below(entries, path) {
+        let middle = low + (high - low) / 2;
+        if runs[middle].is_below(&view, path) {
             low = middle + 1;
         } else {
             high = middle;

@@ -6,7 +6,8 @@
 //! given of slots and files after a gate was read is never older than that gate.
 //!
 //! A run of lines is read or written by one call for each page of it, through the same page: what was read ahead is
-//! forgotten then.
+//! forgotten then. A run of few lines, such as a slot's, is read as its lines are one by one, from what was read ahead, and written
+//! by one call past the page.
 
 ghost use Rattle.std.specs.Prelude.{◌≡◌, ◌≤◌, ◌<◌, ◌+◌, ◌-◌, ◌*◌, ◌↔◌, IsTrue, IfErr, IfSome, None, length, vec_len};
 ghost use Rattle.fam_media.specs.Causes.{HasCause};
@@ -26,6 +27,12 @@ const PAGE_BYTES: usize = 65536;
 
 /// The lines that are read or written by one call at most: those of a page.
 const PAGE_LINES: usize = 1024;
+
+/// The lines of a run that is read as its lines are one by one: those of a slot at most.
+const FEW_LINES: usize = 16;
+
+/// Their bytes.
+const FEW_BYTES: usize = 1024;
 
 /// The bytes that are read ahead where no line before this one was given.
 const FIRST_BYTES: usize = 4096;
@@ -336,6 +343,63 @@ impl FileMedia {
         Ok(())
     }
 
+    /// Reads few lines: at once where all of them were read ahead, and else one by one.
+    #[inline]
+    fn read_few(&mut self, first: u64, lines: &mut [Line]) -> Result<(), RunFailed>
+        requires within { first + length lines.old ≤ self.old.lines }
+        requires few { length lines.old ≤ FEW_LINES }
+        ensures before { IfErr result (λ failed. failed.done < length lines.old) }
+        ensures len { length lines.new ≡ length lines.old }
+        ensures lines { self.new.lines ≡ self.old.lines }
+        ensures cause { HasCause self.old.faults self.new.faults result }
+    {
+        let end = first + lines.len() as u64;
+        if !self.is_ahead(first) || self.end < end {
+            return self.read_each(first, lines);
+        }
+        let start = (first - self.first) as usize * 64;
+        put_words(&self.page[start..start + 64 * lines.len()], lines);
+        self.next = end;
+        Ok(())
+    }
+
+    /// Those of few lines that were read ahead aren't given any more, nor those before them.
+    fn pass(&mut self, first: u64, end: u64)
+        requires { first ≤ end }
+        ensures lines { self.new.lines ≡ self.old.lines }
+        ensures faults { self.new.faults ≡ self.old.faults }
+    {
+        if first < self.end && self.next < end {
+            self.next = end;
+        }
+    }
+
+    /// Writes few lines by one call. What was read ahead of others stays.
+    fn write_few(&mut self, first: u64, lines: &[Line]) -> Result<(), RunFailed>
+        requires within { first + length lines.now ≤ self.old.lines }
+        requires few { length lines.now ≤ FEW_LINES }
+        ensures before { IfErr result (λ failed. failed.done < length lines.now) }
+        ensures lines { self.new.lines ≡ self.old.lines }
+        ensures cause { HasCause self.old.faults self.new.faults result }
+    {
+        if lines.is_empty() {
+            return Ok(());
+        }
+        self.pass(first, first + lines.len() as u64);
+        let mut bytes = [0; FEW_BYTES];
+        let end = 64 * lines.len();
+        put_bytes(lines, &mut bytes[..end]);
+        let done = match &self.file {
+            Some(file) => write_bytes(file, &bytes[..end], first) / 64,
+            None => 0,
+        };
+        if done == lines.len() {
+            return Ok(());
+        }
+        self.faults = self.faults.saturating_add(1);
+        Err(RunFailed { done })
+    }
+
     /// Writes lines one by one.
     fn write_each(&mut self, first: u64, lines: &[Line]) -> Result<(), RunFailed>
         requires within { first + length lines.now ≤ self.old.lines }
@@ -406,8 +470,12 @@ impl Media for FileMedia {
         Err(Failed)
     }
 
-    /// By one call for the lines of a page. Those up to the gate's, and lines where there is no page, are read one by one.
+    /// By one call for the lines of a page. Few lines come from what was read ahead, and those up to the gate's, and lines where
+    /// there is no page, are read one by one.
     fn read_run(&mut self, first: LineNo, lines: &mut [Line]) -> Result<(), RunFailed> {
+        if lines.len() <= FEW_LINES {
+            return self.read_few(first.0, lines);
+        }
         if first.0 <= GATE_LINE || self.page.len() < PAGE_BYTES {
             return self.read_each(first.0, lines);
         }
@@ -424,9 +492,12 @@ impl Media for FileMedia {
         Ok(())
     }
 
-    /// By one call for the lines of a page, or one by one where there is none. Where a call fails behind so many bytes,
-    /// the line that has the next one is the one that failed, and no line is written again.
+    /// By one call for few lines, or for those of a page, or one by one where there is no page. Where a call fails behind so many
+    /// bytes, the line that has the next one is the one that failed, and no line is written again.
     fn write_run(&mut self, first: LineNo, lines: &[Line]) -> Result<(), RunFailed> {
+        if lines.len() <= FEW_LINES {
+            return self.write_few(first.0, lines);
+        }
         if self.page.len() < PAGE_BYTES {
             return self.write_each(first.0, lines);
         }

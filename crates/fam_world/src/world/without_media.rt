@@ -6,6 +6,7 @@ ghost use Rattle.fam_journal.specs.ByWorld.{refusal_in};
 ghost use Rattle.fam_journal.specs.Calls.{Begins, Declares, Halts, Refuses, Stops, Umounts};
 ghost use Rattle.fam_journal.specs.CallRecords.{WorldCall};
 ghost use Rattle.fam_base.specs.Commands.{IsSoundCmd};
+ghost use Rattle.fam_notes.specs.Commands.{command_of};
 ghost use Rattle.fam_tasks.specs.Sound.{most_lines};
 ghost use Rattle.fam_world.specs.Answers.{IfAnswered, refusal_told};
 ghost use Rattle.fam_commands.specs.Classes.{is_mount};
@@ -16,10 +17,10 @@ use crate::fault::WorldFault;
 use crate::find::{declared, declared_before, entries_kept, is_mount, may_begin, mounted, running};
 use crate::hosts::{Host, begin_task, end_task, forget, lose};
 use crate::notes::{add, make_room, refused};
-use fam_base::{Boxed, Cmd, HostName, OutOfMemory};
+use fam_base::{Cmd, HostName, OutOfMemory};
 use fam_cache::HostCache;
 use fam_journal::{HostId, Refusal};
-use fam_notes::Note;
+use fam_notes::{Note, NotedCommand};
 use std::alloc::Global;
 use uuid::Uuid;
 
@@ -45,11 +46,11 @@ fn add_host(hosts: &mut Vec<Host>, host: Host)
 }
 
 /// A command twice: one for the journal, and one for the task.
-fn two_copies(alloc: Global, cmd: &Cmd) -> Result<(Boxed<Cmd>, Cmd), OutOfMemory>
-    ensures noted { IfOk result (λ copies. copies.0 ≡ cmd.now) }
+fn two_copies(alloc: Global, cmd: &Cmd) -> Result<(NotedCommand, Cmd), OutOfMemory>
+    ensures noted { IfOk result (λ copies. command_of copies.0 ≡ cmd.now) }
     ensures own { IfOk result (λ copies. copies.1 ≡ cmd.now) }
 {
-    let noted = Boxed::new(alloc, cmd.copy()?)?;
+    let noted = NotedCommand::of(alloc, cmd)?;
     let own = cmd.copy()?;
     Ok((noted, own))
 }

@@ -1,4 +1,4 @@
-use Rattle.std.proofs.Common.{◌≡◌, ◌∙◌, ◌++◌, ◌∷◌, [], List, length, vec_len, vec_capacity, replicate, ap, subst, refl, arith, sym}
+use Rattle.std.proofs.Common.{◌≡◌, ◌∙◌, ◌++◌, ◌∷◌, [], length, vec_len, vec_capacity, replicate, ap, refl, arith}
 use Rattle.fam_cache.specs.declared.blocks.Block.{Block}
 use Rattle.fam_cache.specs.declared.blocks.Mark.TheVariants.{Empty}
 use Rattle.fam_cache.specs.Blocks.{cache_of}

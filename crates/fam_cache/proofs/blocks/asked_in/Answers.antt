@@ -1,4 +1,4 @@
-use Rattle.std.proofs.Common.{◌∙◌, ◌≡◌, ℕ, ap, sym, arith, inl, inr, get_or, []}
+use Rattle.std.proofs.Common.{◌∙◌, ℕ, ap, sym, arith, inl, inr, get_or, []}
 use Rattle.std.proofs.lemmas.Bool.{cases_eq, false≢true}
 use Rattle.fam_machine.specs.OneLine.{is_asked}
 use Rattle.fam_cache.specs.Blocks.{cell_in}

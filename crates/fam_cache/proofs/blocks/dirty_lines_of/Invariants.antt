@@ -1,4 +1,4 @@
-use Rattle.std.proofs.Common.{◌≡◌, ℕ, take}
+use Rattle.std.proofs.Common.{◌≡◌, take}
 use Rattle.fam_cache.proofs.CountLemmas.{dirty_of}
 use Rattle.fam_cache.proofs.blocks.dirty_lines_of.Given as goal
 

@@ -1,4 +1,4 @@
-use Rattle.std.proofs.Common.{◌∙◌, ◌≡◌, ◌<◌, ◌/◌, ◌%◌, ℕ, List, Bool, cond, length, ap, sym, subst, arith, refl, replicate, set}
+use Rattle.std.proofs.Common.{◌∙◌, ◌<◌, ◌/◌, ◌%◌, ℕ, List, Bool, cond, length, ap, sym, subst, arith, refl, replicate, set}
 use Rattle.std.specs.List.{insert}
 use Rattle.std.proofs.lemmas.List.{get_or_default}
 use Rattle.fam_cache.specs.Blocks.{Areas, IsEnlisted, area_at, no_area}

@@ -1,4 +1,4 @@
-use Rattle.std.proofs.Common.{◌∙◌, ap, sym}
+use Rattle.std.proofs.Common.{◌∙◌, ap}
 use Rattle.fam_machine.specs.OneLine.{is_held}
 use Rattle.fam_cache.proofs.BlockLemmas.{cell_none, unheld}
 use Rattle.fam_cache.proofs.blocks.held_at.Goals as goal

@@ -1,8 +1,8 @@
-use Rattle.std.proofs.Common.{◌∙◌, ◌≡◌, ◌+◌, ◌*◌, ◌/◌, ◌≤◌, ap, sym, subst, arith, refl, ℕ}
+use Rattle.std.proofs.Common.{◌∙◌, ◌+◌, sym, subst, arith, refl}
 use Rattle.std.proofs.lemmas.List.{get_or_default}
 use Rattle.fam_machine.specs.OneLine.{IsAsked}
 use Rattle.fam_cache.specs.declared.blocks.Block.{Block}
-use Rattle.fam_cache.specs.Blocks.{IsBlockOf, block_at, cell_in, no_block}
+use Rattle.fam_cache.specs.Blocks.{cell_in, no_block}
 use Rattle.fam_cache.proofs.AskedBlocks.{first_here, none_behind, none_in_block, none_there, none_to}
 use Rattle.fam_cache.proofs.blocks.next_asked.Goals as goal
 use Rattle.fam_cache.proofs.blocks.next_asked.Goals.{in-Some-find+in_default-asked_in, in_default-find}

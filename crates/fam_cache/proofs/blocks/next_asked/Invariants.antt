@@ -1,4 +1,4 @@
-use Rattle.std.proofs.Common.{◌-◌, ◌/◌, ◌+◌, ◌*◌, ℕ, ◌<◌, ◌≤◌}
+use Rattle.std.proofs.Common.{◌-◌, ◌/◌, ◌+◌, ◌*◌, ◌≤◌}
 use Rattle.fam_cache.specs.Blocks.{NoneAsked, lines_of}
 use Rattle.fam_cache.proofs.blocks.next_asked.Given as goal
 

@@ -1,6 +1,6 @@
-use Rattle.std.proofs.Common.{◌∙◌, ◌≡◌, ◌≤◌, ◌/◌, ◌*◌, ◌<◌, ap, sym, arith, ℕ, List, length}
+use Rattle.std.proofs.Common.{◌∙◌, ◌≡◌, ◌≤◌, ◌/◌, ◌<◌, ap, sym, arith, ℕ, List, length}
 use Rattle.std.proofs.lemmas.List.{get_or_default}
-use Rattle.fam_cache.specs.Blocks.{Before, area_at, no_area}
+use Rattle.fam_cache.specs.Blocks.{area_at, no_area}
 use Rattle.fam_cache.proofs.BlockLemmas.{none_between}
 use Rattle.fam_cache.proofs.blocks.next_number.Goals as goal
 

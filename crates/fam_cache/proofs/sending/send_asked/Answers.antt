@@ -1,11 +1,9 @@
-use Rattle.std.proofs.Common.{◌≡◌, ℕ, ◌+◌, ◌<◌, ◌∙◌, ◌∷◌, List, length, ap, sym, refl, arith}
-use Rattle.fam_machine.specs.Caches.{asked_lines, cell_changed}
-use Rattle.fam_machine.specs.OneLine.{cleaned}
+use Rattle.std.proofs.Common.{◌∙◌, refl, arith}
 use Rattle.fam_cache.specs.Blocks.{lines_of}
 use Rattle.fam_cache.specs.Runs.{over}
-use Rattle.fam_cache.proofs.AskedLines.{next_line, none_more}
-use Rattle.fam_cache.proofs.AskedRange.{within_next}
-use Rattle.fam_cache.proofs.Fenced.{all_cleaned, all_sent_here, none_sent, not_all_sent, sent_next, was_asked}
+use Rattle.fam_cache.proofs.AskedLines.{none_more}
+use Rattle.fam_cache.proofs.Fenced.{all_cleaned, all_sent_here, none_sent}
+use Rattle.fam_cache.proofs.SentRunLemmas.{fails_asked, fails_cleans, run_fails, run_sent, run_within, still_asked}
 use Rattle.fam_cache.proofs.sending.send_asked.Goals as goal
 
 pub loop-at-init : goal.loop-at-init
@@ -18,40 +16,42 @@ loop-at-init g c = record {
   room = refl;
 }
 
-pub send_place-requires-clause-within : goal.send_place-requires-clause-within
-send_place-requires-clause-within g c =
+pub send_run-requires-clause-within : goal.send_run-requires-clause-within
+send_run-requires-clause-within g c = λ line asked.
     let v = c.loop-at.invariant in
-    let first = next_line (lines_of c.loop-at.places) c.loop-at.from c.args.last v.range c.in-Some.number c.in-Some.ensures.asked in
-    omega (arith, c.requires.within c.in-Some.number (was_asked _ _ v.sent c.in-Some.number _ first), v.steady.size)
+    omega (arith, c.requires.within line (still_asked c.args.first c.args.last _ (over (g.M.Media.state c.loop-at.media).image (lines_of c.loop-at.places)) c.requires.range v.sent line asked), v.steady.size)
 
 pub returns-in-Err-clause-failed : goal.returns-in-Err-clause-failed
 returns-in-Err-clause-failed g c =
     let v = c.loop-at.invariant in
-    let first = next_line (lines_of c.loop-at.places) c.loop-at.from c.args.last v.range c.in-Some.number c.in-Some.ensures.asked in
-    not_all_sent _ _ v.sent (record { 0 = c.in-Some.number }) _ _ (lines_of c.send_place.new.places) c.in-Err.ensures.err first c.in-Err.ensures.torn
+    run_fails _ _ c.loop-at.from c.args.last c.in-Some.number v.sent v.range c.in-Some.ensures.asked c.in-Err.fault.0 (over (g.M.Media.state c.send_run.new.media).image (lines_of c.send_run.new.places)) c.in-Err.ensures.failed
+
+pub returns-in-Err-clause-err : goal.returns-in-Err-clause-err
+returns-in-Err-clause-err g c =
+    let v = c.loop-at.invariant in
+    fails_cleans _ _ c.loop-at.from c.args.last c.in-Some.number v.sent v.range c.in-Some.ensures.asked c.in-Err.fault.0 (over (g.M.Media.state c.send_run.new.media).image (lines_of c.send_run.new.places)) c.in-Err.ensures.failed
 
 pub returns-in-Err-clause-line : goal.returns-in-Err-clause-line
 returns-in-Err-clause-line g c =
     let v = c.loop-at.invariant in
-    was_asked _ _ v.sent c.in-Some.number _ (next_line (lines_of c.loop-at.places) c.loop-at.from c.args.last v.range c.in-Some.number c.in-Some.ensures.asked)
+    fails_asked _ _ c.loop-at.from c.args.last c.in-Some.number v.sent v.range c.in-Some.ensures.asked c.in-Err.fault.0 (over (g.M.Media.state c.send_run.new.media).image (lines_of c.send_run.new.places)) c.in-Err.ensures.failed
 
 pub returns-in-Err-clause-idle : goal.returns-in-Err-clause-idle
-returns-in-Err-clause-idle g c = λ none. absurd (none c.in-Some.number (returns-in-Err-clause-line g c))
+returns-in-Err-clause-idle g c = λ none. absurd (none c.in-Err.fault.0.0 (returns-in-Err-clause-line g c))
 
 pub returns-in-Err-clause-same : goal.returns-in-Err-clause-same
-returns-in-Err-clause-same g c = λ none. absurd (none c.in-Some.number (returns-in-Err-clause-line g c))
+returns-in-Err-clause-same g c = λ none. absurd (none c.in-Err.fault.0.0 (returns-in-Err-clause-line g c))
 
 pub loop-at-preserved : goal.loop-at-preserved
 loop-at-preserved g c =
     let v = c.loop-at.invariant in
     let e = c.in-Ok.ensures in
-    let now = lines_of c.loop-at.places in
-    let first = next_line now c.loop-at.from c.args.last v.range c.in-Some.number c.in-Some.ensures.asked in
+    let now = over (g.M.Media.state c.send_run.new.media).image (lines_of c.send_run.new.places) in
     record {
       kept = e.kept;
-      range = within_next c.loop-at.from c.args.last c.in-Some.number now (lines_of c.send_place.new.places) v.range c.in-Some.ensures.asked e.cache;
-      sent = sent_next _ _ v.sent (over (g.M.Media.state c.send_place.new.media).image (lines_of c.send_place.new.places)) c.in-Some.number _ first (ap asked_lines e.cache) e.cache e.memory;
-      same = λ none. absurd (none c.in-Some.number (was_asked _ _ v.sent c.in-Some.number _ first));
+      range = run_within _ _ c.loop-at.from c.args.last c.in-Some.number v.sent v.range c.in-Some.ensures.asked c.in-Ok.count now e.sent;
+      sent = run_sent _ _ c.loop-at.from c.args.last c.in-Some.number v.sent v.range c.in-Some.ensures.asked c.in-Ok.count now e.sent;
+      same = λ none. absurd (none c.in-Some.number (still_asked c.args.first c.args.last _ (over (g.M.Media.state c.loop-at.media).image (lines_of c.loop-at.places)) c.requires.range v.sent c.in-Some.number c.in-Some.ensures.asked.asked));
       steady = record { size = e.size ∙ v.steady.size; later = omega (arith, e.cause.later, v.steady.later) };
       room = e.room ∙ v.room;
     }
@@ -59,8 +59,7 @@ loop-at-preserved g c =
 pub loop-at-smaller : goal.loop-at-smaller
 loop-at-smaller g c =
     let v = c.loop-at.invariant in
-    let first = next_line (lines_of c.loop-at.places) c.loop-at.from c.args.last v.range c.in-Some.number c.in-Some.ensures.asked in
-    omega (arith, ap (λ (ls : List ℕ). length ls) first, ap (λ cache. length (asked_lines cache)) c.in-Ok.ensures.cache)
+    omega (arith, v.range.high c.in-Some.number c.in-Some.ensures.asked.asked, c.in-Some.ensures.asked.from_there, c.in-Ok.ensures.some)
 
 pub returns-clause-operated : goal.returns-clause-operated
 returns-clause-operated g c =

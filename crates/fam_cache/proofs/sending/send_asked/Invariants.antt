@@ -1,5 +1,5 @@
-use Rattle.std.proofs.Common.{◌≡◌, ℕ, length}
-use Rattle.fam_machine.specs.Caches.{asked_lines, cell_at}
+use Rattle.std.proofs.Common.{◌≡◌, ℕ, ◌+◌, ◌-◌}
+use Rattle.fam_machine.specs.Caches.{cell_at}
 use Rattle.fam_machine.specs.OneLine.{IsAsked}
 use Rattle.fam_media.specs.Causes.{IsSteady}
 use Rattle.fam_cache.specs.Blocks.{AskedWithin, IsKept, lines_of}
@@ -18,4 +18,4 @@ invariant-loop-at g l = record {
 }
 
 abbrev pub decreases-loop-at : goal.decreases-loop-at
-decreases-loop-at g l = length (asked_lines (lines_of l.places))
+decreases-loop-at g l = l.last + 1 - l.from

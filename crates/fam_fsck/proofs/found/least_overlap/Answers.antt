@@ -28,14 +28,14 @@ returns-then-is_none c = λ p before fault unit items used known.
     least_of c.args.unit c.args.found.now before (found_as c.args.number c.args.last.now fault) c.args.known None items known
     (least_new c.args.unit c.args.found.now (found_as c.args.number c.args.last.now fault) c.args.known None c.in_default.is none)
 
-pub returns-in-Some-partner : goal.returns-in-Some-partner
-returns-in-Some-partner c = λ p before fault unit items used known.
+pub returns-in-Some-partner_of : goal.returns-in-Some-partner_of
+returns-in-Some-partner_of c = λ p before fault unit items used known.
     least_of c.args.unit c.args.found.now before (found_as c.args.number c.args.last.now fault) c.args.known _ items known
     (least_new c.args.unit c.args.found.now (found_as c.args.number c.args.last.now fault) c.args.known _ c.in_default.is
-    (ap (option_map (λ (n : ℕ). (n, c.args.number))) (sym c.in-Some-partner.is ∙ c.partner.ensures ∙ ap (first_of c.args.unit c.args.found.now c.args.number) c.to_entry.ensures)))
+    (ap (option_map (λ (n : ℕ). (n, c.args.number))) (sym c.in-Some-partner_of.is ∙ c.partner_of.ensures)))
 
 pub returns-in-None : goal.returns-in-None
 returns-in-None c = λ p before fault unit items used known.
     least_of c.args.unit c.args.found.now before (found_as c.args.number c.args.last.now fault) c.args.known _ items known
     (least_new c.args.unit c.args.found.now (found_as c.args.number c.args.last.now fault) c.args.known _ c.in_default.is
-    (ap (option_map (λ (n : ℕ). (n, c.args.number))) (sym c.in-None.is ∙ c.partner.ensures ∙ ap (first_of c.args.unit c.args.found.now c.args.number) c.to_entry.ensures)))
+    (ap (option_map (λ (n : ℕ). (n, c.args.number))) (sym c.in-None.is ∙ c.partner_of.ensures)))

@@ -1,4 +1,3 @@
-use Rattle.fam_base.specs.Image.{eight}
 use Rattle.fam_cache.specs.Blocks.{lines_of}
 use Rattle.fam_cache.proofs.AskedRange.{within_dirty}
 use Rattle.fam_cache.proofs.cache.HostCache.put_run.Goals as goal

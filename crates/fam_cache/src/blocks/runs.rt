@@ -1,0 +1,66 @@
+//! Lines of one block that stand one behind another.
+
+ghost use Rattle.std.specs.Prelude.{ℕ, ◌≡◌, ◌+◌, ◌/◌, ◌%◌, ◌<◌, ◌≤◌, length, true};
+ghost use Rattle.fam_base.specs.Image.{eight};
+ghost use Rattle.fam_machine.specs.Caches.{with_cell};
+ghost use Rattle.fam_machine.specs.OneLine.{IsDirty};
+ghost use Rattle.fam_machine.specs.declared.cell.Cell.{Cell};
+ghost use Rattle.fam_cache.specs.Blocks.{HasNone, HasRoom, IsBlockOf, IsKept, cell_in, lines_of};
+ghost use Rattle.fam_cache.specs.BroughtRuns.{LacksNone};
+
+use super::{Block, Blocks, Mark, add_block, is_dirty_mark};
+use fam_base::Line;
+
+/// Whether none of so many lines of a block is dirty, from this place on.
+#[inline(always)]
+fn is_clean(block: &Block, from: usize, count: usize) -> bool
+    requires { from + count ≤ 16 }
+    ensures { result ≡ true → (i : ℕ) → from ≤ i → i < from + count → ¬ (IsDirty (cell_in block.now i)) }
+{
+    for i in from..from + count {
+        if is_dirty_mark(block.marks[i]) {
+            return false;
+        }
+    }
+    true
+}
+
+/// Whether none of so many lines is dirty, from this one on, whose block stands there.
+#[inline(always)]
+pub(crate) fn lacks_none(cache: &Blocks, at: usize, first: u64, count: usize) -> bool
+    requires kept { IsKept cache.now }
+    requires stands { IsBlockOf cache.now.blocks.items at (first / 16) }
+    requires within { first % 16 + count ≤ 16 }
+    ensures { result ≡ true → LacksNone (lines_of cache.now) first count }
+{
+    is_clean(&cache.blocks[at], (first % 16) as usize, count)
+}
+
+/// Adds a block that holds no line, and returns its place.
+#[inline(never)]
+pub(crate) fn empty_block(cache: &mut Blocks, number: u64) -> usize
+    requires kept { IsKept cache.old }
+    requires none { HasNone cache.old.blocks.items number }
+    requires room { HasRoom cache.old }
+    ensures kept { IsKept cache.new }
+    ensures same { lines_of cache.new ≡ lines_of cache.old }
+    ensures stands { IsBlockOf cache.new.blocks.items result number }
+    ensures spare { cache.old.room ≤ cache.new.room + 1 }
+{
+    add_block(cache, number)
+}
+
+/// Puts a clean copy of a line into its block.
+#[inline(always)]
+pub(crate) fn set_fresh(cache: &mut Blocks, at: usize, line: u64, words: &Line)
+    requires kept { IsKept cache.old }
+    requires stands { IsBlockOf cache.old.blocks.items at (line / 16) }
+    ensures kept { IsKept cache.new }
+    ensures cache { lines_of cache.new ≡ with_cell line (Cell.Clean (eight words.now)) (lines_of cache.old) }
+    ensures stands { IsBlockOf cache.new.blocks.items at (line / 16) }
+    ensures room { cache.new.room ≡ cache.old.room }
+{
+    let block = &mut cache.blocks[at];
+    block.marks[(line % 16) as usize] = Mark::Fresh;
+    block.words[(line % 16) as usize] = *words;
+}
