@@ -64,7 +64,7 @@ cell_there (b ∷ bs) (suc at) q within is before = first_other b bs q (before 0
 
 -- A block is set.
 module _ (new : Block) (l : ℕ) (is_new : new.number ≡ l / 16) where
-  set_same : (bs : List Block) (at : ℕ) → at < length bs → ((j : ℕ) → j < at → number_at bs j ≢ l / 16) → cell_at (cache_of (set bs at new)) l ≡ cell_in new (l % 16)
+  pub set_same : (bs : List Block) (at : ℕ) → at < length bs → ((j : ℕ) → j < at → number_at bs j ≢ l / 16) → cell_at (cache_of (set bs at new)) l ≡ cell_in new (l % 16)
   set_same [] at within before = absurd (omega arith)
   set_same (b ∷ bs) zero within before = first_here new bs l is_new
   set_same (b ∷ bs) (suc at) within before = first_other b (set bs at new) l (before 0 (omega arith)) ∙ set_same bs at (omega arith) (λ j below. before (suc j) (omega arith))
@@ -91,7 +91,7 @@ module _ (c : Blocks) (kept : IsKept c) where
   pub alone : (i j : ℕ) → i < length c.blocks.items → j < length c.blocks.items → number_at c.blocks.items i ≡ number_at c.blocks.items j → i ≡ j
   alone i j at_i at_j e = same_some i j (sym (kept.indexed i at_i) ∙ ap (place_in c.areas.items) e ∙ kept.indexed j at_j)
 
-  first_of : (at n : ℕ) → IsBlockOf c.blocks.items at n → (j : ℕ) → j < at → number_at c.blocks.items j ≢ n
+  pub first_of : (at n : ℕ) → IsBlockOf c.blocks.items at n → (j : ℕ) → j < at → number_at c.blocks.items j ≢ n
   first_of at n stands j below e =
       let same : j ≡ at = alone j at (omega (arith, stands.within)) stands.within (e ∙ sym stands.is) in
       omega arith
@@ -167,7 +167,7 @@ stands_set bs at n new is stands = record {
 }
 
 module _ (c : Blocks) (kept : IsKept c) (at l : ℕ) (stands : IsBlockOf c.blocks.items at (l / 16)) (b : Block) (read : b ≡ get_or c.blocks.items at b) where
-  b_is : b ≡ block_at c.blocks.items at
+  pub b_is : b ≡ block_at c.blocks.items at
   b_is = read ∙ get_or_default c.blocks.items at b no_block stands.within
 
   pub b_whole : IsWhole b
@@ -191,7 +191,7 @@ module _ (c : Blocks) (kept : IsKept c) (at l : ℕ) (stands : IsBlockOf c.block
         greatest = λ j below. omega (arith, set_number c.blocks.items at new stands.within is j, kept.greatest j (omega (arith, below, length-set c.blocks.items at new)));
       }
 
-  b_number : b.number ≡ number_at c.blocks.items at
+  pub b_number : b.number ≡ number_at c.blocks.items at
   b_number = ap (λ (x : Block). x.number) b_is
 
   module _ (mark : Mark) (words : List ℕ) where

@@ -13,3 +13,4 @@ pub mod Runs
 pub mod SentRunLemmas
 pub mod Shedding
 pub mod BroughtRunLemmas
+pub mod SetRuns

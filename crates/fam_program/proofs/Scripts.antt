@@ -3,3 +3,6 @@ pub mod Puts
 pub mod Lines
 pub mod Files
 pub mod Turned
+pub mod FirstLines
+pub mod LinesRun
+pub mod StormReads

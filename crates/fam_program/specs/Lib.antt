@@ -7,3 +7,4 @@ pub mod Unprinted
 pub mod Shots
 pub mod Shadows
 pub mod Dups
+pub mod LineByLine

@@ -7,6 +7,7 @@
 
 mod dups;
 mod fault;
+mod line_by_line;
 mod lines;
 mod no_files;
 mod numbers;

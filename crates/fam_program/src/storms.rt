@@ -1,27 +1,22 @@
 //! Storms: a script of random events is run, with one line for the whole run; or it is put as it is.
 
-ghost use Rattle.std.specs.Prelude.{◌≡◌, ◌≤◌, ◌⊎◌, IfOk, List, Ok, Some, length};
-ghost use Rattle.fam_grammar.specs.Scripts.{script_events};
+ghost use Rattle.std.specs.Prelude.{◌≡◌, ◌≤◌, ◌⊎◌, IfOk, List, Some, count_by, length};
+ghost use Rattle.fam_grammar.specs.Scripts.{is_line_feed, script_events};
 ghost use Rattle.fam_journal.specs.declared.event.Event.{Event as Happening};
 ghost use Rattle.fam_outcomes.specs.declared.status.Status.TheVariants as status;
 ghost use Rattle.fam_journal.specs.Names.{NameDeclared};
 ghost use Rattle.fam_outcomes.specs.Programs.{Storm, TopEnds, memory_line};
 ghost use Rattle.fam_outcomes.specs.Programs as program;
-ghost use Rattle.fam_program.specs.Far.{AreSoundEvents};
 ghost use Rattle.fam_program.specs.Puts.{Put};
 ghost use Rattle.fam_program.specs.Runs.{outside_of};
 ghost use Rattle.fam_media.specs.Causes.{IsShelfSteady, IsSteady};
 ghost use Rattle.fam_media.specs.States.{change};
-ghost use Rattle.fam_storm.specs.Events.{ReadNoSource};
 ghost use Rattle.fam_storm.specs.Storm.{storm as storm_text};
 
+use crate::line_by_line::run_lines;
 use crate::puts::{put_line, put_memory};
-use crate::read::read_script;
-use crate::unprinted::run_events;
 use fam_base::OutOfMemory;
 use fam_events::EventFault;
-use fam_grammar::LineFault;
-use fam_journal::Event;
 use fam_media::{Media, Shelf, Sink};
 use fam_outcomes::Status;
 use fam_script::{count_notes, storm_line, text_crc};
@@ -29,26 +24,11 @@ use fam_storm::{a_storm_is_an_event_for_each_line, a_storm_reads_no_source, stor
 use fam_world::World;
 use std::alloc::Global;
 
-/// The events of a storm's script. Each line is one, and none of them reads a source.
-fn storm_events(
-    alloc: Global,
-    seed: u64,
-    size: u64,
-    script: &[u8],
-) -> Result<Vec<Event>, OutOfMemory>
-    requires small { size ≤ 100000 }
-    requires script { script.now ≡ storm_text seed size }
-    ensures read { IfOk result (λ events. script_events (storm_text seed size) ≡ Ok events.items) }
-    ensures sound { IfOk result (λ events. AreSoundEvents events.items) }
-    ensures sources { IfOk result (λ events. ReadNoSource events.items) }
+/// How many lines end in a script.
+fn count_lines(script: &[u8]) -> u64
+    ensures { result ≡ count_by is_line_feed script.now }
 {
-    a_storm_is_an_event_for_each_line();
-    a_storm_reads_no_source();
-    match read_script(alloc, script) {
-        Ok(events) => Ok(events),
-        Err(LineFault::OutOfMemory) => Err(OutOfMemory),
-        Err(LineFault::BadLine { .. }) => unreachable!(),
-    }
+    script.iter().filter(|byte| **byte == b'\n').count() as u64
 }
 
 /// The line of a storm that was run, with so many events in its script.
@@ -92,8 +72,8 @@ fn put_summary<K: Sink>(
 }
 
 /// Runs the storm of a seed and a size, of at most 100,000 turns, on a media, and puts its line: how many events its
-/// script has, what is counted of the notes, and the CRC-32 of their text. With `prints` its script is put, and nothing
-/// is run.
+/// script has, what is counted of the notes, and the CRC-32 of their text. Each line of the script is read when the
+/// events before it are done. With `prints` the script is put, and nothing is run.
 ///
 /// The run ends early where the media fails in a mkfs, and the line is put all the same; or where no memory is left,
 /// which is then put alone. No event of a storm reads a source.
@@ -117,15 +97,15 @@ pub fn run_storm<M: Media, S: Shelf, K: Sink>(
     let Ok(script) = storm(alloc, seed, size) else {
         return put_memory(out);
     };
+    let text = script.as_slice();
     if prints {
-        return put_line(out, Status::Done, script.as_slice());
+        return put_line(out, Status::Done, text);
     }
-    let Ok(events) = storm_events(alloc, seed, size, script.as_slice()) else {
-        return put_memory(out);
-    };
-    let count = events.len() as u64;
+    a_storm_is_an_event_for_each_line();
+    a_storm_reads_no_source();
+    let count = count_lines(text);
     let mut world = World::new(alloc);
-    match run_events(alloc, &mut world, events, media, shelf) {
+    match run_lines(alloc, &mut world, text, media, shelf) {
         Ok(()) => put_summary(alloc, seed, size, count, &world, Status::Done, out),
         Err(EventFault::MkfsFailed) => {
             put_summary(alloc, seed, size, count, &world, Status::MediaFault, out)

@@ -6,7 +6,7 @@ ghost use Rattle.fam_media.specs.Outside.{IfModelled};
 ghost use Rattle.fam_media.specs.States.{change, SinkChange};
 ghost use Rattle.fam_journal.specs.View.{empty_world};
 ghost use Rattle.fam_program.specs.Far.{AreSoundEvents};
-ghost use Rattle.fam_program.specs.Unprinted.{AreShotEvents, EventsEnded, IsOneRun, MayLack, ShotEnded};
+ghost use Rattle.fam_program.specs.Unprinted.{AreShotEvents, IsOneRun, MayLack, ShotEnded};
 ghost use Rattle.fam_program.specs.Runs.{outside_of};
 
 use crate::script::is_image;
@@ -17,37 +17,10 @@ use fam_script::last_stops;
 use fam_world::World;
 use std::alloc::Global;
 
-/// Runs events in their order on a media, with sources from a shelf. The world has no host and no note before, and
-/// keeps the notes of the run.
+/// Runs events in their order on a media, with sources from a shelf, up to the first note that stops them, as the making
+/// of directories along a path stops. The world has no host and no note before, and keeps the notes of the run.
 ///
 /// The run ends early where the media fails in a mkfs, a source can't be read to its end, or no memory is left.
-pub(crate) fn run_events<M: Media, S: Shelf>(
-    alloc: Global,
-    world: &mut World,
-    events: Vec<Event>,
-    media: &mut M,
-    shelf: &mut S,
-) -> Result<(), EventFault>
-    requires fresh { world.old ≡ empty_world }
-    requires sound { AreSoundEvents events.items }
-    ensures ended { (sink : SinkChange) → EventsEnded result (outside_of M.size M.state media.old media.new
-        (change S.state shelf.old shelf.new) sink) events.items world.new.journal }
-    ensures steady { IsSteady M.size M.state media.old media.new }
-    ensures shelf { IsShelfSteady (S.state shelf.old) (S.state shelf.new) }
-{
-    is_image(media);
-    let mut copied = 0;
-    'events: for event in events {
-        match happen(alloc, world, media, shelf, &mut copied, event) {
-            Ok(()) => {}
-            Err(fault) => return Err(fault),
-        }
-    }
-    Ok(())
-}
-
-/// Runs events in their order up to the first note that stops them, as the making of directories along a path stops.
-/// Else it is as `run_events`.
 pub(crate) fn run_until_stop<M: Media, S: Shelf>(
     alloc: Global,
     world: &mut World,

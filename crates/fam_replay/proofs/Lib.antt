@@ -1,4 +1,3 @@
-mod EightWords
 pub mod Found
 mod Lines
 pub mod Replicas

@@ -18,3 +18,5 @@ pub mod Gathered
 pub mod RunAlone
 pub mod SentLeft
 pub mod SlotRuns
+pub mod Readers
+pub mod Shown

@@ -5,4 +5,4 @@ pub mod Led
 pub mod Runs
 pub mod Room
 pub mod Places
-pub mod SlotRuns
+pub mod Shows

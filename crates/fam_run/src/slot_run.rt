@@ -7,7 +7,6 @@ ghost use Rattle.fam_commands.specs.declared.phase.Phase.TheVariants as at;
 ghost use Rattle.fam_media.specs.Causes.{IsSteady};
 ghost use Rattle.fam_tasks.specs.declared.answer.Turn.TheVariants.{Go};
 ghost use Rattle.fam_run.specs.Led.{HasBrokenOff, HasDone};
-ghost use Rattle.fam_run.specs.SlotRuns.{LoadsRun};
 ghost use Rattle.fam_run.specs.TaskChange.{task_change};
 
 use fam_base::{Line, LineNo};
@@ -54,26 +53,6 @@ fn behind(due: SlotDue, line: u64) -> SlotDue
     }
 }
 
-/// The first so many lines of a slot were dropped and loaded, whose words are these.
-#[inline(always)]
-fn take_lines(task: &mut Task, due: SlotDue, lines: &[Line], count: usize)
-    requires due { task.old.phase ≡ at.Drop (part.Slot due.slot) 0 }
-    requires count { due.lines ≡ (geometry task.old.params).lines }
-    requires first { due.first ≡ slot_line task.old.params due.slot 0 }
-    requires few { count ≤ due.lines }
-    requires has { count ≤ length lines.now }
-    ensures loads { LoadsRun due.first lines.now task.old task.new count }
-    ensures next { count < due.lines → task.new.phase ≡ at.Drop (part.Slot due.slot) count }
-    ensures params { task.new.params ≡ task.old.params }
-{
-    for k in 0..count {
-        let next = behind(due, k as u64);
-        task.is_sound();
-        let line = task.line_of_slot_due(next);
-        task.load_line_of_slot(next, line, &lines[k]);
-    }
-}
-
 /// Drops all lines of a slot and loads all their words by one call of the media, and says whether it did: it did nothing where
 /// one of them is dirty, where there is no room for them, or where the media is too short.
 ///
@@ -110,12 +89,12 @@ pub(crate) fn load_run<M: Media>(
     }
     match cache.bring_run(media, LineNo(due.first), lines) {
         Ok(true) => {
-            take_lines(task, due, lines, lines.len());
+            task.load_lines_of_slot(due, lines, lines.len());
             Ok(true)
         }
         Ok(false) => Ok(false),
         Err(failed) => {
-            take_lines(task, due, lines, failed.done);
+            task.load_lines_of_slot(due, lines, failed.done);
             task.is_sound();
             let line = task.line_of_slot_due(behind(due, failed.done as u64));
             task.drop_line_of_slot(line);

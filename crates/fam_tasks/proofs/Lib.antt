@@ -13,4 +13,5 @@ pub mod Keeping
 pub mod Rest
 pub mod WholeLine
 pub mod SlotLine
+pub mod SlotRun
 pub mod AllFound

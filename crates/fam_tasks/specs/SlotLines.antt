@@ -1,6 +1,8 @@
--- A line of a slot, which is dropped and whose words are all loaded.
-use Rattle.std.specs.Prelude.{ℕ, ◌≡◌, ◌<◌, List, Some, slice_index}
+-- A line of a slot, which is dropped and whose words are all loaded; and lines of a slot, one behind another.
+use Rattle.std.specs.Prelude.{ℕ, zero, suc, ◌≡◌, ◌+◌, ◌<◌, List, [], ◌++◌, Some, slice_index}
+use Rattle.fam_base.specs.Image.{line_at}
 use Rattle.fam_base.specs.declared.line.LineNo.{LineNo}
+use Rattle.fam_machine.specs.Operations.{line_no}
 use Rattle.fam_commands.specs.declared.phase.Part.TheVariants.{Slot}
 use Rattle.fam_commands.specs.declared.phase.Phase.TheVariants as at
 use Rattle.fam_commands.specs.Task.{Task, part_line}
@@ -26,3 +28,14 @@ pub record LoadsSlotLine (line : LineNo) (words : List ℕ) (t next : Task) : Ty
   pub begun : Task
   pub turn : turn_of dropped (Some (slice_index words 0)) ≡ Goes begun
   pub rest : Loads line words begun next 7
+
+-- the words of the first n of these lines, one behind another
+abbrev pub words_in : List (List ℕ) → ℕ → List ℕ
+words_in lines zero = []
+words_in lines (suc n) = words_in lines n ++ line_at lines n
+
+-- the first task drops and loads so many lines, the words of which are these, from line `first` on, and goes on up to the last
+-- task
+pub data LoadsSlotLines (first : ℕ) (lines : List (List ℕ)) : Task → Task → ℕ → Type 0 where
+  none : {t : Task} → LoadsSlotLines first lines t t 0
+  more : {t mid next : Task} {n : ℕ} → LoadsSlotLines first lines t mid n → IsSound mid → LoadsSlotLine (line_no (first + n)) (line_at lines n) mid next → LoadsSlotLines first lines t next (suc n)

@@ -3,6 +3,7 @@
 ghost use Rattle.std.specs.Prelude.{◌≡◌, ◌+◌, ◌*◌, ◌<◌, ◌≤◌, ℕ, [], ◌∷◌, ◌++◌, length, slice_index, slice_range};
 ghost use Rattle.fam_base.specs.Image.{eight};
 ghost use Rattle.fam_rules.specs.Content.{byte_in};
+ghost use Rattle.fam_tasks.specs.SlotLines.{words_in};
 
 use fam_base::Line;
 use fam_format::{LINE_WORDS, MOST_SLOT_WORDS, byte_of};
@@ -88,6 +89,21 @@ impl Buffer {
         let count = self.count();
         self.words[count..count + LINE_WORDS].copy_from_slice(words);
         self.len = count + LINE_WORDS;
+    }
+
+    /// Adds the words of so many lines.
+    #[inline(always)]
+    pub(crate) fn push_lines(&mut self, lines: &[Line], count: usize)
+        requires has { count ≤ length lines.now }
+        requires room { length self.old + LINE_WORDS * count ≤ MOST_WORDS }
+        ensures { self.new ≡ self.old ++ words_in lines.now count }
+    {
+        let start = self.count();
+        for k in 0..count {
+            let from = start + LINE_WORDS * k;
+            self.words[from..from + LINE_WORDS].copy_from_slice(&lines[k]);
+        }
+        self.len = start + LINE_WORDS * count;
     }
 
     /// Forgets the words.

@@ -18,3 +18,4 @@ pub mod TaskSteps
 pub mod Fits
 pub mod UpToOn
 pub mod Counting
+pub mod Forgotten

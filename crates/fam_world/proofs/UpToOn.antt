@@ -27,12 +27,12 @@ use Rattle.fam_run.specs.Cached.{CachedRun, IsCached, cached_after}
 use Rattle.fam_run.specs.Led as led
 use Rattle.fam_run.specs.Led.{HasDone, Led}
 use Rattle.fam_run.specs.Operation.{ended}
-use Rattle.fam_run.specs.Runs as sends
-use Rattle.fam_run.specs.Runs.{HasRun, SendsOne, Sent, later}
+use Rattle.fam_run.specs.Runs.{HasRun, later}
 use Rattle.fam_run.specs.Places.{HasPlaces}
 use Rattle.fam_run.specs.TaskChange.{TaskChange}
 use Rattle.fam_run.proofs.FirstStores.{first_phase}
 use Rattle.fam_run.proofs.Running.{goes_on}
+use Rattle.fam_run.proofs.Shown.{none_sent}
 use Rattle.fam_world.specs.Places.{IsSafe}
 
 -- a turn that just goes on is told so
@@ -129,7 +129,7 @@ held_clean_at at.FenceSlot t held before of clean = absurd before
 held_clean_at at.SendGate t held before of clean = absurd before
 held_clean_at at.FenceGate t held before of clean = absurd before
 
-held_clean : (t next : Task) (held after : Cache) {n : ℕ} → CachedRun t held next after n → IsBeforeWrites t.phase → IsClean held → IsClean after
+pub held_clean : (t next : Task) (held after : Cache) {n : ℕ} → CachedRun t held next after n → IsBeforeWrites t.phase → IsClean held → IsClean after
 held_clean t _ held _ run.none before clean = clean
 held_clean t next held after (run.more {mid = mid} {now = now} first sound within of is turn) before clean =
     subst IsClean (sym is) (held_clean_at mid.phase mid now (held_before t mid held now first before) of (held_clean t mid held now first before clean))
@@ -190,17 +190,6 @@ safe_on b said told cache after notes_old room_old notes room on x normal old_is
 safe_on b said told cache after notes_old room_old notes room on x normal old_is new_is places kept (inr was) =
     let has = places (inr was.0) in inr (has.1, kept has.0)
 
--- A task that sends lines of its file has stored already.
-
-never_sent : (told mid left : Option Image) (t here next : Task) (held now after : Cache) → Sent told t held mid here now → SendsOne mid here now left next after → IsBeforeWrites t.phase → ⊥
-never_sent told _ left t _ next held _ after sends.none one before = subst IsBeforeWrites one.at before
-never_sent told mid left t here next held now after (sends.more {mid = mid_before} {here = here_before} {now = now_before} first prior) one before = never_sent told mid_before mid t here_before here held now_before now first prior before
-
--- so of one that reads none were sent
-none_sent : (told mid : Option Image) (t task : Task) (held now : Cache) → Sent told t held mid task now → IsBeforeWrites t.phase → (P : Option Image → Task → Cache → Type 0) → P mid task now → P told t held
-none_sent told _ t _ held _ sends.none before P p = p
-none_sent told left t next held after (sends.more {mid = mid} {here = here} {now = now} first one) before P p = absurd (never_sent told mid left t here next held now after first one before)
-
 pub run_safe : (b : TaskChange) (said : Turn) (told : Option Image) (cache after : CacheState) (notes_old room_old notes room : ℕ) → ended said ≡ None → HasRun b said → IsNormal b.media.old.image → cache.lines ≡ b.old → after.lines ≡ b.new
     → (IsFirstStore b.task ⊎ HasPlaces b.task cache → (said ≡ Go) × HasPlaces b.next after) → (said ≡ Go → notes < room)
     → IsSafe told b.media.old.image b.task cache notes_old room_old → IsSafe told b.media.new.image b.next after notes room
@@ -211,6 +200,13 @@ run_safe b said told cache after notes_old room_old notes room on x normal old_i
     let has = places (inl first) in inr (has.1, kept has.0)
 run_safe b said told cache after notes_old room_old notes room on x normal old_is new_is places kept (inr was) =
     let has = places (inr was.0) in inr (has.1, kept has.0)
+
+-- of a task that reads, on a cache that has nothing to send
+pub read_calm : (b : TaskChange) (said : Turn) → ended said ≡ None → HasRun b said → IsBeforeWrites b.task.phase → IsNormal b.media.old.image → (image : Image) → b.media.old.image ≡ Some image → IsClean b.old → (b.media.new.image ≡ Some image) × IsClean b.new
+read_calm b said on x before normal image told_is clean =
+    next_calm b said on
+    (none_sent b.media.old.image x.mid b.task x.task b.old x.held x.sent before (λ mid task held. HasDone (later b mid task held) said) x.done)
+    before image (subst IsNormal told_is normal) told_is clean
 
 -- Ends.
 

@@ -7,3 +7,4 @@ pub mod Makes
 pub mod Finishes
 pub mod Counted
 pub mod Places
+pub mod Concluded

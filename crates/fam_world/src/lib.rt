@@ -5,6 +5,7 @@
 //! `steps` that of each of its steps (`specs/Counted.antt`).
 #![tactic(auto)]
 
+mod concluding;
 mod fault;
 mod find;
 mod hosts;

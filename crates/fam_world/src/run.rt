@@ -72,7 +72,7 @@ fn note_fault(journal: &mut Vec<Note>, host: HostId, line: LineNo)
 /// Notes what came of operations of a host's task, for which there is room, and says whether the task is over. Where it goes
 /// on, `turn` is `Go` again.
 #[inline(always)]
-fn note_turn(
+pub(crate) fn note_turn(
     journal: &mut Vec<Note>,
     host: HostId,
     advanced: Result<(), OperationFault>,

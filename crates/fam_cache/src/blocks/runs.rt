@@ -6,7 +6,7 @@ ghost use Rattle.fam_machine.specs.Caches.{with_cell};
 ghost use Rattle.fam_machine.specs.OneLine.{IsDirty};
 ghost use Rattle.fam_machine.specs.declared.cell.Cell.{Cell};
 ghost use Rattle.fam_cache.specs.Blocks.{HasNone, HasRoom, IsBlockOf, IsKept, cell_in, lines_of};
-ghost use Rattle.fam_cache.specs.BroughtRuns.{LacksNone};
+ghost use Rattle.fam_cache.specs.BroughtRuns.{LacksNone, brought_run};
 
 use super::{Block, Blocks, Mark, add_block, is_dirty_mark};
 use fam_base::Line;
@@ -50,17 +50,20 @@ pub(crate) fn empty_block(cache: &mut Blocks, number: u64) -> usize
     add_block(cache, number)
 }
 
-/// Puts a clean copy of a line into its block.
+/// Puts clean copies of lines into their block, from this line on.
 #[inline(always)]
-pub(crate) fn set_fresh(cache: &mut Blocks, at: usize, line: u64, words: &Line)
+pub(crate) fn set_run(cache: &mut Blocks, at: usize, first: u64, lines: &[Line])
     requires kept { IsKept cache.old }
-    requires stands { IsBlockOf cache.old.blocks.items at (line / 16) }
+    requires stands { IsBlockOf cache.old.blocks.items at (first / 16) }
+    requires within { first % 16 + length lines.now ≤ 16 }
     ensures kept { IsKept cache.new }
-    ensures cache { lines_of cache.new ≡ with_cell line (Cell.Clean (eight words.now)) (lines_of cache.old) }
-    ensures stands { IsBlockOf cache.new.blocks.items at (line / 16) }
+    ensures cache { lines_of cache.new ≡ brought_run first lines.now (length lines.now) (lines_of cache.old) }
+    ensures stands { IsBlockOf cache.new.blocks.items at (first / 16) }
     ensures room { cache.new.room ≡ cache.old.room }
 {
+    let from = (first % 16) as usize;
+    let end = from + lines.len();
     let block = &mut cache.blocks[at];
-    block.marks[(line % 16) as usize] = Mark::Fresh;
-    block.words[(line % 16) as usize] = *words;
+    block.marks[from..end].fill(Mark::Fresh);
+    block.words[from..end].copy_from_slice(lines);
 }

@@ -10,12 +10,13 @@ ghost use Rattle.fam_cache.specs.Blocks.{IsBlockOf, IsKept, lines_of};
 ghost use Rattle.fam_cache.specs.BroughtRuns.{LacksNone, brought_run};
 
 use super::HostCache;
-use crate::blocks::{Blocks, drop_copy, empty_block, lacks_none, make_room, seek, set_fresh};
+use crate::blocks::{Blocks, drop_copy, empty_block, lacks_none, make_room, seek, set_run};
 use fam_base::{Line, LineNo};
 use fam_media::{Media, RunFailed};
 
 /// The place of the block of so many lines from this one on, of which none is dirty. A block that isn't there is added. None
 /// where the lines aren't those of one block, where one is dirty, or where there is no room.
+#[inline(always)]
 fn place_of_run(places: &mut Blocks, last: usize, first: u64, count: usize) -> Option<usize>
     requires kept { IsKept places.old }
     ensures stands { IfSome result (λ at. IsBlockOf places.new.blocks.items at (first / 16)) }
@@ -52,9 +53,7 @@ fn put_lines(places: &mut Blocks, at: usize, first: u64, lines: &[Line], count: 
     ensures stands { IsBlockOf places.new.blocks.items at (first / 16) }
     ensures room { places.new.room ≡ places.old.room }
 {
-    for k in 0..count {
-        set_fresh(places, at, first + k as u64, &lines[k]);
-    }
+    set_run(places, at, first, &lines[..count]);
 }
 
 impl HostCache {

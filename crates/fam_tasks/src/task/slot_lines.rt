@@ -1,12 +1,12 @@
 //! A line of a slot, which is dropped and whose words are all taken at once: of a long log nearly all operations are such.
 
-ghost use Rattle.std.specs.Prelude.{◌≡◌, ◌+◌, ◌^◌, ◌<◌, ◌++◌, nat_lt, if◌then◌else◌};
+ghost use Rattle.std.specs.Prelude.{◌≡◌, ◌+◌, ◌^◌, ◌<◌, ◌≤◌, ◌++◌, length, nat_lt, if◌then◌else◌};
 ghost use Rattle.fam_base.specs.Image.{eight};
 ghost use Rattle.fam_format.specs.Layout.{geometry, slot_line};
 ghost use Rattle.fam_commands.specs.declared.phase.Part.TheVariants as part;
 ghost use Rattle.fam_commands.specs.declared.phase.Phase.TheVariants as at;
 ghost use Rattle.fam_tasks.specs.Rest.{DropsLine};
-ghost use Rattle.fam_tasks.specs.SlotLines.{IsSlotLine, LoadsSlotLine};
+ghost use Rattle.fam_tasks.specs.SlotLines.{IsSlotLine, LoadsSlotLine, LoadsSlotLines, words_in};
 
 use super::Task;
 use fam_base::{Line, LineNo};
@@ -77,6 +77,47 @@ impl Task {
         let _ = line;
         self.is_sound();
         self.take_line_of_slot(due.slot, due.line, due.lines, words);
+    }
+
+    /// The first so many lines of a slot were dropped, and all their words were loaded, which are these.
+    #[inline(always)]
+    pub fn load_lines_of_slot(&mut self, due: SlotDue, lines: &[Line], count: usize)
+        requires due { self.old.phase ≡ at.Drop (part.Slot due.slot) 0 }
+        requires lines { due.lines ≡ (geometry self.old.params).lines }
+        requires first { due.first ≡ slot_line self.old.params due.slot 0 }
+        requires few { count ≤ due.lines }
+        requires has { count ≤ length lines.now }
+        ensures loads { LoadsSlotLines due.first lines.now self.old self.new count }
+        ensures params { self.new.params ≡ self.old.params }
+        ensures next { count < due.lines → self.new.phase ≡ at.Drop (part.Slot due.slot) count }
+    {
+        self.is_sound();
+        self.take_lines_of_slot(due.slot, due.lines, lines, count);
+    }
+
+    /// All words of the first so many lines of a slot were loaded.
+    #[inline(always)]
+    fn take_lines_of_slot(&mut self, slot: u64, most: u64, lines: &[Line], count: usize)
+        requires due { self.old.phase ≡ at.Drop (part.Slot slot) 0 }
+        requires most { most ≡ (geometry self.old.params).lines }
+        requires few { count ≤ most }
+        requires has { count ≤ length lines.now }
+        ensures { self.new ≡ record self.old {
+          words = self.old.words ++ words_in lines.now count;
+          phase = if nat_lt count (geometry self.old.params).lines then at.Drop (part.Slot slot) count
+              else at.Check slot;
+        } }
+    {
+        self.buffer.push_lines(lines, count);
+        let line = count as u64;
+        if line < most {
+            self.phase = Phase::Drop {
+                part: Part::Slot(slot),
+                line,
+            };
+        } else {
+            self.phase = Phase::Check { slot };
+        }
     }
 
     /// All words of a line of a slot were loaded.

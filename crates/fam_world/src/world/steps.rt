@@ -5,9 +5,11 @@ ghost use Rattle.fam_media.specs.States.{change};
 ghost use Rattle.fam_journal.specs.Calls.{Finishes, Steps};
 ghost use Rattle.fam_journal.specs.CallRecords.{FinishOutOfMemory, FitsMedia, MediaCall, StepCall};
 ghost use Rattle.fam_world.specs.Answers.{IfAnswered, IfStepped, IsUntouched};
+ghost use Rattle.fam_world.specs.Concluded.{HasConcluded, ReadsOf};
 ghost use Rattle.fam_world.specs.Counted.{StepsSay, standing};
 
 use super::World;
+use crate::concluding::conclude_of;
 use crate::fault::{Moved, WorldFault, or_fault};
 use crate::find::running;
 use crate::notes::{make_room, refused};
@@ -83,6 +85,34 @@ impl World {
             Err(cause) => return Err(refused(&mut self.journal, name, cause)),
         };
         or_fault(finish_of(
+            self.alloc,
+            &mut self.hosts[at],
+            &mut self.journal,
+            media,
+            at,
+        ))
+    }
+
+    /// As `finish`, of a task that only reads, behind which of the world its journal alone is looked at: the host's cache
+    /// forgets lines that the task won't look at again. So a long file or log takes little memory.
+    pub fn conclude<M: Media>(&mut self, media: &mut M, name: &HostName) -> Result<(), WorldFault>
+        requires fits { FitsMedia (M.size media.old) self.old.hosts }
+        requires reads { ReadsOf name.now self.old self.old }
+
+        // What `finish` ensures of the world is told of one with the same journal.
+        ensures concluded { HasConcluded name.now (M.size media.old) (change M.state media.old media.new)
+            self.old self.new result }
+        ensures untouched { IsUntouched (Finishes name.now) (M.size media.old) self.old media.old media.new }
+        ensures size { M.size media.new ≡ M.size media.old }
+    {
+        if make_room(&mut self.journal).is_err() {
+            return Err(WorldFault::OutOfMemory);
+        }
+        let at = match running(&self.hosts, name) {
+            Ok(at) => at,
+            Err(cause) => return Err(refused(&mut self.journal, name, cause)),
+        };
+        or_fault(conclude_of(
             self.alloc,
             &mut self.hosts[at],
             &mut self.journal,

@@ -1,8 +1,5 @@
-use Rattle.std.proofs.Common.{◌≡◌, length}
+use Rattle.std.proofs.Common.{◌≡◌, ◌<◌, ℕ, length, get_or}
 use Rattle.fam_replay.proofs.same.same_slot.Given as goal
 
-abbrev pub invariant-lines : goal.invariant-lines
-invariant-lines l = record { same : l.left_words ≡ l.right_words → l.left ≡ l.right; count : length l.left_words ≡ length l.right_words }
-
-abbrev pub decreases-lines : goal.decreases-lines
-decreases-lines l = length l.left_words
+abbrev pub invariant-loop-k : goal.invariant-loop-k
+invariant-loop-k l = record { same : l.differences ≡ 0 → (j : ℕ) → j < l.k → get_or l.left j 0 ≡ get_or l.right j 0 }
