@@ -1,7 +1,7 @@
 -- Dirty marks are as many as dirty lines.
 use Rattle.std.proofs.Common.{◌≡◌, ℕ, zero, suc, ◌+◌, ◌*◌, ◌/◌, ◌<◌, ◌≤◌, Bool, true, false, cond, inl, inr, List, [], ◌∷◌, ◌++◌, length, get_or, take, Option, Some, None, refl, sym, ap, ap₂, subst, ◌∙◌, arith}
 use Rattle.std.specs.Prelude.{count_by}
-use Rattle.std.proofs.lemmas.Bool.{cases_order}
+use Rattle.std.proofs.lemmas.Bool.{cases_order, false≢true}
 use Rattle.std.proofs.lemmas.List.{get_or-take, length-take-le, take_all, take_more}
 use Rattle.std.proofs.lemmas.List.Sums.{sum_by-cons}
 use Rattle.std.specs.Ordering.{nat_cmp}
@@ -11,7 +11,7 @@ use Rattle.std.specs.FinMap.{entries, entries-insert, find, get-entries, len-ent
 use Rattle.fam_machine.specs.declared.cell.Cell.{Cell}
 use Rattle.fam_machine.specs.declared.cell.Cell.TheVariants.{Absent, Clean, Dirty}
 use Rattle.fam_machine.specs.Caches.{Cache, CachedLine, cell_at, cell_of, dirty_count, is_marked_dirty, unsent_mark, with_cell}
-use Rattle.fam_machine.specs.OneLine.{is_dirty}
+use Rattle.fam_machine.specs.OneLine.{IsDirty, is_dirty}
 use Rattle.fam_machine.proofs.CacheLemmas.{greater, less, same_key, other_key, with_cell_own}
 use Rattle.fam_machine.proofs.DirtyLemmas.{Lines, count_first, count_lines}
 use Rattle.fam_cache.specs.declared.blocks.Block.{Block}
@@ -153,3 +153,19 @@ dirty_few bs i whole within =
 
 pub dirty_whole : (bs : List Block) (i : ℕ) → length bs ≤ i → dirty_of (take i bs) ≡ dirty_of bs
 dirty_whole bs i past = ap dirty_of (take_all i bs past)
+
+no_more : (b : Bool) (n : ℕ) → cond b 1 0 + n ≡ 0 → (b ≡ false) × (n ≡ 0)
+no_more true n none = absurd (omega (arith, none))
+no_more false n none = (refl, omega (arith, none))
+
+-- where no mark is dirty
+pub none_dirty : (ms : List Mark) (i : ℕ) → count_by is_dirty_by ms ≡ 0 → is_dirty_by (get_or ms i Empty) ≡ false
+none_dirty [] i none = refl
+none_dirty (m ∷ ms) zero none = (no_more (is_dirty_by m) (count_by is_dirty_by ms) (sym (sum_by-cons {X = Mark} (λ x. cond (is_dirty_by x) 1 0) m ms) ∙ none)).0
+none_dirty (m ∷ ms) (suc i) none = none_dirty ms i (no_more (is_dirty_by m) (count_by is_dirty_by ms) (sym (sum_by-cons {X = Mark} (λ x. cond (is_dirty_by x) 1 0) m ms) ∙ none)).1
+
+-- no line of the block is dirty then
+pub clean_block : (b : Block) → count_by is_dirty_by b.marks ≡ 0 → (i : ℕ) → ¬ (IsDirty (cell_in b i))
+unfolding cell_in
+clean_block b none i dirty =
+    false≢true (sym (dirty_marked (get_or b.marks i Empty) (get_or b.words i []) ∙ none_dirty b.marks i none) ∙ dirty)

@@ -166,7 +166,7 @@ fn find(cache: &Blocks, number: u64) -> Option<usize>
     }
 }
 
-/// The place of the block of a line, which is looked for at the place of the last access first.
+/// The place of the block of a line, which is looked for at the place of the last access first, and behind it.
 #[inline(always)]
 pub(crate) fn seek(cache: &Blocks, last: usize, line: u64) -> Option<usize>
     requires { IsKept cache.now }
@@ -178,6 +178,10 @@ pub(crate) fn seek(cache: &Blocks, last: usize, line: u64) -> Option<usize>
     }
     if number > cache.greatest {
         return None;
+    }
+    let next = last.wrapping_add(1);
+    if stands(&cache.blocks, next, number) {
+        return Some(next);
     }
     find(cache, number)
 }
@@ -762,16 +766,17 @@ pub(crate) fn next_asked(cache: &Blocks, first: u64, last: u64) -> Option<(usize
     None
 }
 
-/// How many lines of a block are dirty.
+/// How many lines of a block are dirty. All marks are looked at together.
+#[inline(always)]
 fn dirty_in(block: &Block) -> usize
     ensures count { result ≡ count_by is_dirty_by block.now.marks }
     ensures few { result ≤ length block.now.marks }
 {
-    block
-        .marks
-        .iter()
-        .filter(|mark| is_dirty_mark(**mark))
-        .count()
+    let mut count: u8 = 0;
+    for i in 0..16 {
+        count += is_dirty_mark(block.marks[i]) as u8;
+    }
+    count as usize
 }
 
 /// How many lines are dirty. This looks at all blocks.

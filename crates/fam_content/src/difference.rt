@@ -1,11 +1,11 @@
 //! The first difference of two lines.
 
-ghost use Rattle.std.specs.Prelude.{◌≡◌, ◌%◌, ◌<◌};
+ghost use Rattle.std.specs.Prelude.{◌≡◌, ◌%◌, ◌<◌, true};
 ghost use Rattle.fam_rules.specs.Content.{byte_in};
 ghost use Rattle.fam_content.specs.Difference.{IsFirstDifference};
 
 use fam_base::Line;
-use fam_format::byte_of;
+use fam_format::{LINE_WORDS, byte_of};
 
 /// Byte `b` of a line.
 fn byte_at(line: &Line, b: usize) -> u8
@@ -15,6 +15,19 @@ fn byte_at(line: &Line, b: usize) -> u8
     byte_of(line[b / 8], b % 8)
 }
 
+/// Whether two lines have the same words. No test waits for the one before it, so that they are made together.
+#[inline(always)]
+fn are_same(found: &Line, wanted: &Line) -> bool
+    ensures { result ≡ true → found.now ≡ wanted.now }
+{
+    // The bits in which any two of the words differ.
+    let mut differences = 0;
+    for k in 0..LINE_WORDS {
+        differences |= found[k] ^ wanted[k];
+    }
+    differences == 0
+}
+
 /// The first byte of the file at which the line that was found differs from the one that was wanted: its offset, the
 /// byte found and the byte wanted. `start` is the file offset of the line, a multiple of 64. Bytes at or past `size`
 /// are not looked at.
@@ -22,7 +35,7 @@ pub fn compare(found: &Line, wanted: &Line, start: u64, size: u64) -> Option<(u6
     requires { start % 64 ≡ 0 }
     ensures { IsFirstDifference found.now wanted.now start size result }
 {
-    if found == wanted {
+    if are_same(found, wanted) {
         return None;
     }
     'bytes: for b in 0..64 {

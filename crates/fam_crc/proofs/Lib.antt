@@ -3,3 +3,5 @@ pub mod TableRules
 pub mod Division
 pub mod Quotients
 pub mod WordBytes
+pub mod Heads
+pub mod SeenZeros

@@ -161,7 +161,7 @@ goes_on before bytes crc register e f =
     ap (λ (x : ℕ). bit_xor x all_ones) (f ∙ ap (λ (x : ℕ). fold after_byte x bytes) back ∙ sym (fold-append after_byte all_ones before bytes))
 
 -- one look-up of eight: the lowest byte of what stands above p
-level : (n p x : ℕ) → steps (8 + n) (x / p) ≡ bit_xor (steps (8 + n) (x / p % 256)) (steps n (x / (p * 256)))
+pub level : (n p x : ℕ) → steps (8 + n) (x / p) ≡ bit_xor (steps (8 + n) (x / p % 256)) (steps n (x / (p * 256)))
 level n p x = steps_byte n (x / p) ∙ ap (λ (q : ℕ). bit_xor (steps (8 + n) (x / p % 256)) (steps n q)) (div-div-eq-div-mul x p 256)
 
 -- the eight look-ups
@@ -219,7 +219,7 @@ zeros_split n r a b c d pa pb pc pd =
     rw (pa, pb, pc, pd) (simp xor_assoc sum)
 
 -- the checksum goes on behind bytes of zero
-behind_bytes : (n r : ℕ) (words behind : List ℕ) → bytes_of_words words ≡ replicate n 0 ++ bytes_of_words behind → fold after_byte (steps (8 * n) r) (bytes_of_words behind) ≡ fold after_byte r (bytes_of_words words)
+pub behind_bytes : (n r : ℕ) (words behind : List ℕ) → bytes_of_words words ≡ replicate n 0 ++ bytes_of_words behind → fold after_byte (steps (8 * n) r) (bytes_of_words behind) ≡ fold after_byte r (bytes_of_words words)
 behind_bytes n r words behind zeros =
     sym (ap (fold after_byte r) zeros
     ∙ fold-append after_byte r (replicate n 0) (bytes_of_words behind) ∙ ap (λ (x : ℕ). fold after_byte x (bytes_of_words behind)) (zero_bytes n r))

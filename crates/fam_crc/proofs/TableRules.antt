@@ -11,6 +11,10 @@ use Rattle.fam_crc.specs.declared.tables.bits_168_to_176.TheConstants.{AFTER_168
 use Rattle.fam_crc.specs.declared.tables.bits_184_to_192.TheConstants.{AFTER_184, AFTER_192}
 use Rattle.fam_crc.specs.declared.tables.bits_1000_to_1008.TheConstants.{AFTER_1000, AFTER_1008}
 use Rattle.fam_crc.specs.declared.tables.bits_1016_to_1024.TheConstants.{AFTER_1016, AFTER_1024}
+use Rattle.fam_crc.specs.declared.tables.bits_2304_to_2368.TheConstants.{AFTER_2304, AFTER_2360, AFTER_2368}
+use Rattle.fam_crc.specs.declared.tables.bits_2424_to_2488.TheConstants.{AFTER_2424, AFTER_2432, AFTER_2488}
+use Rattle.fam_crc.specs.declared.tables.bits_2496_to_2672.TheConstants.{AFTER_2496, AFTER_2624, AFTER_2672}
+use Rattle.fam_crc.specs.declared.tables.bits_2680_to_2688.TheConstants.{AFTER_2680, AFTER_2688}
 
 -- at an index of a table of f stands f of it
 table_at : (f : ℕ → ℕ) (table : List ℕ) (n : ℕ) → table ≡ map f (range_with_len 0 n) → (i : ℕ) → i < n → get_or table i 0 ≡ f i
@@ -162,3 +166,102 @@ table_1024 = refl
 -- a look-up in the table for 1024 bits
 pub at_1024 : (i : ℕ) → i < 256 → get_or AFTER_1024 i 0 ≡ steps 1024 i
 at_1024 i below = table_at (λ i. steps 1024 i) AFTER_1024 256 table_1024 i below
+
+-- the table for 2304 bits, number by number
+table_2304 : AFTER_2304 ≡ map (λ i. steps 2304 i) (range_with_len 0 256)
+unfolding steps
+table_2304 = refl
+
+-- a look-up in the table for 2304 bits
+pub at_2304 : (i : ℕ) → i < 256 → get_or AFTER_2304 i 0 ≡ steps 2304 i
+at_2304 i below = table_at (λ i. steps 2304 i) AFTER_2304 256 table_2304 i below
+
+-- the table for 2360 bits, number by number
+table_2360 : AFTER_2360 ≡ map (λ i. steps 2360 i) (range_with_len 0 256)
+unfolding steps
+table_2360 = refl
+
+-- a look-up in the table for 2360 bits
+pub at_2360 : (i : ℕ) → i < 256 → get_or AFTER_2360 i 0 ≡ steps 2360 i
+at_2360 i below = table_at (λ i. steps 2360 i) AFTER_2360 256 table_2360 i below
+
+-- the table for 2368 bits, number by number
+table_2368 : AFTER_2368 ≡ map (λ i. steps 2368 i) (range_with_len 0 256)
+unfolding steps
+table_2368 = refl
+
+-- a look-up in the table for 2368 bits
+pub at_2368 : (i : ℕ) → i < 256 → get_or AFTER_2368 i 0 ≡ steps 2368 i
+at_2368 i below = table_at (λ i. steps 2368 i) AFTER_2368 256 table_2368 i below
+
+-- the table for 2424 bits, number by number
+table_2424 : AFTER_2424 ≡ map (λ i. steps 2424 i) (range_with_len 0 256)
+unfolding steps
+table_2424 = refl
+
+-- a look-up in the table for 2424 bits
+pub at_2424 : (i : ℕ) → i < 256 → get_or AFTER_2424 i 0 ≡ steps 2424 i
+at_2424 i below = table_at (λ i. steps 2424 i) AFTER_2424 256 table_2424 i below
+
+-- the table for 2432 bits, number by number
+table_2432 : AFTER_2432 ≡ map (λ i. steps 2432 i) (range_with_len 0 256)
+unfolding steps
+table_2432 = refl
+
+-- a look-up in the table for 2432 bits
+pub at_2432 : (i : ℕ) → i < 256 → get_or AFTER_2432 i 0 ≡ steps 2432 i
+at_2432 i below = table_at (λ i. steps 2432 i) AFTER_2432 256 table_2432 i below
+
+-- the table for 2488 bits, number by number
+table_2488 : AFTER_2488 ≡ map (λ i. steps 2488 i) (range_with_len 0 256)
+unfolding steps
+table_2488 = refl
+
+-- a look-up in the table for 2488 bits
+pub at_2488 : (i : ℕ) → i < 256 → get_or AFTER_2488 i 0 ≡ steps 2488 i
+at_2488 i below = table_at (λ i. steps 2488 i) AFTER_2488 256 table_2488 i below
+
+-- the table for 2496 bits, number by number
+table_2496 : AFTER_2496 ≡ map (λ i. steps 2496 i) (range_with_len 0 256)
+unfolding steps
+table_2496 = refl
+
+-- a look-up in the table for 2496 bits
+pub at_2496 : (i : ℕ) → i < 256 → get_or AFTER_2496 i 0 ≡ steps 2496 i
+at_2496 i below = table_at (λ i. steps 2496 i) AFTER_2496 256 table_2496 i below
+
+-- the table for 2624 bits, number by number
+table_2624 : AFTER_2624 ≡ map (λ i. steps 2624 i) (range_with_len 0 256)
+unfolding steps
+table_2624 = refl
+
+-- a look-up in the table for 2624 bits
+pub at_2624 : (i : ℕ) → i < 256 → get_or AFTER_2624 i 0 ≡ steps 2624 i
+at_2624 i below = table_at (λ i. steps 2624 i) AFTER_2624 256 table_2624 i below
+
+-- the table for 2672 bits, number by number
+table_2672 : AFTER_2672 ≡ map (λ i. steps 2672 i) (range_with_len 0 256)
+unfolding steps
+table_2672 = refl
+
+-- a look-up in the table for 2672 bits
+pub at_2672 : (i : ℕ) → i < 256 → get_or AFTER_2672 i 0 ≡ steps 2672 i
+at_2672 i below = table_at (λ i. steps 2672 i) AFTER_2672 256 table_2672 i below
+
+-- the table for 2680 bits, number by number
+table_2680 : AFTER_2680 ≡ map (λ i. steps 2680 i) (range_with_len 0 256)
+unfolding steps
+table_2680 = refl
+
+-- a look-up in the table for 2680 bits
+pub at_2680 : (i : ℕ) → i < 256 → get_or AFTER_2680 i 0 ≡ steps 2680 i
+at_2680 i below = table_at (λ i. steps 2680 i) AFTER_2680 256 table_2680 i below
+
+-- the table for 2688 bits, number by number
+table_2688 : AFTER_2688 ≡ map (λ i. steps 2688 i) (range_with_len 0 256)
+unfolding steps
+table_2688 = refl
+
+-- a look-up in the table for 2688 bits
+pub at_2688 : (i : ℕ) → i < 256 → get_or AFTER_2688 i 0 ≡ steps 2688 i
+at_2688 i below = table_at (λ i. steps 2688 i) AFTER_2688 256 table_2688 i below

@@ -6,6 +6,10 @@ mod bits_1000_to_1008;
 mod bits_1016_to_1024;
 mod bits_168_to_176;
 mod bits_184_to_192;
+mod bits_2304_to_2368;
+mod bits_2424_to_2488;
+mod bits_2496_to_2672;
+mod bits_2680_to_2688;
 mod bits_32_to_48;
 mod bits_56_to_64;
 mod bits_8_to_24;
@@ -20,6 +24,10 @@ use crate::tables::bits_168_to_176::{AFTER_168, AFTER_176};
 use crate::tables::bits_184_to_192::{AFTER_184, AFTER_192};
 use crate::tables::bits_1000_to_1008::{AFTER_1000, AFTER_1008};
 use crate::tables::bits_1016_to_1024::{AFTER_1016, AFTER_1024};
+use crate::tables::bits_2304_to_2368::{AFTER_2304, AFTER_2360, AFTER_2368};
+use crate::tables::bits_2424_to_2488::{AFTER_2424, AFTER_2432, AFTER_2488};
+use crate::tables::bits_2496_to_2672::{AFTER_2496, AFTER_2624, AFTER_2672};
+use crate::tables::bits_2680_to_2688::{AFTER_2680, AFTER_2688};
 
 /// The register that held `byte`, after 8 bits of zero.
 pub(crate) fn after_8(byte: u8) -> u32
@@ -131,4 +139,81 @@ pub(crate) fn after_1024(byte: u8) -> u32
     ensures { result ≡ steps 1024 byte }
 {
     AFTER_1024[byte as usize]
+}
+
+/// The register that held `byte`, after 2304 bits of zero.
+pub(crate) fn after_2304(byte: u8) -> u32
+    ensures { result ≡ steps 2304 byte }
+{
+    AFTER_2304[byte as usize]
+}
+
+/// The register that held `byte`, after 2360 bits of zero.
+pub(crate) fn after_2360(byte: u8) -> u32
+    ensures { result ≡ steps 2360 byte }
+{
+    AFTER_2360[byte as usize]
+}
+
+/// The register that held `byte`, after 2368 bits of zero.
+pub(crate) fn after_2368(byte: u8) -> u32
+    ensures { result ≡ steps 2368 byte }
+{
+    AFTER_2368[byte as usize]
+}
+
+/// The register that held `byte`, after 2424 bits of zero.
+pub(crate) fn after_2424(byte: u8) -> u32
+    ensures { result ≡ steps 2424 byte }
+{
+    AFTER_2424[byte as usize]
+}
+
+/// The register that held `byte`, after 2432 bits of zero.
+pub(crate) fn after_2432(byte: u8) -> u32
+    ensures { result ≡ steps 2432 byte }
+{
+    AFTER_2432[byte as usize]
+}
+
+/// The register that held `byte`, after 2488 bits of zero.
+pub(crate) fn after_2488(byte: u8) -> u32
+    ensures { result ≡ steps 2488 byte }
+{
+    AFTER_2488[byte as usize]
+}
+
+/// The register that held `byte`, after 2496 bits of zero.
+pub(crate) fn after_2496(byte: u8) -> u32
+    ensures { result ≡ steps 2496 byte }
+{
+    AFTER_2496[byte as usize]
+}
+
+/// The register that held `byte`, after 2624 bits of zero.
+pub(crate) fn after_2624(byte: u8) -> u32
+    ensures { result ≡ steps 2624 byte }
+{
+    AFTER_2624[byte as usize]
+}
+
+/// The register that held `byte`, after 2672 bits of zero.
+pub(crate) fn after_2672(byte: u8) -> u32
+    ensures { result ≡ steps 2672 byte }
+{
+    AFTER_2672[byte as usize]
+}
+
+/// The register that held `byte`, after 2680 bits of zero.
+pub(crate) fn after_2680(byte: u8) -> u32
+    ensures { result ≡ steps 2680 byte }
+{
+    AFTER_2680[byte as usize]
+}
+
+/// The register that held `byte`, after 2688 bits of zero.
+pub(crate) fn after_2688(byte: u8) -> u32
+    ensures { result ≡ steps 2688 byte }
+{
+    AFTER_2688[byte as usize]
 }

@@ -5,3 +5,4 @@ pub mod Found
 pub mod Strays
 pub mod PathField
 pub mod BareMap
+pub mod LongNames

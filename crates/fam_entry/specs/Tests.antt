@@ -1,5 +1,5 @@
 -- Tests that a reader makes.
-use Rattle.std.specs.Prelude.{ℕ, ◌≡◌, ◌^◌, ◌<◌, ◌≤◌, Option, Some, None, Result, Ok, Err, List, slice_index, take}
+use Rattle.std.specs.Prelude.{ℕ, ◌≡◌, ◌-◌, ◌^◌, ◌<◌, ◌≤◌, Bool, IsTrue, length, Option, Some, None, Result, Ok, Err, List, slice_index, take}
 use Rattle.fam_base.specs.Paths.{IsPathField}
 use Rattle.fam_base.specs.declared.entry.Entry.{Entry}
 use Rattle.fam_format.specs.Slot.{fields_of, path_of}
@@ -22,6 +22,12 @@ pub record HasFields (words bytes : List ℕ) : Type 0 where
   pub uid : slice_index words 4 < 2 ^ 32
   pub gid : slice_index words 5 < 2 ^ 32
   pub few : slice_index words 9 ≤ 16
+
+-- which of a slot's words are 0: those from place 7 to the path, where there is a gap, and those from an end on up to the
+-- checksum
+pub record HasZeros (words : List ℕ) (has_gap : Bool) (end : ℕ) : Type 0 where
+  pub gap : IsTrue has_gap → (k : ℕ) → 7 ≤ k → k < 42 → slice_index words k ≡ 0
+  pub behind : (k : ℕ) → end ≤ k → k < length words - 1 → slice_index words k ≡ 0
 
 -- the entry that a slot's words tell where a test of them passes, and otherwise the reason against them
 abbrev pub read_as : List ℕ → Result (Unit {0}) Reason → Result Entry Reason

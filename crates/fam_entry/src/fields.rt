@@ -1,6 +1,8 @@
 //! The fields that the words of a slot tell, whatever its checksum and its unused words are.
 
-ghost use Rattle.std.specs.Prelude.{◌≡◌, ◌+◌, ◌*◌, ◌<◌, ◌≤◌, ◌^◌, ℕ, length, slice_index, IfSome, OnOk};
+ghost use Rattle.std.specs.Prelude.{◌≡◌, ◌≢◌, ◌+◌, ◌*◌, ◌<◌, ◌≤◌, ◌^◌, ℕ, length, slice_index, true, IfSome, OnOk};
+ghost use Rattle.std.specs.Bool.{OnTrue};
+ghost use Rattle.fam_base.specs.Paths.{is_path, slash};
 ghost use Rattle.fam_format.specs.Layout.{Geometry};
 ghost use Rattle.fam_format.specs.Words.{byte_from};
 ghost use Rattle.fam_format.specs.Slot as slots;
@@ -62,7 +64,7 @@ fn put_words(words: &[u64], count: usize, field: &mut [u8; PATH_LIMIT])
     }
 }
 
-/// Puts the bytes of the path into a field of zeros.
+/// Puts the bytes of the path into a field of zeros. Where the last word has zeros behind them, it is put whole.
 fn put_path(words: &[u64], len: usize, field: &mut [u8; PATH_LIMIT])
     requires few { len ≤ PATH_LIMIT }
     requires room { 8 * slots.path_word + len + 8 ≤ 8 * length words.now }
@@ -70,10 +72,79 @@ fn put_path(words: &[u64], len: usize, field: &mut [u8; PATH_LIMIT])
     ensures bytes { (k : ℕ) → k < len → slice_index field.new k ≡ byte_from slots.path_word words.now k }
     ensures behind { (k : ℕ) → len ≤ k → slice_index field.new k ≡ 0 }
 {
-    put_words(words, len / 8, field);
     let whole = 8 * (len / 8);
-    let bytes = words[PATH_WORD + len / 8].to_le_bytes();
+    let word = words[PATH_WORD + len / 8];
+    if whole < PATH_LIMIT && word >> (8 * (len - whole)) == 0 {
+        put_words(words, len / 8 + 1, field);
+        return;
+    }
+    put_words(words, len / 8, field);
+    let bytes = word.to_le_bytes();
     field[whole..len].copy_from_slice(&bytes[..len - whole]);
+}
+
+/// Whether bytes begin with eight that are other than one. No test waits for the one before it, so that they are made
+/// together.
+#[inline(always)]
+fn begin_without(bytes: &[u8], mark: u8) -> bool
+    ensures long { OnTrue result (8 ≤ length bytes.now) }
+    ensures none { OnTrue result ((k : ℕ) → k < 8 → slice_index bytes.now k ≢ mark) }
+{
+    match bytes {
+        [a, b, c, d, e, f, g, h, ..] => {
+            (*a != mark)
+                & (*b != mark)
+                & (*c != mark)
+                & (*d != mark)
+                & (*e != mark)
+                & (*f != mark)
+                & (*g != mark)
+                & (*h != mark)
+        }
+        _ => false,
+    }
+}
+
+/// Whether bytes begin with eight that may stand in a name.
+#[inline(always)]
+fn begin_in_name(bytes: &[u8]) -> bool
+    ensures long { OnTrue result (8 ≤ length bytes.now) }
+    ensures some { OnTrue result ((k : ℕ) → k < 8 → slice_index bytes.now k ≢ 0) }
+    ensures none { OnTrue result ((k : ℕ) → k < 8 → slice_index bytes.now k ≢ slash) }
+{
+    begin_without(bytes, b'/') && begin_without(bytes, 0)
+}
+
+/// Whether bytes are one name of eight bytes or more. The last eight are looked at together, with some of those before
+/// them.
+#[inline(always)]
+fn is_long_name(bytes: &[u8]) -> bool
+    ensures { OnTrue result (is_path bytes.now ≡ true) }
+{
+    let len = bytes.len();
+    if len < 8 || len > PATH_LIMIT {
+        return false;
+    }
+    let last = len - 8;
+    let mut at = 0;
+    while at < last {
+        if !begin_in_name(&bytes[at..]) {
+            return false;
+        }
+        at += 8;
+    }
+    if !begin_in_name(&bytes[last..]) {
+        return false;
+    }
+    true
+}
+
+/// Whether bytes are a path. Most are one long name, and that is seen eight bytes at a time.
+#[inline(always)]
+fn are_path(bytes: &[u8]) -> bool
+    ensures { result ≡ is_path bytes.now }
+{
+    is_long_name(bytes) || Path::is_path(bytes)
 }
 
 /// Whether the length is within the limit of the format and the bytes are a path, which are put into a field of zeros.
@@ -93,7 +164,7 @@ pub(crate) fn check_path(
         return Err(Reason::BadPath);
     }
     put_path(words, len as usize, field);
-    if Path::is_path(&field[..len as usize]) {
+    if are_path(&field[..len as usize]) {
         Ok(())
     } else {
         Err(Reason::BadPath)

@@ -1,6 +1,6 @@
 //! Reading of a slot: a test for each reason, in the order of the reasons. The first that fails decides.
 
-ghost use Rattle.std.specs.Prelude.{◌≡◌, ◌+◌, ◌<◌, ◌≤◌, ◌^◌, ℕ, MatchResult, IfOk, OnOk, Ok, Err, length, slice_index};
+ghost use Rattle.std.specs.Prelude.{◌≡◌, ◌+◌, ◌-◌, ◌<◌, ◌≤◌, ◌^◌, ℕ, false, MatchResult, IfOk, OnOk, Ok, Err, length, slice_index};
 ghost use Rattle.std.specs.Bool.{OnTrue};
 ghost use Rattle.std.specs.List.{list_any, range_with_len};
 ghost use Rattle.fam_format.specs.Layout.{Geometry, geometry};
@@ -8,7 +8,7 @@ ghost use Rattle.fam_format.specs.Params.{SoundParams};
 ghost use Rattle.fam_format.specs.Slot as slots;
 ghost use Rattle.fam_format.specs.SuperLaws.{IsWords};
 ghost use Rattle.fam_base.specs.declared.entry.Entry.{Entry};
-ghost use Rattle.fam_entry.specs.Tests.{HasFields, NamesFault, read_as};
+ghost use Rattle.fam_entry.specs.Tests.{HasFields, HasZeros, NamesFault, read_as};
 
 use crate::fields::{borrowed_entry, check_path, checked_entry, checked_extents};
 use crate::map_rule::is_map;
@@ -17,19 +17,22 @@ use crate::places::{
     GID_WORD, ID_LIMIT, KIND_WORD, MAP_WORD, MODE_LIMIT, MODE_WORD, PATH_LENGTH_WORD, PATH_WORD,
     SEQ_WORD, SIZE_WORD, STRIPED_MAP, UID_WORD,
 };
-use crate::slot::checksum;
+use crate::slot::sum_before;
 use fam_base::{Entry, PATH_LIMIT, Params};
+use fam_crc::Summed;
 use fam_format::{Reason, byte_of, shape_of};
 
-fn check_crc(words: &[u64]) -> Result<(), Reason>
+fn check_crc(words: &[u64]) -> Result<Summed, Reason>
     requires { 64 ≤ length words.now }
     ensures first { (g : Geometry) → length words.now ≡ g.words → NamesFault result (slots.crc_fault g words.now) }
     ensures words { IsWords (length words.now) words.now }
+    ensures zeros { IfOk result (λ seen. HasZeros words.now seen.has_gap seen.end) }
 {
     let found = words[words.len() - 1];
-    let wanted = checksum(words);
+    let summed = sum_before(words);
+    let wanted = summed.crc as u64;
     if found == wanted {
-        return Ok(());
+        return Ok(summed);
     }
     Err(Reason::Crc { found, wanted })
 }
@@ -193,7 +196,44 @@ fn begin_with_zeros(words: &[u64]) -> bool
     }
 }
 
-fn check_rest(words: &[u64]) -> Result<(), Reason>
+/// Whether a pass over the words saw all to be 0 that no extent and no byte of the path uses. Where it didn't, they may
+/// be so all the same.
+#[inline(always)]
+fn saw_rest(words: &[u64], seen: &Summed) -> bool
+    requires long { 64 ≤ length words.now }
+    requires seen { HasZeros words.now seen.now.has_gap seen.now.end }
+    ensures { OnTrue result ((k : ℕ) → slots.extents_word ≤ k → k < length words.now - 1
+        → slots.is_stray words.now k ≡ false) }
+{
+    if !seen.has_gap {
+        return false;
+    }
+    let full = PATH_WORD + (words[PATH_LENGTH_WORD] / 8) as usize;
+    if seen.end <= full {
+        return true;
+    }
+    if seen.end > full + 1 || seen.end >= words.len() {
+        return false;
+    }
+    if has_stray_byte(words, full) {
+        return false;
+    }
+    true
+}
+
+fn check_rest(words: &[u64], seen: &Summed) -> Result<(), Reason>
+    requires long { 64 ≤ length words.now }
+    requires seen { HasZeros words.now seen.now.has_gap seen.now.end }
+    ensures { (g : Geometry) → length words.now ≡ g.words → NamesFault result (slots.rest_fault g words.now) }
+{
+    if saw_rest(words, seen) {
+        return Ok(());
+    }
+    find_stray(words)
+}
+
+/// Whether no word holds what no extent and no byte of the path uses, or the first that does.
+fn find_stray(words: &[u64]) -> Result<(), Reason>
     requires { 64 ≤ length words.now }
     ensures { (g : Geometry) → length words.now ≡ g.words → NamesFault result (slots.rest_fault g words.now) }
 {
@@ -244,7 +284,7 @@ fn check(
     ensures fields { OnOk result (HasFields words.now field.new) }
     ensures words { IsWords (geometry params.now).words words.now }
 {
-    check_crc(words)?;
+    let seen = check_crc(words)?;
     check_seq(words, seq)?;
     check_kind(words)?;
     check_attributes(words)?;
@@ -255,7 +295,7 @@ fn check(
     if !fits_map(words, field, params) {
         return Err(Reason::Map);
     }
-    check_rest(words)
+    check_rest(words, &seen)
 }
 
 /// Whether the words of slot `seq` are the spelling of an entry that these parameters allow, whose path is put into a

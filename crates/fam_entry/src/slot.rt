@@ -5,6 +5,7 @@ ghost use Rattle.fam_base.specs.ExtentLists.{no_extent};
 ghost use Rattle.fam_format.specs.Layout as layout;
 ghost use Rattle.fam_format.specs.Layout.{Geometry};
 ghost use Rattle.fam_format.specs.Slot as slots;
+ghost use Rattle.fam_entry.specs.Tests.{HasZeros};
 
 use crate::places::{
     CHUNK_WORD, COUNT_WORD, DIRECTORY_KIND, EMPTY_MAP, EXTENTS_WORD, FILE_KIND, GID_WORD,
@@ -12,7 +13,7 @@ use crate::places::{
     STRIPED_MAP, UID_WORD,
 };
 use fam_base::{Entry, Extent, Extents, Kind, MapKind};
-use fam_crc::crc_words;
+use fam_crc::{Summed, crc_words, sum_words};
 use fam_format::{MOST_SLOT_WORDS, shape_of, word_of_bytes};
 use std::marker::Model;
 
@@ -91,12 +92,13 @@ fn word_of(entry: &Entry, seq: u64, i: usize) -> u64
     }
 }
 
-/// What the checksum of these words should be.
-pub(crate) fn checksum(words: &[u64]) -> u64
-    requires { 1 ≤ length words.now }
-    ensures value { (g : Geometry) → length words.now ≡ g.words → result ≡ slots.slot_crc g words.now }
+/// What the checksum of these words should be, and which of them are 0.
+pub(crate) fn sum_before(words: &[u64]) -> Summed
+    requires { 64 ≤ length words.now }
+    ensures value { (g : Geometry) → length words.now ≡ g.words → result.crc ≡ slots.slot_crc g words.now }
+    ensures zeros { HasZeros words.now result.has_gap result.end }
 {
-    crc_words(&words[..words.len() - 1]) as u64
+    sum_words(&words[..words.len() - 1])
 }
 
 /// The words of a slot.

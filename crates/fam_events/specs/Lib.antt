@@ -5,3 +5,4 @@ pub mod Begins
 pub mod Steps
 pub mod Rested
 pub mod Untouched
+pub mod Last

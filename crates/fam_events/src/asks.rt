@@ -1,9 +1,11 @@
 //! Commands that begin, with the bytes of their sources.
 
-ghost use Rattle.std.specs.Prelude.{◌≡◌, ◌≤◌, length, ℕ, IfErr, IfOk, OnErr, OnOk, Option, None};
+ghost use Rattle.std.specs.Prelude.{◌≡◌, ◌≤◌, length, ℕ, IfErr, IfOk, OnErr, OnOk, Option, None, true};
 ghost use Rattle.fam_base.specs.Commands.{IsSoundCmd};
 ghost use Rattle.fam_base.specs.declared.cmd.Cmd.{Cmd as Command};
 ghost use Rattle.fam_base.specs.Image.{Image};
+ghost use Rattle.fam_rules.specs.Decide.{wish_of};
+ghost use Rattle.fam_world.specs.Concluded.{ReadsOf};
 ghost use Rattle.fam_journal.specs.CallRecords.{FitsMedia};
 ghost use Rattle.fam_journal.specs.CallRecords.{WorldCall};
 ghost use Rattle.fam_journal.specs.Calls.{Begins, Refuses};
@@ -19,6 +21,7 @@ ghost use Rattle.fam_media.specs.Outside.{IfModelled};
 ghost use Rattle.fam_media.specs.States.{change};
 ghost use Rattle.fam_events.specs.WorldChange.{asking};
 ghost use Rattle.fam_events.specs.Begins.{AskSays};
+ghost use Rattle.fam_events.specs.Last.{AsksToRead};
 ghost use Rattle.fam_events.specs.Rested.{IsRested, IsUnstoredOf};
 ghost use Rattle.fam_events.specs.declared.asks.Asked.TheVariants.{Begun, Refused};
 ghost use Rattle.fam_events.specs.declared.fault.EventFault.TheVariants.{OutOfMemory};
@@ -51,6 +54,27 @@ fn mounts(what: &Ask) -> bool
     }
 }
 
+/// Whether a command only reads.
+fn reads(cmd: &Cmd) -> bool
+    ensures { result ≡ true → wish_of cmd.now ≡ None }
+{
+    match cmd {
+        Cmd::Mkdir { .. } | Cmd::Creat { .. } | Cmd::Cp { .. } => false,
+        _ => true,
+    }
+}
+
+/// Whether the command that is asked for only reads, whatever its source has.
+pub(crate) fn asks_to_read(what: &Ask) -> bool
+    ensures { result ≡ true → AsksToRead what.now }
+{
+    match what {
+        Ask::Plain(cmd) => reads(cmd),
+        Ask::Cp { .. } => false,
+        Ask::VerifySource { .. } | Ask::Check { .. } => true,
+    }
+}
+
 /// Notes that nothing begins.
 fn refuse(world: &mut World, name: &HostName, cause: Refusal) -> Result<Asked, EventFault>
     ensures done { (lines : ℕ) → IfOk result (λ asked. (asked ≡ Refused)
@@ -74,6 +98,7 @@ fn start(world: &mut World, lines: u64, name: &HostName, cmd: &Cmd) -> Result<As
     ensures done { IfOk result (λ asked. (asked ≡ Begun)
         × WorldCall (Begins name.now cmd.now) lines None world.old world.new) }
     ensures unstored { OnOk result (IsRested world.old → IsUnstoredOf name.now world.old world.new) }
+    ensures reads { OnOk result (wish_of cmd.now ≡ None → ReadsOf name.now world.old world.new) }
     ensures err { IfErr result (λ fault. fault ≡ OutOfMemory) }
     ensures undone { OnErr result (world.new ≡ world.old) }
 {
@@ -106,6 +131,7 @@ fn read<S: Shelf>(
         told faults (S.state shelf.old).files copied.old copied.new) result }
     ensures unstored { IfOk result (λ asked. asked ≡ Begun → IsRested world.old
         → IsUnstoredOf name.now world.old world.new) }
+    ensures reads { IfOk result (λ asked. asked ≡ Begun → AsksToRead what → ReadsOf name.now world.old world.new) }
     ensures steady { IsShelfSteady (S.state shelf.old) (S.state shelf.new) }
 {
     let Ok(resolved) = resolve(alloc, shelf, what, *copied) else {
@@ -145,6 +171,7 @@ pub(crate) fn ask<S: Shelf>(
         told faults (S.state shelf.old).files copied.old copied.new) result }
     ensures unstored { IfOk result (λ asked. asked ≡ Begun → IsRested world.old
         → IsUnstoredOf name.now world.old world.new) }
+    ensures reads { IfOk result (λ asked. asked ≡ Begun → AsksToRead what → ReadsOf name.now world.old world.new) }
     ensures free { IfOk result (λ asked. asked ≡ Begun
         → (cmd : Command) → is_mount cmd ≡ mounts what → refusal_in (Begins name.now cmd) world.old lines ≡ None) }
     ensures steady { IsShelfSteady (S.state shelf.old) (S.state shelf.new) }

@@ -12,7 +12,9 @@ ghost use Rattle.fam_media.specs.Files.{Files};
 ghost use Rattle.fam_media.specs.Outside.{IfModelled};
 ghost use Rattle.fam_events.specs.WorldChange.{world_change, still};
 ghost use Rattle.fam_events.specs.Calls.{CallSays, make_outcome, outcome};
+ghost use Rattle.fam_events.specs.Last.{CallShows};
 ghost use Rattle.fam_world.specs.Answers.{IsUntouched};
+ghost use Rattle.fam_world.specs.Concluded.{ReadsOf};
 
 use crate::fault::EventFault;
 use fam_base::{HostName, LineNo, Mask};
@@ -133,6 +135,26 @@ pub(crate) fn finish<M: Media>(
     ensures size { M.size media.new ≡ M.size media.old }
 {
     noted(world.finish(media, name))
+}
+
+/// A host's task, which only reads, runs to its answer, behind which of the world its journal alone is looked at. Where no memory
+/// is left for it the image is as `finish` leaves it.
+pub(crate) fn conclude<M: Media>(
+    world: &mut World,
+    media: &mut M,
+    name: &HostName,
+) -> Result<(), EventFault>
+    requires formed { IsFormed world.old }
+    requires fits { FitsMedia (M.size media.old) world.old.hosts }
+    requires reads { ReadsOf name.now world.old world.old }
+    ensures says { (files : Option Files) (copied : ℕ) → CallShows (Finishes name.now) (world_change M.size M.state
+        media.old media.new world.old world.new files copied copied) result }
+    ensures same { OnErr result ((h : ℕ) → number_in name.now world.old ≡ Some h → IsUnstoredAt h world.old
+        → IfModelled (M.state media.old).image (λ image. (M.state media.new).image ≡ Some image)) }
+    ensures untouched { IsUntouched (Finishes name.now) (M.size media.old) world.old media.old media.new }
+    ensures size { M.size media.new ≡ M.size media.old }
+{
+    noted(world.conclude(media, name))
 }
 
 /// A host's cache sends a line and drops it.

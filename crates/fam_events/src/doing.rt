@@ -11,11 +11,12 @@ ghost use Rattle.fam_media.specs.Outside.{IfModelled};
 ghost use Rattle.fam_media.specs.States.{change};
 ghost use Rattle.fam_events.specs.WorldChange.{world_change};
 ghost use Rattle.fam_events.specs.Happens.{EventSays};
+ghost use Rattle.fam_events.specs.Last.{EventShows};
 ghost use Rattle.fam_events.specs.Rested.{IsRested, IsRun};
 ghost use Rattle.fam_events.specs.Untouched.{IsUntouchedBy};
 
-use crate::asks::{Asked, ask};
-use crate::calls::{declare, evict, fetch, finish, halt, leak, make, stop, umount};
+use crate::asks::{Asked, ask, asks_to_read};
+use crate::calls::{conclude, declare, evict, fetch, finish, halt, leak, make, stop, umount};
 use crate::fault::EventFault;
 use crate::steps::step;
 use fam_base::HostName;
@@ -73,6 +74,41 @@ fn run<M: Media, S: Shelf>(
     match ask(alloc, world, shelf, copied, media.lines(), &name, what) {
         Ok(Asked::Refused) => Ok(()),
         Ok(Asked::Begun) => finish(world, media, &name),
+        Err(fault) => Err(fault),
+    }
+}
+
+/// As the last event of a run: a host begins what it is asked for, and runs it to its answer. Behind it of the world its
+/// journal alone is looked at, so that where the command only reads, its host forgets lines that it won't look at again.
+pub fn run_last<M: Media, S: Shelf>(
+    alloc: Global,
+    world: &mut World,
+    media: &mut M,
+    shelf: &mut S,
+    copied: &mut u64,
+    name: HostName,
+    what: Ask,
+) -> Result<(), EventFault>
+    requires sound { IsSoundAsk what }
+    requires formed { IsFormed world.old }
+    requires fits { FitsMedia (M.size media.old) world.old.hosts }
+
+    // What `happen` says of the world is said of one with the same journal.
+    ensures says { EventShows (event.Run name what) (change S.state shelf.old shelf.new)
+        (world_change M.size M.state media.old media.new world.old world.new (S.state shelf.old).files
+        copied.old copied.new) result }
+    ensures same { OnErr result (IsRested world.old
+        → IfModelled (M.state media.old).image (λ image. (M.state media.new).image ≡ Some image)) }
+    ensures untouched { IsUntouchedBy (event.Run name what) (M.size media.old) world.old media.old media.new }
+    ensures size { M.size media.new ≡ M.size media.old }
+    ensures steady { IsShelfSteady (S.state shelf.old) (S.state shelf.new) }
+{
+    if !asks_to_read(&what) {
+        return run(alloc, world, media, shelf, copied, name, what);
+    }
+    match ask(alloc, world, shelf, copied, media.lines(), &name, what) {
+        Ok(Asked::Refused) => Ok(()),
+        Ok(Asked::Begun) => conclude(world, media, &name),
         Err(fault) => Err(fault),
     }
 }

@@ -11,5 +11,5 @@ mod fault;
 mod sound;
 mod steps;
 
-pub use doing::happen;
+pub use doing::{happen, run_last};
 pub use fault::EventFault;

@@ -9,3 +9,4 @@ pub mod OneText
 pub mod Stops
 pub mod Turns
 pub mod TurnedEnds
+pub mod Alone

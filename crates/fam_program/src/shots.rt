@@ -17,7 +17,7 @@ ghost use Rattle.fam_storm.specs.Storm.{storm};
 use crate::numbers::{last_number, put_number};
 use crate::parents::parent_events;
 use crate::puts::{put_line, put_memory, put_source_end};
-use crate::unprinted::run_until_stop;
+use crate::unprinted::{run_alone, run_until_stop};
 use fam_base::{Attr, Boxed, HostName, OutOfMemory, Path};
 use fam_events::EventFault;
 use fam_journal::{Ask, Event};
@@ -126,12 +126,8 @@ pub fn run_command<M: Media, S: Shelf, K: Sink>(
     ensures shelf { IsShelfSteady (S.state shelf.old) (S.state shelf.new) }
     ensures later { (K.state out.old).faults ≤ (K.state out.new).faults }
 {
-    let name = own_name();
-    let Ok(events) = run_events(alloc, name, me, ask) else {
-        return put_memory(out);
-    };
     let mut world = World::new(alloc);
-    let ended = run_until_stop(alloc, &mut world, events, media, shelf);
+    let ended = run_alone(alloc, &mut world, own_name(), me, ask, media, shelf);
     let done = last_status(world.journal());
     put_end(alloc, &world, ended, done, out)
 }

@@ -8,6 +8,7 @@ use Rattle.fam_cache.specs.Operations.{word_of}
 use Rattle.fam_commands.specs.Task.{Task, op_of}
 use Rattle.fam_media.specs.Causes.{Rose}
 use Rattle.fam_media.specs.Outside.{IfModelled}
+use Rattle.fam_tasks.specs.declared.answer.Turn.{Turn}
 use Rattle.fam_tasks.specs.declared.answer.Turn.TheVariants.{Go}
 use Rattle.fam_tasks.proofs.Keeping.{go_keeps}
 use Rattle.fam_run.specs.Led.{HasBrokenOff, HasDone, KeepsMemory, Led, none, more}
@@ -79,6 +80,23 @@ module _ (a : TaskChange) (same : a.media.new.image ≡ a.media.old.image) (done
       let then : HasDone (behind_on a.media.old.image) Go = subst (λ (m : Option Image). HasDone (behind_on m) Go) same more_done in
       led_done a.media.old.image left still a.lines a.media.old.faults now a.task done.task a.next next a.old done.held a.new new done.led (done_quiet a same done)
       (done_led (behind_on a.media.old.image) still then)
+
+  -- one more was done, with which the task takes this turn
+  pub done_then : (turn : Turn) → HasDone behind turn → HasDone both turn
+  done_then turn last =
+      let then : HasDone (behind_on a.media.old.image) turn = subst (λ (m : Option Image). HasDone (behind_on m) turn) same last in
+      record {
+        task = then.task;
+        held = then.held;
+        led = led_both a.media.old.image a.task a.next then.task a.old a.new then.held (done_led a same done) then.led;
+        sound = then.sound;
+        within = then.within;
+        leaves = then.leaves;
+        goes = then.goes;
+        kept = then.kept;
+        turned = then.turned;
+        own = then.own;
+      }
 
   -- the media failed behind it
   pub broken_behind : (line : LineNo) → a.media.old.faults ≤ before → size ≡ a.lines → HasBrokenOff behind line → HasBrokenOff both line

@@ -16,6 +16,7 @@ pub mod FirstStores
 pub mod SentRuns
 pub mod Gathered
 pub mod RunAlone
+pub mod Checked
 pub mod SentLeft
 pub mod SlotRuns
 pub mod Readers

@@ -2,6 +2,7 @@ pub mod TaskChange
 pub mod Operation
 pub mod Cached
 pub mod Led
+pub mod Checked
 pub mod Runs
 pub mod Room
 pub mod Places

@@ -8,12 +8,13 @@ ghost use Rattle.fam_media.specs.States.{MediaState};
 ghost use Rattle.fam_cache.specs.States.{CacheState};
 ghost use Rattle.fam_tasks.specs.declared.answer.Answer.TheVariants.{BadEntry};
 ghost use Rattle.fam_tasks.specs.declared.answer.Turn.TheVariants.{Done, Go};
+ghost use Rattle.fam_run.specs.Checked.{IsChecked};
 ghost use Rattle.fam_run.specs.Operation.{Operated, said_of};
 ghost use Rattle.fam_run.specs.Room.{LacksRoom, WantsRoom};
 
 use fam_cache::OperationFault;
 use fam_format::Reason;
-use fam_tasks::{Answer, Task, Turn};
+use fam_tasks::{Answer, Due, Task, Turn};
 
 /// The answer that a slot is no entry. It stands apart, since it is rare, and an answer may be large.
 #[inline(never)]
@@ -51,5 +52,27 @@ pub(crate) fn check_slot(task: &mut Task, turn: &mut Turn, slot: u64) -> Result<
             Ok(())
         }
         Err(_) => Err(OperationFault::OutOfMemory),
+    }
+}
+
+/// As `check_slot`, of a task that has loaded all words of a slot. Where no memory is found, nothing is done, and the task
+/// stands before it.
+#[inline(always)]
+pub(crate) fn check_loaded(task: &mut Task, turn: &mut Turn)
+    requires go { turn.old ≡ Go }
+    ensures { (cache : Cache) (lines : ℕ) (media : MediaState) → IsChecked (record {
+      task = task.old;
+      next = task.new;
+      old = cache;
+      new = cache;
+      lines = lines;
+      media = record { old = media; new = media };
+    }) turn.new }
+{
+    if let Due::Checked(slot) = task.due() {
+        task.is_sound();
+        if let Ok(Some(reason)) = task.check_slot(slot) {
+            answer_bad(turn, slot, reason);
+        }
     }
 }

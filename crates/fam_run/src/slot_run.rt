@@ -81,6 +81,7 @@ pub(crate) fn load_run<M: Media>(
     ensures other { IfOk result (λ loaded. loaded ≡ false → media.new ≡ media.old) }
     ensures other_cache { IfOk result (λ loaded. loaded ≡ false → cache.new ≡ cache.old) }
     ensures other_task { IfOk result (λ loaded. loaded ≡ false → task.new ≡ task.old) }
+    ensures image { (M.state media.new).image ≡ (M.state media.old).image }
     ensures steady { IsSteady M.size M.state media.old media.new }
 {
     let size = media.lines();

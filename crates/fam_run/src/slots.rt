@@ -15,6 +15,7 @@ ghost use Rattle.fam_run.specs.Operation.{said_of};
 ghost use Rattle.fam_run.specs.TaskChange.{task_change};
 ghost use Rattle.fam_run.specs.Room.{LacksRoomWhole, WantsRoom};
 
+use crate::checking::check_loaded;
 use crate::operation::operate;
 use crate::slot_run::{has_lines, load_run};
 use fam_base::Line;
@@ -127,7 +128,8 @@ fn load_each<M: Media>(
 }
 
 /// Drops and loads the lines of a slot from the one on that the task drops next, up to the slot's last one: all of them by one
-/// call of the media, where memory lacks no word of them, and else as `load_each`. `lines` is lent as room for their words.
+/// call of the media, where memory lacks no word of them, behind which the slot's words are looked at, and else as `load_each`.
+/// `lines` is lent as room for their words.
 ///
 /// `MediaFault` names the line: those before it were loaded, it was dropped, and the task stands before its first word.
 /// `OutOfMemory` comes where the cache has no room for the first of them, and then nothing was done.
@@ -155,7 +157,10 @@ pub(crate) fn load_slot<M: Media>(
 {
     if due.line == 0 && has_lines(lines, due.lines as usize) {
         match load_run(cache, task, media, due, lines.as_mut_slice()) {
-            Ok(true) => return Ok(()),
+            Ok(true) => {
+                check_loaded(task, turn);
+                return Ok(());
+            }
             Ok(false) => {}
             Err(line) => return Err(OperationFault::MediaFault(line)),
         }

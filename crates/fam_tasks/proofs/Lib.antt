@@ -14,4 +14,5 @@ pub mod Rest
 pub mod WholeLine
 pub mod SlotLine
 pub mod SlotRun
+pub mod FlatLines
 pub mod AllFound

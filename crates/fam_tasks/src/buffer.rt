@@ -98,12 +98,11 @@ impl Buffer {
         requires room { length self.old + LINE_WORDS * count ≤ MOST_WORDS }
         ensures { self.new ≡ self.old ++ words_in lines.now count }
     {
+        let words = lines[..count].as_flattened();
         let start = self.count();
-        for k in 0..count {
-            let from = start + LINE_WORDS * k;
-            self.words[from..from + LINE_WORDS].copy_from_slice(&lines[k]);
-        }
-        self.len = start + LINE_WORDS * count;
+        let end = start + words.len();
+        self.words[start..end].copy_from_slice(words);
+        self.len = end;
     }
 
     /// Forgets the words.

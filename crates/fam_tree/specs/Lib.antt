@@ -11,3 +11,4 @@ pub mod Parents
 pub mod Listings
 pub mod Cuts
 pub mod Said
+pub mod Ends

@@ -1,7 +1,8 @@
 //! Order of lists of bytes, eight bytes at a time.
 
-ghost use Rattle.std.specs.Prelude.{◌≡◌, ◌+◌, ◌≤◌, length, min, slice_range};
+ghost use Rattle.std.specs.Prelude.{◌≡◌, ◌+◌, ◌≤◌, IfSome, length, min, slice_range};
 ghost use Rattle.fam_base.specs.PathOrder.{big, path_cmp};
+ghost use Rattle.fam_tree.specs.Ends.{AreEnds};
 
 use std::cmp::Ordering;
 
@@ -72,7 +73,7 @@ fn order_long(a: &[u8], b: &[u8]) -> Ordering
 
 /// The order of two lists of bytes. Two words, which may overlap, tell it for most paths.
 #[inline(always)]
-pub(crate) fn order(a: &[u8], b: &[u8]) -> Ordering
+fn order(a: &[u8], b: &[u8]) -> Ordering
     ensures { result ≡ path_cmp a.now b.now }
 {
     let both = a.len().min(b.len());
@@ -93,4 +94,55 @@ pub(crate) fn order(a: &[u8], b: &[u8]) -> Ordering
         return x.cmp(&y);
     }
     a.len().cmp(&b.len())
+}
+
+/// The words at the two ends of a list of bytes, which may overlap, where they hold all of it.
+#[derive(Clone, Copy)]
+pub(crate) struct Ends {
+    first: u64,
+    last: u64,
+}
+
+/// The ends of a list of bytes that has one or two words.
+#[inline(always)]
+pub(crate) fn ends_of(bytes: &[u8]) -> Option<Ends>
+    ensures { IfSome result (λ ends. AreEnds bytes.now ends.first ends.last) }
+{
+    if bytes.len() < WORD || bytes.len() > 2 * WORD {
+        return None;
+    }
+    Some(Ends {
+        first: word(bytes, 0),
+        last: word(bytes, bytes.len() - WORD),
+    })
+}
+
+/// The order of a list of bytes and another no longer one, of which these are the ends.
+#[inline(always)]
+fn order_ends(a: &[u8], b: &[u8], ends: Ends) -> Ordering
+    requires ends { AreEnds b.now ends.first ends.last }
+    requires long { length b.now ≤ length a.now }
+    ensures { result ≡ path_cmp a.now b.now }
+{
+    let x = word(a, 0);
+    if x != ends.first {
+        return x.cmp(&ends.first);
+    }
+    let x = word(a, b.len() - WORD);
+    if x != ends.last {
+        return x.cmp(&ends.last);
+    }
+    a.len().cmp(&b.len())
+}
+
+/// The order of two lists of bytes, of which the other may have its ends known.
+#[inline(always)]
+pub(crate) fn order_by(a: &[u8], b: &[u8], ends: Option<Ends>) -> Ordering
+    requires { IfSome ends (λ ends. AreEnds b.now ends.first ends.last) }
+    ensures { result ≡ path_cmp a.now b.now }
+{
+    match ends {
+        Some(ends) if b.len() <= a.len() => order_ends(a, b, ends),
+        _ => order(a, b),
+    }
 }

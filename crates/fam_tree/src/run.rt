@@ -3,10 +3,11 @@
 ghost use Rattle.std.specs.Prelude.{◌≡◌, ◌<◌, ◌≤◌, ◌++◌, ◌∷◌, [], IfOk, IfErr, OnOk, OnErr, IfSome, IfNone, length, vec_len};
 ghost use Rattle.std.specs.List.{insert};
 ghost use Rattle.std.specs.Bool.{OnTrue, OnFalse};
+ghost use Rattle.fam_tree.specs.Ends.{AreEnds};
 ghost use Rattle.fam_tree.specs.Runs.{AreWithin, InOrder, IsAbsent, IsAt, IsFound, IsGap, IsPut, ends_before, entry_at, place_cmp, run_of};
 
 use crate::beside::Beside;
-use crate::byte_order::order;
+use crate::byte_order::{Ends, ends_of, order_by};
 use crate::chunk_view::ChunkView;
 use crate::chunks::Chunks;
 use crate::entry_ref::EntryRef;
@@ -44,17 +45,19 @@ impl Clone for Run {
     }
 }
 
-/// The order of the path of the entry at a place and another, by its bytes.
+/// The order of the path of the entry at a place and another, by its bytes and, where they are known, its ends.
 #[inline(always)]
-fn order_at(entries: &ChunkView<'_>, place: u32, path: &[u8]) -> Ordering
-    requires { place < length entries.now }
+fn order_at(entries: &ChunkView<'_>, place: u32, path: &[u8], ends: Option<Ends>) -> Ordering
+    requires within { place < length entries.now }
+    requires ends { IfSome ends (λ ends. AreEnds path.now ends.first ends.last) }
     ensures { result ≡ place_cmp entries.now path.now place }
 {
-    order(entries.path_at(place as usize), path)
+    order_by(entries.path_at(place as usize), path, ends)
 }
 
 /// Inserts the place of an entry that is put behind all entries, where something else grows by it. Else, and if there is no
 /// memory, or no place below 2^32, nothing changes.
+#[inline(always)]
 fn insert<B: Beside>(
     places: &mut Vec<u32>,
     i: usize,
@@ -81,7 +84,8 @@ fn insert<B: Beside>(
     true
 }
 
-/// Some places, shared anew, with room for one more.
+/// Some places, shared anew, with room for one more. It stands apart, since it is rare.
+#[inline(never)]
 fn shared(alloc: Global, places: &[u32]) -> Result<Rc<Vec<u32>>, OutOfMemory>
     ensures { IfOk result (λ shared. shared.value.items ≡ places.now) }
 {
@@ -139,14 +143,15 @@ impl Run {
         self.places.as_slice()
     }
 
-    /// Whether the last entry is below a path.
+    /// Whether the last entry is below a path, by its bytes and, where they are known, its ends.
     #[inline(always)]
-    pub(crate) fn is_below(&self, entries: &ChunkView<'_>, path: &[u8]) -> bool
-        requires { AreWithin (length entries.now) self.now }
+    pub(crate) fn is_below(&self, entries: &ChunkView<'_>, path: &[u8], ends: Option<Ends>) -> bool
+        requires within { AreWithin (length entries.now) self.now }
+        requires ends { IfSome ends (λ ends. AreEnds path.now ends.first ends.last) }
         ensures { result ≡ ends_before entries.now path.now self.now }
     {
         match self.places.last() {
-            Some(last) => order_at(entries, *last, path).is_lt(),
+            Some(last) => order_at(entries, *last, path, ends).is_lt(),
             None => true,
         }
     }
@@ -161,7 +166,7 @@ impl Run {
     }
 
     /// Where the place of the entry at a path stands, or else where it would. While paths rise that is behind all others.
-    #[inline]
+    #[inline(always)]
     fn seek(&self, entries: &Chunks, path: &[u8]) -> Result<usize, usize>
         requires order { InOrder (run_of entries.now self.now) }
         requires inside { AreWithin (length entries.now) self.now }
@@ -172,14 +177,15 @@ impl Run {
     {
         let view = entries.view();
         let places = self.places.as_slice();
-        if self.rises(entries) && self.is_below(&view, path) {
+        let ends = ends_of(path);
+        if self.rises(entries) && self.is_below(&view, path, ends) {
             return Err(places.len());
         }
         let mut low = 0;
         let mut high = places.len();
         while low < high {
             let middle = low + (high - low) / 2;
-            match order_at(&view, places[middle], path) {
+            match order_at(&view, places[middle], path, ends) {
                 Ordering::Less => low = middle + 1,
                 Ordering::Equal => return Ok(middle),
                 Ordering::Greater => high = middle,
@@ -204,6 +210,7 @@ impl Run {
 
     /// Adds an entry where none has its path and something else grows by it: to the end of the list, and its place to the
     /// run. Else, and if there is no memory, nothing changes.
+    #[inline(always)]
     pub(crate) fn add<B: Beside>(
         &mut self,
         entries: &mut Chunks,
@@ -233,7 +240,8 @@ impl Run {
         insert(places, i, entries, entry, beside)
     }
 
-    /// Cuts the upper half off. If there is no memory, nothing changes.
+    /// Cuts the upper half off. If there is no memory, nothing changes. It stands apart, since it is rare.
+    #[inline(never)]
     pub(crate) fn split(&mut self, alloc: Global) -> Result<Run, OutOfMemory>
         requires { 2 ≤ length self.old }
         ensures cut { IfOk result (λ upper. self.new ++ upper ≡ self.old) }

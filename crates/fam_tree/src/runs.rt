@@ -7,6 +7,7 @@ ghost use Rattle.fam_format.specs.Tree.{with_entry};
 ghost use Rattle.fam_tree.specs.Runs.{AreRunsOf, IsRunFor, entry_at, listed, runs_of, tree_of};
 
 use crate::beside::Beside;
+use crate::byte_order::ends_of;
 use crate::chunks::Chunks;
 use crate::entry_ref::EntryRef;
 use crate::run::Run;
@@ -16,6 +17,7 @@ use std::alloc::Global;
 const MOST: usize = 256;
 
 /// The run that has a path or would have it, and `None` where there is no run. While paths rise it is the last one.
+#[inline(always)]
 fn run_for(entries: &Chunks, runs: &[Run], path: &[u8]) -> Option<usize>
     requires { AreRunsOf entries.now runs.now }
     ensures some { IfSome result (λ k. IsRunFor (runs_of entries.now runs.now) path.now k) }
@@ -24,14 +26,15 @@ fn run_for(entries: &Chunks, runs: &[Run], path: &[u8]) -> Option<usize>
 {
     let last = runs.len().checked_sub(1)?;
     let view = entries.view();
-    if 0 < last && runs[last].rises(entries) && runs[last - 1].is_below(&view, path) {
+    let ends = ends_of(path);
+    if 0 < last && runs[last].rises(entries) && runs[last - 1].is_below(&view, path, ends) {
         return Some(last);
     }
     let mut low = 0;
     let mut high = last;
     while low < high {
         let middle = low + (high - low) / 2;
-        if runs[middle].is_below(&view, path) {
+        if runs[middle].is_below(&view, path, ends) {
             low = middle + 1;
         } else {
             high = middle;
@@ -55,6 +58,7 @@ pub(crate) fn place_in(entries: &Chunks, runs: &[Run], path: &[u8]) -> Option<us
 }
 
 /// Cuts a long run, if there is memory for it.
+#[inline(always)]
 fn split(entries: &Chunks, runs: &mut Vec<Run>, alloc: Global, k: usize)
     requires runs { AreRunsOf entries.now runs.old.items }
     requires within { k < length runs.old.items }
@@ -71,7 +75,9 @@ fn split(entries: &Chunks, runs: &mut Vec<Run>, alloc: Global, k: usize)
     }
 }
 
-/// A first run, of one entry. If there is no memory, or the other part doesn't grow, there is none.
+/// A first run, of one entry. If there is no memory, or the other part doesn't grow, there is none. It stands apart, since
+/// it is done once.
+#[inline(never)]
 fn begin<B: Beside>(
     entries: &mut Chunks,
     runs: &mut Vec<Run>,

@@ -2,7 +2,6 @@
 use Rattle.std.proofs.Common.{◌≡◌, ℕ, ◌<◌, true, List, length, Option, Some, None, Result, Ok, Err, refl, sym, subst, ◌∙◌}
 use Rattle.std.specs.Prelude.{OnErr, OnOk, is_some, slice_get}
 use Rattle.std.proofs.lemmas.Option.{same_Some}
-use Rattle.fam_base.specs.Image.{Image}
 use Rattle.fam_base.specs.declared.cmd.Cmd.{Cmd}
 use Rattle.fam_base.specs.declared.line.LineNo.{LineNo}
 use Rattle.fam_base.specs.declared.line.OutOfMemory.{OutOfMemory}
@@ -13,12 +12,11 @@ use Rattle.fam_commands.specs.Kept.{Kept}
 use Rattle.fam_commands.specs.Task.{Task, mounted, op_of}
 use Rattle.fam_machine.specs.declared.op.Op.{Op}
 use Rattle.fam_machine.specs.declared.op.Op.TheVariants.{Invalidate}
-use Rattle.fam_machine.specs.Caches.{Cache, IsClean}
+use Rattle.fam_machine.specs.Caches.{Cache}
 use Rattle.fam_media.specs.Outside.{IfModelled}
 use Rattle.fam_media.specs.States.{MediaChange}
 use Rattle.fam_rules.specs.Decide.{wish_of}
 use Rattle.fam_run.specs.Shows.{OnlyReads, Shows}
-use Rattle.fam_run.proofs.Shown.{OnBoth}
 use Rattle.fam_journal.specs.ByWorld.{number_in, refusal_in}
 use Rattle.fam_journal.specs.Calls as call
 use Rattle.fam_journal.specs.CallRecords.{IsUnstoredAt}
@@ -27,17 +25,9 @@ use Rattle.fam_journal.specs.Notes.{Note}
 use Rattle.fam_journal.specs.View.{HostView, WorldView}
 use Rattle.fam_journal.proofs.Calls.Members.{changed_at_member}
 use Rattle.fam_world.specs.Concluded.{HasConcluded, ShownUp, with_cache}
-use Rattle.fam_world.specs.Counted.{HostStanding, Runs, told_of}
+use Rattle.fam_world.specs.Counted.{HostStanding, told_of}
 use Rattle.fam_world.proofs.Counting.{far_ends, far_runs}
 use Rattle.fam_world.proofs.Finishing.{finish_done, finish_lacks}
-
--- a cache that the host might have by now, had it forgotten nothing: its task came there by operations, and finds of both the
--- same; and where this held at the start, memory is as it was, and that cache has nothing to send
-pub record FarOver (at lines : ℕ) (start : HostView → HostStanding) (here : HostView → CacheState → HostStanding) (t : Task) (real : Cache) (told now : Option Image) (begun : Type 0) : Type 0 where
-  pub shown : CacheState
-  pub far : (view : HostView) → Runs at lines (start view) (here view shown)
-  pub on : OnBoth t real shown.lines
-  pub calm : begun → IfModelled told (λ image. (now ≡ Some image) × IsClean shown.lines)
 
 -- before an operation that drops a line a host may forget what it holds
 pub forgets : (t : Task) (op : Op) (line : LineNo) (old new shown : Cache) → op ≡ op_of t → op ≡ Invalidate line → IsShed new old → Shows t old shown → Shows t new shown

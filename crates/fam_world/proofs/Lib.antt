@@ -18,4 +18,5 @@ pub mod TaskSteps
 pub mod Fits
 pub mod UpToOn
 pub mod Counting
+pub mod Following
 pub mod Forgotten

@@ -129,7 +129,7 @@ held_clean_at at.FenceSlot t held before of clean = absurd before
 held_clean_at at.SendGate t held before of clean = absurd before
 held_clean_at at.FenceGate t held before of clean = absurd before
 
-pub held_clean : (t next : Task) (held after : Cache) {n : ℕ} → CachedRun t held next after n → IsBeforeWrites t.phase → IsClean held → IsClean after
+held_clean : (t next : Task) (held after : Cache) {n : ℕ} → CachedRun t held next after n → IsBeforeWrites t.phase → IsClean held → IsClean after
 held_clean t _ held _ run.none before clean = clean
 held_clean t next held after (run.more {mid = mid} {now = now} first sound within of is turn) before clean =
     subst IsClean (sym is) (held_clean_at mid.phase mid now (held_before t mid held now first before) of (held_clean t mid held now first before clean))
@@ -200,13 +200,6 @@ run_safe b said told cache after notes_old room_old notes room on x normal old_i
     let has = places (inl first) in inr (has.1, kept has.0)
 run_safe b said told cache after notes_old room_old notes room on x normal old_is new_is places kept (inr was) =
     let has = places (inr was.0) in inr (has.1, kept has.0)
-
--- of a task that reads, on a cache that has nothing to send
-pub read_calm : (b : TaskChange) (said : Turn) → ended said ≡ None → HasRun b said → IsBeforeWrites b.task.phase → IsNormal b.media.old.image → (image : Image) → b.media.old.image ≡ Some image → IsClean b.old → (b.media.new.image ≡ Some image) × IsClean b.new
-read_calm b said on x before normal image told_is clean =
-    next_calm b said on
-    (none_sent b.media.old.image x.mid b.task x.task b.old x.held x.sent before (λ mid task held. HasDone (later b mid task held) said) x.done)
-    before image (subst IsNormal told_is normal) told_is clean
 
 -- Ends.
 

@@ -1,5 +1,5 @@
 -- A call behind which a host's cache isn't told: what a call might have left that forgets no line.
-use Rattle.std.specs.Prelude.{ℕ, ◌≡◌, IfSome, IsErrOf, List, Option, Some, Result, slice_get}
+use Rattle.std.specs.Prelude.{ℕ, ◌≡◌, Bool, false, IfSome, IsErrOf, List, Some, Result, slice_get}
 use Rattle.fam_base.specs.declared.line.OutOfMemory.{OutOfMemory}
 use Rattle.fam_cache.specs.States.{CacheState}
 use Rattle.fam_media.specs.States.{MediaChange}
@@ -21,6 +21,11 @@ with_cache view cache = record view { cache = cache.lines }
 pub record ShownUp (at lines : ℕ) (a : HostStanding) (end : CacheState → HostStanding) (said : Result (Unit {0}) OutOfMemory) : Type 0 where
   pub shown : CacheState
   pub runs : RunsUp at lines a (end shown) said
+
+-- so it was said of a call that may forget lines: where it forgets none, the cache shown is the host's own
+pub record ShownBy (forgets : Bool) (own : CacheState) (at lines : ℕ) (a : HostStanding) (end : CacheState → HostStanding) (said : Result (Unit {0}) OutOfMemory) : Type 0 where
+  pub up : ShownUp at lines a end said
+  pub same : forgets ≡ false → up.shown ≡ own
 
 -- the host's task only reads, if it runs any
 abbrev pub IsReader : HostView → Type 0

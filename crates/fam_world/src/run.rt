@@ -7,11 +7,14 @@ ghost use Rattle.fam_tasks.specs.declared.answer.Turn.TheVariants.{Go};
 ghost use Rattle.fam_journal.specs.CallRecords.{TaskFits};
 ghost use Rattle.fam_journal.specs.View.{HostView};
 ghost use Rattle.fam_run.specs.Operation.{said_of};
+ghost use Rattle.fam_run.specs.Shows.{OnlyReads};
+ghost use Rattle.fam_world.specs.Concluded.{ShownBy};
 ghost use Rattle.fam_world.specs.Counted.{HostStepsSay, RunsUp, host_standing, moved_up, task_left, task_standing};
 ghost use Rattle.fam_world.specs.Steps.{CacheFits};
 ghost use Rattle.fam_world.specs.Turns.{IsNoted, task_note};
 ghost use Rattle.fam_world.specs.View.{host_view, kept_in, note_view, notes_view};
 
+use crate::concluding::shed;
 use crate::fault::Moved;
 use crate::hosts::{Host, MOST_HOSTS, retire};
 use crate::notes::{add, make_room};
@@ -72,7 +75,7 @@ fn note_fault(journal: &mut Vec<Note>, host: HostId, line: LineNo)
 /// Notes what came of operations of a host's task, for which there is room, and says whether the task is over. Where it goes
 /// on, `turn` is `Go` again.
 #[inline(always)]
-pub(crate) fn note_turn(
+fn note_turn(
     journal: &mut Vec<Note>,
     host: HostId,
     advanced: Result<(), OperationFault>,
@@ -141,19 +144,25 @@ fn run_most<M: Media>(
 
 /// Does operations of a host's task up to its answer. Where no memory was found those before stand; but where nothing of
 /// the task was stored at first, and its host's cache had nothing to send, memory is as it was then.
-fn run_up<M: Media>(
+///
+/// Where it `forgets`, the task only reads, and nobody looks at its host's cache behind it: that forgets lines on the way, and
+/// what is told is told of one that has all. Both ways are one loop, compiled once, so that `advance` becomes part of it.
+#[inline(never)]
+pub(crate) fn run_up<M: Media>(
     alloc: Global,
     cache: &mut HostCache,
     task: &mut Task,
     journal: &mut Vec<Note>,
     media: &mut M,
     host: HostId,
+    forgets: bool,
 ) -> Result<(), OutOfMemory>
     requires fits { task.old.lines ≡ M.size media.old }
     requires cached { CacheFits (M.size media.old) cache.old }
-    ensures runs { (view : HostView) → RunsUp host.0 (M.size media.old)
+    requires reads { forgets ≡ true → OnlyReads task.old }
+    ensures runs { (view : HostView) → ShownBy forgets cache.new host.0 (M.size media.old)
         (task_standing M.state media.old view (Some task.old) task.old.kept cache.old (notes_view journal.old.items))
-        (task_standing M.state media.new view (task_left (moved_up result) (Some task.new)) task.new.kept cache.new
+        (λ shown. task_standing M.state media.new view (task_left (moved_up result) (Some task.new)) task.new.kept shown
         (notes_view journal.new.items)) result }
     ensures same { OnErr result (IsUnstored task.old cache.old.lines
         → IfModelled (M.state media.old).image (λ image. (M.state media.new).image ≡ Some image)) }
@@ -161,10 +170,12 @@ fn run_up<M: Media>(
 {
     let mut turn = Turn::Go;
     let mut lines = Vec::new(alloc);
+    let mut tries = forgets;
     'operations: loop {
         if make_room(journal).is_err() {
             return Err(OutOfMemory);
         }
+        tries = shed(cache, task, tries);
         match note_turn(
             journal,
             host,
@@ -230,7 +241,7 @@ pub(crate) fn steps_of<M: Media>(
     moved
 }
 
-/// As `run_up`, of the task that a host runs, which there is. Behind its answer the host has no task.
+/// As `run_up` that forgets nothing, of the task that a host runs, which there is. Behind its answer the host has no task.
 pub(crate) fn finish_of<M: Media>(
     alloc: Global,
     host: &mut Host,
@@ -261,6 +272,7 @@ pub(crate) fn finish_of<M: Media>(
         journal,
         media,
         HostId(at as u32),
+        false,
     )?;
     retire(&mut host.task, &mut host.kept, &mut host.replica);
     Ok(())

@@ -3,7 +3,8 @@
 //!
 //! Lines behind the gate's are read ahead for a reader that goes upward, and each of them is given once. The gate's
 //! line, and those before it, are always read by themselves, and then all that was read ahead is forgotten. So what is
-//! given of slots and files after a gate was read is never older than that gate.
+//! given of slots and files after a gate was read is never older than that gate. Only a superblock's lines are read together,
+//! with its first one.
 //!
 //! A run of lines is read or written by one call for each page of it, through the same page: what was read ahead is
 //! forgotten then. A run of few lines, such as a slot's, is read as its lines are one by one, from what was read ahead, and written
@@ -36,6 +37,9 @@ const FEW_BYTES: usize = 1024;
 
 /// The bytes that are read ahead where no line before this one was given.
 const FIRST_BYTES: usize = 4096;
+
+/// The bytes of a superblock, from line 0 on.
+const SUPERBLOCK_BYTES: usize = 192;
 
 /// A file as a media: each line is read when it is asked for or ahead of that, and written at once. It models nothing
 /// of its content, and counts its faults.
@@ -248,15 +252,25 @@ impl FileMedia {
         words
     }
 
-    /// Reads ahead from a line on: more where the reader comes from the lines that were read ahead before. Where that
-    /// fails the fault is counted, and no line is ahead.
+    /// How many bytes are read ahead from a line on: a superblock, or more where the reader comes from the lines that were
+    /// read ahead before.
+    fn wanted(&self, line: u64) -> usize {
+        if line == 0 {
+            return SUPERBLOCK_BYTES;
+        }
+        if self.first < self.end && line == self.end {
+            return PAGE_BYTES;
+        }
+        FIRST_BYTES
+    }
+
+    /// Reads ahead from a line on. Where that fails the fault is counted, and no line is ahead.
     fn fill(&mut self, line: u64)
         requires within { line < MOST_LINES }
         ensures lines { self.new.lines ≡ self.old.lines }
         ensures faults { self.old.faults ≤ self.new.faults }
     {
-        let more = self.first < self.end && line == self.end;
-        let wanted = if more { PAGE_BYTES } else { FIRST_BYTES };
+        let wanted = self.wanted(line);
         self.first = line;
         self.next = line;
         self.end = line;
@@ -269,15 +283,16 @@ impl FileMedia {
         }
     }
 
-    /// Reads a line that isn't ahead: those up to the gate's by themselves, and others with some ahead. No line up to the
-    /// gate's is ever ahead, since the lines from `next` on are never before the one that was asked for.
+    /// Reads a line that isn't ahead: those up to the gate's by themselves, but for the first one, and others with some ahead.
+    /// The gate's line is never ahead, since the lines from `next` on are never before the one that was asked for, and with the
+    /// first one only the superblock's are read.
     #[inline(never)]
     fn read_other(&mut self, line: u64) -> Result<(), Failed>
         requires within { line < MOST_LINES }
         ensures lines { self.new.lines ≡ self.old.lines }
         ensures cause { HasCause self.old.faults self.new.faults result }
     {
-        if line <= GATE_LINE {
+        if 0 < line && line <= GATE_LINE {
             self.end = 0;
             return self.read_one(line);
         }

@@ -8,11 +8,11 @@ ghost use Rattle.fam_machine.specs.declared.cell.Cell.{Cell};
 ghost use Rattle.fam_cache.specs.Blocks.{HasNone, HasRoom, IsBlockOf, IsKept, cell_in, lines_of};
 ghost use Rattle.fam_cache.specs.BroughtRuns.{LacksNone, brought_run};
 
-use super::{Block, Blocks, Mark, add_block, is_dirty_mark};
+use super::{Block, Blocks, Mark, add_block, dirty_in, is_dirty_mark};
 use fam_base::Line;
 
-/// Whether none of so many lines of a block is dirty, from this place on.
-#[inline(always)]
+/// Whether none of so many lines of a block is dirty, from this place on, where one of the block is.
+#[inline(never)]
 fn is_clean(block: &Block, from: usize, count: usize) -> bool
     requires { from + count ≤ 16 }
     ensures { result ≡ true → (i : ℕ) → from ≤ i → i < from + count → ¬ (IsDirty (cell_in block.now i)) }
@@ -33,7 +33,8 @@ pub(crate) fn lacks_none(cache: &Blocks, at: usize, first: u64, count: usize) ->
     requires within { first % 16 + count ≤ 16 }
     ensures { result ≡ true → LacksNone (lines_of cache.now) first count }
 {
-    is_clean(&cache.blocks[at], (first % 16) as usize, count)
+    let block = &cache.blocks[at];
+    dirty_in(block) == 0 || is_clean(block, (first % 16) as usize, count)
 }
 
 /// Adds a block that holds no line, and returns its place.

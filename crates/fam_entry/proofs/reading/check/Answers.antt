@@ -26,5 +26,5 @@ are_map_words-requires c = omega (arith, slot_long c.args.params.now, c.requires
 pub fits_map-requires-clause-long : goal.fits_map-requires-clause-long
 fits_map-requires-clause-long c = omega (arith, slot_long c.args.params.now, c.requires.count)
 
-pub check_rest-requires : goal.check_rest-requires
-check_rest-requires c = omega (arith, slot_long c.args.params.now, c.requires.count)
+pub check_rest-requires-clause-long : goal.check_rest-requires-clause-long
+check_rest-requires-clause-long c = omega (arith, slot_long c.args.params.now, c.requires.count)

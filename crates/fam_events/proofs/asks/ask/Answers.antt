@@ -26,3 +26,6 @@ returns-in-Err-clause-unstored g c = not_begun c.refuse.result _ c.refuse.ensure
 
 pub read-requires-clause-free : goal.read-requires-clause-free
 read-requires-clause-free g c = λ cmd same. sym (c.may_begin.ensures.first cmd (same ∙ sym c.mounts.ensures)) ∙ ap refusal_told c.in-Ok.is
+
+pub returns-in-Err-clause-reads : goal.returns-in-Err-clause-reads
+returns-in-Err-clause-reads g c = not_begun c.refuse.result _ c.refuse.ensures.refused

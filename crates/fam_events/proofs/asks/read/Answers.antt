@@ -5,11 +5,12 @@ use Rattle.fam_sources.specs.declared.sourced.Sourced.{Sourced}
 use Rattle.fam_sources.specs.Sourced.{IsSourced}
 use Rattle.fam_events.specs.WorldChange.{WorldChange, asking}
 use Rattle.fam_events.specs.Begins.{AskUndone}
+use Rattle.fam_events.specs.Last.{AsksToRead}
 use Rattle.fam_events.specs.declared.asks.Asked.TheVariants.{Begun, Refused}
 use Rattle.fam_journal.specs.Events.{mounts}
 use Rattle.fam_journal.proofs.Forms.EventRows.{mounts_asked}
 use Rattle.fam_events.proofs.Asking.{asked_as, begun, ended, ready_of, some_cmd, some_mounts, undone, unfit, unfit_of}
-use Rattle.fam_events.proofs.Resting.{begun_so, not_begun}
+use Rattle.fam_events.proofs.Resting.{asked_reads, begun_reading, begun_so, not_begun}
 use Rattle.fam_events.proofs.asks.read.Goals as goal
 
 pub returns-in_default-clause-says : goal.returns-in_default-clause-says
@@ -56,3 +57,12 @@ returns-in-Ready-clause-unstored g c = begun_so c.start.result _ c.start.ensures
 
 pub returns-in-Unfit-clause-unstored : goal.returns-in-Unfit-clause-unstored
 returns-in-Unfit-clause-unstored g c = not_begun c.refuse.result _ c.refuse.ensures.refused
+
+pub returns-in-Ready-clause-reads : goal.returns-in-Ready-clause-reads
+returns-in-Ready-clause-reads g c =
+    let shelf : ShelfChange = change g.S.Shelf.state c.args.shelf.now c.resolve.new.shelf in
+    let ready = ready_of shelf c.args.copied.now c.args.what c.in-Ok.resolved.copied c.in-Ok.resolved.sourced c.in-Ready.cmd _ c.in-Ready.is c.in-Ready.cmd-is c.in-Ok.ensures.says in
+    begun_reading c.start.result _ (AsksToRead c.args.what) _ c.start.ensures.reads (asked_reads c.args.what _ ready.form)
+
+pub returns-in-Unfit-clause-reads : goal.returns-in-Unfit-clause-reads
+returns-in-Unfit-clause-reads g c = not_begun c.refuse.result _ c.refuse.ensures.refused

@@ -1,5 +1,4 @@
 use Rattle.std.proofs.Common.{ℕ, Option, Some, None, ap, refl, subst, sym}
-use Rattle.fam_machine.specs.declared.request.MkfsRequest.{MkfsRequest}
 use Rattle.fam_machine.specs.MkfsRequest.{mkfs_request}
 use Rattle.fam_journal.specs.Calls.{Makes}
 use Rattle.fam_events.specs.WorldChange.{WorldChange, world_change}

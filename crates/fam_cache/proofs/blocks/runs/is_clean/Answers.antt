@@ -1,4 +1,4 @@
-use Rattle.std.proofs.Common.{◌≡◌, ◌∙◌, ℕ, ap, sym, get_or, [], inl, inr, arith}
+use Rattle.std.proofs.Common.{◌∙◌, ℕ, ap, sym, get_or, [], inl, inr, arith}
 use Rattle.std.proofs.lemmas.Bool.{cases_eq, false≢true}
 use Rattle.fam_machine.specs.OneLine.{is_dirty}
 use Rattle.fam_cache.specs.Blocks.{cell_in}

@@ -1,9 +1,7 @@
 use Rattle.std.proofs.Common.{◌≡◌, ◌++◌, ◌∷◌, [], List, length, Option, None, Some, Result, Ok, Err, set, refl, ap, sym, subst, ◌∙◌, arith, true}
 use Rattle.fam_media.specs.States.{MediaChange, change}
-use Rattle.std.specs.Prelude.{IfSome, IsErrOf, OnErr, is_some}
-use Rattle.fam_base.specs.declared.line.OutOfMemory.{OutOfMemory}
+use Rattle.std.specs.Prelude.{IfSome, OnErr, is_some}
 use Rattle.fam_world.specs.declared.fault.WorldFault.{WorldFault}
-use Rattle.fam_world.specs.declared.fault.WorldFault.TheVariants as fault
 use Rattle.std.proofs.lemmas.Option.{slice_get_read}
 use Rattle.fam_commands.specs.FirstStore.{IsUnstored}
 use Rattle.fam_commands.specs.Task.{Task}
@@ -12,7 +10,7 @@ use Rattle.fam_cache.specs.States.{CacheState}
 use Rattle.fam_journal.specs.Calls as call
 use Rattle.fam_journal.specs.CallRecords.{FinishOutOfMemory, FitsMedia, IsUnstoredAt, MediaCall}
 use Rattle.fam_journal.specs.Notes.{Note, Refused}
-use Rattle.fam_journal.specs.View.{HostView, WorldView}
+use Rattle.fam_journal.specs.View.{WorldView}
 use Rattle.fam_notes.specs.declared.note.Note.{Note as Kept}
 use Rattle.fam_world.specs.Answers.{IfAnswered, IsRefused}
 use Rattle.fam_world.specs.Concluded.{HasConcluded, ReadsOf, ShownUp, with_cache}
@@ -115,6 +113,7 @@ conclude_of-requires g c =
     record {
       runs = c.in-Ok.ensures.runs (host_view x) view_is;
       fits = fits.task;
+      cached = record { below = fits.cache };
       reads = subst (λ (w : WorldView). ReadsOf c.args.name.now w w) (sym c.self.view_is) c.requires.reads c.in-Ok.at (host_view x) (c.in-Ok.ensures.placed size old.journal).number view_is;
       few = omega (arith, c.in-Ok.ensures.within, c.self.invariant);
     }
