@@ -90,7 +90,3 @@ head_split a b c d e f a1 a2 a3 b1 c1 c2 d1 d2 e1 e2 f1 pa1 pa2 pa3 pb pc1 pc2 p
     let sum : bit_xor (bit_xor (bit_xor (bit_xor (bit_xor (bit_xor 0xd2d7576e (bit_xor a1 (bit_xor a2 a3))) b1) (bit_xor c1 c2)) (bit_xor d1 d2)) (bit_xor e1 e2)) f1 ≡ head_steps a b c d e f =
     rw (first, pb, fourth, fifth, sixth, pf) (head_sum a b c d e f) in
     grouped 0xd2d7576e a1 a2 a3 b1 c1 c2 d1 d2 e1 e2 f1 ∙ sum
-
--- thirty-five words of zero, by three runs of them
-pub three_runs : (words second third behind : List ℕ) → words ≡ replicate 16 0 ++ second → second ≡ replicate 16 0 ++ third → third ≡ replicate 3 0 ++ behind → words ≡ replicate 35 0 ++ behind
-three_runs words second third behind e f g = e ∙ ap (λ (l : List ℕ). replicate 16 0 ++ l) (f ∙ ap (λ (l : List ℕ). replicate 16 0 ++ l) g)

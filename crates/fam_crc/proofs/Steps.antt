@@ -180,7 +180,7 @@ word_split r w a b c d e f g h _ below pa pb pc pd pe pf pg ph =
     (level 8 (2 ^ 48) x))))))) in
     rw (pa, pb, pc, pd, pe, pf, pg, ph) (simp xor_assoc (sum ∙ ap (steps 64) (xor_comm w r) ∙ steps_word r w below))
 
-steps_zero : (n : ℕ) → steps n 0 ≡ 0
+pub steps_zero : (n : ℕ) → steps n 0 ≡ 0
 unfolding steps
 steps_zero zero = refl
 steps_zero (suc n) = steps_zero n

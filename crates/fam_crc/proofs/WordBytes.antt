@@ -3,7 +3,7 @@ use Rattle.std.proofs.Common.{ℕ, zero, suc, ◌^◌, ◌<◌, List, [], ◌∷
 use Rattle.std.specs.Int.{byte_at, bytes_low_first, to_le_bytes, w64}
 use Rattle.fam_crc.specs.Crc.{crc32, bytes_of_words}
 use Rattle.fam_crc.specs.Polynomial.{IsRemainder}
-use Rattle.fam_crc.proofs.Division.{crc_fits, crc_is_remainder}
+use Rattle.fam_crc.proofs.Division.{crc_is_remainder}
 
 -- bytes, and bytes behind them
 append_fits : (xs ys : List ℕ) → ((i : ℕ) → get_or xs i 0 < 256) → ((i : ℕ) → get_or ys i 0 < 256) → (i : ℕ) → get_or (xs ++ ys) i 0 < 256
@@ -26,10 +26,6 @@ bytes_fit (suc n) i w (suc j) = bytes_fit n (suc i) w j
 pub bytes_of_words_fit : (words : List ℕ) (i : ℕ) → get_or (bytes_of_words words) i 0 < 256
 bytes_of_words_fit [] i = omega arith
 bytes_of_words_fit (w ∷ words) i = append_fits (to_le_bytes w64 w) (bytes_of_words words) (bytes_fit 8 0 w) (bytes_of_words_fit words) i
-
--- the checksum of words has 32 bits
-pub crc_of_words_fits : (words : List ℕ) → crc32 (bytes_of_words words) < 2 ^ 32
-crc_of_words_fits words = crc_fits (bytes_of_words words) (bytes_of_words_fit words)
 
 -- and is the remainder of their bytes
 pub words_have_remainder : (words : List ℕ) → IsRemainder (bytes_of_words words) (crc32 (bytes_of_words words))

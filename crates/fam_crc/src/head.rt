@@ -4,7 +4,7 @@
 //! A byte comes through the steps of all words from its own on by one look-up, so that a head takes a look-up for each
 //! byte that may stand in it, and none for its zeros.
 
-ghost use Rattle.std.specs.Prelude.{◌≡◌, ◌∷◌, ◌++◌, ◌<◌, ◌≤◌, ℕ, IfSome, IsTrue, bit_xor, fold, replicate, slice_index};
+ghost use Rattle.std.specs.Prelude.{◌≡◌, ◌∷◌, ◌++◌, ◌<◌, ◌≤◌, ℕ, IfSome, IsTrue, fold, replicate, slice_index};
 ghost use Rattle.fam_crc.specs.Crc.{after_byte, all_ones, bytes_of_words};
 ghost use Rattle.fam_crc.specs.Heads.{AreSmall, head_steps};
 ghost use Rattle.fam_crc.specs.Zeros.{EndsWith};

@@ -1,15 +1,19 @@
--- From the list of faults to what is given, and one more argument.
-use Rattle.std.proofs.Common.{◌≡◌, List, [], ◌∷◌, Some, None, if◌then◌else◌, refl, sym, ap}
-use Rattle.clap.specs.Walk.{Rule, Text}
-use Rattle.clap.specs.Simple.{App, matches_of, with_rule}
+-- From the list of faults to what is given, and one argument more.
+use Rattle.std.proofs.Common.{◌≡◌, ℕ, ◌+◌, ◌<◌, List, [], ◌∷◌, Some, None, if◌then◌else◌, fold, take, length, get_or, refl, sym, ap, ◌∙◌}
+use Rattle.std.proofs.lemmas.List.Sums.{fold_more}
+use Rattle.clap.specs.Walk.{Text}
+use Rattle.clap.specs.Simple.{App, matches_of}
 use Rattle.clap.specs.Kinds.{Kinds, IsAmong}
 use Rattle.clap.specs.Faults.{fault_of}
 use Rattle.clap.specs.declared.error.kind.ErrorKind.{ErrorKind}
+use Rattle.fam_words.specs.Arguments.{with_argument}
 use Rattle.fam_words.specs.Simple.{rows_given, is_free_of_faults}
+use Rattle.fam_words.specs.declared.simple.Argument.{Argument}
 
--- equal commands stay equal with one more argument
-pub also : (a b : App) (r : Rule) → a ≡ b → with_rule a r ≡ with_rule b r
-also a b r e = ap (λ x. with_rule x r) e
+-- a command with one argument more
+pub one_more : (start before made : App) (arguments : List Argument) (i : ℕ) (d : Argument) → i < length arguments → before ≡ fold with_argument start (take i arguments) → made ≡ with_argument before (get_or arguments i d) → made ≡ fold with_argument start (take (i + 1) arguments)
+one_more start before made arguments i d below e f =
+    f ∙ ap (λ (app : App). with_argument app (get_or arguments i d)) e ∙ sym (fold_more with_argument start arguments i d below)
 
 pub given_rows : (app : App) (ws : List Text) → fault_of app ws ≡ [] → Some (matches_of app ws) ≡ rows_given app ws
 unfolding rows_given

@@ -1,3 +1,4 @@
 pub mod SimpleApps
 pub mod Given
 pub mod UuidWords
+pub mod NamedRules

@@ -1,5 +1,5 @@
 -- Which words ask for a copy of a file system.
-use Rattle.std.specs.Prelude.{if◌then◌else◌, Bool, true, false, List, ℕ, [], ◌∷◌, codes, Option, Some, None, option_and_then}
+use Rattle.std.specs.Prelude.{if◌then◌else◌, Bool, false, List, ℕ, [], ◌∷◌, codes, Option, Some, None, option_and_then}
 use Rattle.std.specs.Str.{bytes_eq}
 use Rattle.clap.specs.Simple.{App}
 use Rattle.clap.specs.Walk.{Row, Text}

@@ -1,7 +1,9 @@
 pub mod Simple
+pub mod Arguments
 pub mod Apps
 pub mod Values
 pub mod Calls
 pub mod Shadows
 pub mod Dups
 pub mod Mails
+pub mod Names

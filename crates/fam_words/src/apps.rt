@@ -1,191 +1,179 @@
 //! The program's commands, as simple commands of `clap`.
 
-ghost use Rattle.std.specs.Prelude.{◌≡◌, fold, IfOk};
-ghost use Rattle.clap.specs.Words.{app_of, with_rule};
-ghost use Rattle.fam_words.specs.Apps.{mkfs_app, logplay_app, mkdir_app, creat_app, cp_app, verify_app, read_app, check_app, fsck_app, script_app, storm_app, owner_rules, stripe_rules};
+ghost use Rattle.std.specs.Prelude.{◌≡◌, IfOk, fold};
+ghost use Rattle.clap.specs.Words.{app_of};
+ghost use Rattle.fam_words.specs.Arguments.{with_argument};
+ghost use Rattle.fam_words.specs.Calls.{app_named};
+ghost use Rattle.fam_words.specs.Simple.{plain_app};
 ghost use Rattle.fam_words.specs.Dups.{dup_app};
 ghost use Rattle.fam_words.specs.Mails.{mail_app};
 ghost use Rattle.fam_words.specs.Shadows.{shadow_app};
 
-use crate::simple::{flag, long_option, needed_option, option, plain, word};
+use crate::invocations::Name;
+use crate::simple::{Argument, command};
 use clap::Command;
 use fam_base::OutOfMemory;
 use std::alloc::Global;
 
-/// Adds the options of a mode and an owner.
-fn owner<'a>(alloc: Global, command: Command<'a>) -> Result<Command<'a>, OutOfMemory>
-    ensures { IfOk result (λ c. app_of c ≡ fold with_rule (app_of command.entry) owner_rules) }
-{
-    let command = option(alloc, command, "mode", 'm', false)?;
-    let command = option(alloc, command, "uid", 'u', false)?;
-    option(alloc, command, "gid", 'g', false)
-}
+/// The arguments of the command mkfs.
+const MKFS: [Argument; 7] = [
+    Argument::Word("image"),
+    Argument::Short("unit", 'u', false),
+    Argument::Short("loglen", 'l', false),
+    Argument::Flag("force", 'f'),
+    Argument::Long("format", false),
+    Argument::Long("uuid", false),
+    Argument::Long("system", false),
+];
 
-/// Adds the options of a stripe.
-fn stripe<'a>(alloc: Global, command: Command<'a>) -> Result<Command<'a>, OutOfMemory>
-    ensures { IfOk result (λ c. app_of c ≡ fold with_rule (app_of command.entry) stripe_rules) }
-{
-    let command = option(alloc, command, "nstrips", 'N', false)?;
-    let command = option(alloc, command, "nbuckets", 'B', false)?;
-    option(alloc, command, "chunksize", 'C', false)
-}
+/// The arguments of the command dup.
+const DUP: [Argument; 8] = [
+    Argument::Word("from"),
+    Argument::Word("to"),
+    Argument::Short("unit", 'u', false),
+    Argument::Short("loglen", 'l', false),
+    Argument::Flag("force", 'f'),
+    Argument::Long("format", false),
+    Argument::Long("uuid", false),
+    Argument::Long("system", false),
+];
 
-/// The command mkfs.
-pub(crate) fn mkfs<'a>(alloc: Global) -> Result<Command<'a>, OutOfMemory>
-    ensures { IfOk result (λ c. app_of c ≡ mkfs_app) }
-{
-    let command = plain(alloc, "mkfs");
-    let command = word(alloc, command, "image")?;
-    let command = option(alloc, command, "unit", 'u', false)?;
-    let command = option(alloc, command, "loglen", 'l', false)?;
-    let command = flag(alloc, command, "force", 'f')?;
-    let command = long_option(alloc, command, "format")?;
-    let command = long_option(alloc, command, "uuid")?;
-    long_option(alloc, command, "system")
-}
+/// The arguments of the command logplay.
+const LOGPLAY: [Argument; 2] = [Argument::Word("image"), Argument::Long("system", false)];
+
+/// The arguments of the command logplay with a folder for the tree's shadow.
+const SHADOW: [Argument; 3] = [
+    Argument::Word("image"),
+    Argument::Long("shadow", true),
+    Argument::Long("system", false),
+];
+
+/// The arguments of the command mkdir.
+const MKDIR: [Argument; 7] = [
+    Argument::Word("image"),
+    Argument::Word("path"),
+    Argument::Flag("parents", 'p'),
+    Argument::Short("mode", 'm', false),
+    Argument::Short("uid", 'u', false),
+    Argument::Short("gid", 'g', false),
+    Argument::Long("system", false),
+];
+
+/// The arguments of the command creat.
+const CREAT: [Argument; 11] = [
+    Argument::Word("image"),
+    Argument::Word("path"),
+    Argument::Short("size", 's', true),
+    Argument::Short("seed", 'S', false),
+    Argument::Short("mode", 'm', false),
+    Argument::Short("uid", 'u', false),
+    Argument::Short("gid", 'g', false),
+    Argument::Short("nstrips", 'N', false),
+    Argument::Short("nbuckets", 'B', false),
+    Argument::Short("chunksize", 'C', false),
+    Argument::Long("system", false),
+];
+
+/// The arguments of the command cp.
+const CP: [Argument; 10] = [
+    Argument::Word("image"),
+    Argument::Word("source"),
+    Argument::Word("path"),
+    Argument::Short("mode", 'm', false),
+    Argument::Short("uid", 'u', false),
+    Argument::Short("gid", 'g', false),
+    Argument::Short("nstrips", 'N', false),
+    Argument::Short("nbuckets", 'B', false),
+    Argument::Short("chunksize", 'C', false),
+    Argument::Long("system", false),
+];
+
+/// The arguments of the command verify.
+const VERIFY: [Argument; 5] = [
+    Argument::Word("image"),
+    Argument::Word("path"),
+    Argument::Short("seed", 'S', false),
+    Argument::Long("source", false),
+    Argument::Long("system", false),
+];
+
+/// The arguments of the command read.
+const READ: [Argument; 5] = [
+    Argument::Word("image"),
+    Argument::Word("path"),
+    Argument::Word("offset"),
+    Argument::Word("count"),
+    Argument::Long("system", false),
+];
+
+/// The arguments of the command check.
+const CHECK: [Argument; 3] = [
+    Argument::Word("image"),
+    Argument::Word("listing"),
+    Argument::Long("system", false),
+];
+
+/// The arguments of the command fsck.
+const FSCK: [Argument; 2] = [Argument::Word("image"), Argument::Long("system", false)];
+
+/// The arguments of the command script.
+const SCRIPT: [Argument; 2] = [Argument::Word("file"), Argument::Word("image")];
+
+/// The arguments of the command mail.
+const MAIL: [Argument; 3] = [
+    Argument::Word("file"),
+    Argument::Word("image"),
+    Argument::Word("path"),
+];
+
+/// The arguments of the command storm.
+const STORM: [Argument; 4] = [
+    Argument::Word("seed"),
+    Argument::Word("size"),
+    Argument::Word("image"),
+    Argument::Flag("print", 'p'),
+];
 
 /// The command dup.
+#[tactic(auto, unfolding(crate::specs::Arguments::with_argument, crate::specs::Dups::dup_app))]
 pub(crate) fn dup<'a>(alloc: Global) -> Result<Command<'a>, OutOfMemory>
     ensures { IfOk result (λ c. app_of c ≡ dup_app) }
 {
-    let command = plain(alloc, "dup");
-    let command = word(alloc, command, "from")?;
-    let command = word(alloc, command, "to")?;
-    let command = option(alloc, command, "unit", 'u', false)?;
-    let command = option(alloc, command, "loglen", 'l', false)?;
-    let command = flag(alloc, command, "force", 'f')?;
-    let command = long_option(alloc, command, "format")?;
-    let command = long_option(alloc, command, "uuid")?;
-    long_option(alloc, command, "system")
-}
-
-/// The command logplay.
-pub(crate) fn logplay<'a>(alloc: Global) -> Result<Command<'a>, OutOfMemory>
-    ensures { IfOk result (λ c. app_of c ≡ logplay_app) }
-{
-    let command = plain(alloc, "logplay");
-    let command = word(alloc, command, "image")?;
-    long_option(alloc, command, "system")
+    command(alloc, "dup", &DUP)
 }
 
 /// The command logplay with a folder for the tree's shadow.
+#[tactic(auto, unfolding(crate::specs::Arguments::with_argument, crate::specs::Shadows::shadow_app))]
 pub(crate) fn shadow<'a>(alloc: Global) -> Result<Command<'a>, OutOfMemory>
     ensures { IfOk result (λ c. app_of c ≡ shadow_app) }
 {
-    let command = plain(alloc, "logplay");
-    let command = word(alloc, command, "image")?;
-    let command = needed_option(alloc, command, "shadow")?;
-    long_option(alloc, command, "system")
-}
-
-/// The command mkdir.
-pub(crate) fn mkdir<'a>(alloc: Global) -> Result<Command<'a>, OutOfMemory>
-    ensures { IfOk result (λ c. app_of c ≡ mkdir_app) }
-{
-    let command = plain(alloc, "mkdir");
-    let command = word(alloc, command, "image")?;
-    let command = word(alloc, command, "path")?;
-    let command = flag(alloc, command, "parents", 'p')?;
-    let command = owner(alloc, command)?;
-    long_option(alloc, command, "system")
-}
-
-/// The command creat.
-pub(crate) fn creat<'a>(alloc: Global) -> Result<Command<'a>, OutOfMemory>
-    ensures { IfOk result (λ c. app_of c ≡ creat_app) }
-{
-    let command = plain(alloc, "creat");
-    let command = word(alloc, command, "image")?;
-    let command = word(alloc, command, "path")?;
-    let command = option(alloc, command, "size", 's', true)?;
-    let command = option(alloc, command, "seed", 'S', false)?;
-    let command = owner(alloc, command)?;
-    let command = stripe(alloc, command)?;
-    long_option(alloc, command, "system")
-}
-
-/// The command cp.
-pub(crate) fn cp<'a>(alloc: Global) -> Result<Command<'a>, OutOfMemory>
-    ensures { IfOk result (λ c. app_of c ≡ cp_app) }
-{
-    let command = plain(alloc, "cp");
-    let command = word(alloc, command, "image")?;
-    let command = word(alloc, command, "source")?;
-    let command = word(alloc, command, "path")?;
-    let command = owner(alloc, command)?;
-    let command = stripe(alloc, command)?;
-    long_option(alloc, command, "system")
-}
-
-/// The command verify.
-pub(crate) fn verify<'a>(alloc: Global) -> Result<Command<'a>, OutOfMemory>
-    ensures { IfOk result (λ c. app_of c ≡ verify_app) }
-{
-    let command = plain(alloc, "verify");
-    let command = word(alloc, command, "image")?;
-    let command = word(alloc, command, "path")?;
-    let command = option(alloc, command, "seed", 'S', false)?;
-    let command = long_option(alloc, command, "source")?;
-    long_option(alloc, command, "system")
-}
-
-/// The command read.
-pub(crate) fn read<'a>(alloc: Global) -> Result<Command<'a>, OutOfMemory>
-    ensures { IfOk result (λ c. app_of c ≡ read_app) }
-{
-    let command = plain(alloc, "read");
-    let command = word(alloc, command, "image")?;
-    let command = word(alloc, command, "path")?;
-    let command = word(alloc, command, "offset")?;
-    let command = word(alloc, command, "count")?;
-    long_option(alloc, command, "system")
-}
-
-/// The command check.
-pub(crate) fn check<'a>(alloc: Global) -> Result<Command<'a>, OutOfMemory>
-    ensures { IfOk result (λ c. app_of c ≡ check_app) }
-{
-    let command = plain(alloc, "check");
-    let command = word(alloc, command, "image")?;
-    let command = word(alloc, command, "listing")?;
-    long_option(alloc, command, "system")
-}
-
-/// The command fsck.
-pub(crate) fn fsck<'a>(alloc: Global) -> Result<Command<'a>, OutOfMemory>
-    ensures { IfOk result (λ c. app_of c ≡ fsck_app) }
-{
-    let command = plain(alloc, "fsck");
-    let command = word(alloc, command, "image")?;
-    long_option(alloc, command, "system")
-}
-
-/// The command script.
-pub(crate) fn script<'a>(alloc: Global) -> Result<Command<'a>, OutOfMemory>
-    ensures { IfOk result (λ c. app_of c ≡ script_app) }
-{
-    let command = plain(alloc, "script");
-    let command = word(alloc, command, "file")?;
-    word(alloc, command, "image")
+    command(alloc, "logplay", &SHADOW)
 }
 
 /// The command mail.
+#[tactic(auto, unfolding(crate::specs::Arguments::with_argument, crate::specs::Mails::mail_app))]
 pub(crate) fn mail<'a>(alloc: Global) -> Result<Command<'a>, OutOfMemory>
     ensures { IfOk result (λ c. app_of c ≡ mail_app) }
 {
-    let command = plain(alloc, "mail");
-    let command = word(alloc, command, "file")?;
-    let command = word(alloc, command, "image")?;
-    word(alloc, command, "path")
+    command(alloc, "mail", &MAIL)
 }
 
-/// The command storm.
-pub(crate) fn storm<'a>(alloc: Global) -> Result<Command<'a>, OutOfMemory>
-    ensures { IfOk result (λ c. app_of c ≡ storm_app) }
+/// The word that names a command, and its arguments.
+#[tactic(auto, unfolding(crate::specs::Arguments::with_argument, crate::specs::Apps::mkfs_app, crate::specs::Apps::logplay_app, crate::specs::Apps::mkdir_app, crate::specs::Apps::creat_app, crate::specs::Apps::cp_app, crate::specs::Apps::verify_app, crate::specs::Apps::read_app, crate::specs::Apps::check_app, crate::specs::Apps::fsck_app, crate::specs::Apps::script_app, crate::specs::Apps::storm_app))]
+pub(crate) fn words_of<'a>(name: Name) -> (&'a str, &'a [Argument])
+    ensures { fold with_argument (plain_app result.0.now) result.1.now ≡ app_named name }
 {
-    let command = plain(alloc, "storm");
-    let command = word(alloc, command, "seed")?;
-    let command = word(alloc, command, "size")?;
-    let command = word(alloc, command, "image")?;
-    flag(alloc, command, "print", 'p')
+    match name {
+        Name::Mkfs => ("mkfs", &MKFS),
+        Name::Logplay => ("logplay", &LOGPLAY),
+        Name::Mkdir => ("mkdir", &MKDIR),
+        Name::Creat => ("creat", &CREAT),
+        Name::Cp => ("cp", &CP),
+        Name::Verify => ("verify", &VERIFY),
+        Name::Read => ("read", &READ),
+        Name::Check => ("check", &CHECK),
+        Name::Fsck => ("fsck", &FSCK),
+        Name::Script => ("script", &SCRIPT),
+        Name::Storm => ("storm", &STORM),
+    }
 }

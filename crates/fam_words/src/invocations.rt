@@ -1,14 +1,16 @@
 //! Calls: a command's name, and the words that belong to it.
 
-ghost use Rattle.std.specs.Prelude.{◌≡◌, IfOk, IfSome, map, option_map, string_bytes};
+ghost use Rattle.std.specs.Prelude.{◌≡◌, IfOk, IfSome, map, string_bytes};
 ghost use Rattle.clap.specs.Words.{app_of, found_of, rows_of};
 ghost use Rattle.fam_words.specs.Calls as spec;
-ghost use Rattle.fam_words.specs.Calls.{call_behind, call_of, call_with};
+ghost use Rattle.fam_words.specs.Calls.{call_behind, call_of};
+ghost use Rattle.fam_words.specs.Names.{first_named};
 
-use crate::simple::{matches, value};
+use crate::apps::words_of;
+use crate::shots;
+use crate::simple::{command, matches, value};
 use crate::values::uuid_if_given;
 use crate::wanted::{Call, Invocation, Shot};
-use crate::{apps, shots};
 use clap::{ArgMatches, Command};
 use fam_base::{Cmd, NameText, OutOfMemory};
 use fam_journal::Ask;
@@ -30,54 +32,79 @@ pub(crate) enum Name {
     Storm,
 }
 
+/// A command by its name, as words have it.
+#[derive(Clone, Copy)]
+pub(crate) struct Named {
+    text: &'static str,
+    name: Name,
+}
+
+/// The commands' names.
+const NAMES: [Named; 11] = [
+    Named {
+        text: "mkfs",
+        name: Name::Mkfs,
+    },
+    Named {
+        text: "logplay",
+        name: Name::Logplay,
+    },
+    Named {
+        text: "mkdir",
+        name: Name::Mkdir,
+    },
+    Named {
+        text: "creat",
+        name: Name::Creat,
+    },
+    Named {
+        text: "cp",
+        name: Name::Cp,
+    },
+    Named {
+        text: "verify",
+        name: Name::Verify,
+    },
+    Named {
+        text: "read",
+        name: Name::Read,
+    },
+    Named {
+        text: "check",
+        name: Name::Check,
+    },
+    Named {
+        text: "fsck",
+        name: Name::Fsck,
+    },
+    Named {
+        text: "script",
+        name: Name::Script,
+    },
+    Named {
+        text: "storm",
+        name: Name::Storm,
+    },
+];
+
 /// The command of this name.
 #[tactic(auto, unfolding(crate::specs::Calls::name_of))]
 fn name_of(word: &str) -> Option<Name>
     ensures { result ≡ spec.name_of word.now }
 {
-    if word == "mkfs" {
-        Some(Name::Mkfs)
-    } else if word == "logplay" {
-        Some(Name::Logplay)
-    } else if word == "mkdir" {
-        Some(Name::Mkdir)
-    } else if word == "creat" {
-        Some(Name::Creat)
-    } else if word == "cp" {
-        Some(Name::Cp)
-    } else if word == "verify" {
-        Some(Name::Verify)
-    } else if word == "read" {
-        Some(Name::Read)
-    } else if word == "check" {
-        Some(Name::Check)
-    } else if word == "fsck" {
-        Some(Name::Fsck)
-    } else if word == "script" {
-        Some(Name::Script)
-    } else if word == "storm" {
-        Some(Name::Storm)
-    } else {
-        None
-    }
+    named_in(word, &NAMES)
 }
 
-/// An invocation, on the image that the words name.
-fn on_image(
-    alloc: Global,
-    image: Option<&str>,
-    invocation: Option<Invocation>,
-) -> Result<Option<Call>, OutOfMemory>
-    ensures sound { IfSome invocation spec.IsSoundInvocation → IfOk result (λ call. IfSome call (λ c. spec.IsSoundInvocation c.invocation)) }
-    ensures value { IfOk result (λ call. call ≡ call_with (option_map (λ s. s.now) image.entry) invocation) }
+/// The first command of this name among some.
+fn named_in(word: &str, names: &[Named]) -> Option<Name>
+    ensures { result ≡ first_named word.now names.now }
 {
-    match (image, invocation) {
-        (Some(image), Some(invocation)) => Ok(Some(Call {
-            image: NameText::new(alloc, image)?,
-            invocation,
-        })),
-        _ => Ok(None),
+    for named in names {
+        if word == named.text {
+            return Some(named.name);
+        }
     }
+    None
 }
 
 /// A command of its own, on the host that the words name.
@@ -96,19 +123,8 @@ fn on_host(found: &ArgMatches<'_>, shot: Option<Shot>) -> Option<Invocation>
 fn command_of<'a>(alloc: Global, name: Name) -> Result<Command<'a>, OutOfMemory>
     ensures { IfOk result (λ c. app_of c ≡ spec.app_named name) }
 {
-    match name {
-        Name::Mkfs => apps::mkfs(alloc),
-        Name::Logplay => apps::logplay(alloc),
-        Name::Mkdir => apps::mkdir(alloc),
-        Name::Creat => apps::creat(alloc),
-        Name::Cp => apps::cp(alloc),
-        Name::Verify => apps::verify(alloc),
-        Name::Read => apps::read(alloc),
-        Name::Check => apps::check(alloc),
-        Name::Fsck => apps::fsck(alloc),
-        Name::Script => apps::script(alloc),
-        Name::Storm => apps::storm(alloc),
-    }
+    let (word, arguments) = words_of(name);
+    command(alloc, word, arguments)
 }
 
 /// The invocation that the values of a command's words ask for.
@@ -144,8 +160,14 @@ fn behind(alloc: Global, name: Name, words: &[String]) -> Result<Option<Call>, O
     let Some(found) = matches(command, words)? else {
         return Ok(None);
     };
-    let invocation = invocation_in(alloc, name, &found)?;
-    on_image(alloc, value(&found, "image"), invocation)
+    let Some(invocation) = invocation_in(alloc, name, &found)? else {
+        return Ok(None);
+    };
+    let Some(image) = value(&found, "image") else {
+        return Ok(None);
+    };
+    let image = NameText::new(alloc, image)?;
+    Ok(Some(Call { image, invocation }))
 }
 
 /// The command that the words after the program's name are, and `None` exactly where they are none.

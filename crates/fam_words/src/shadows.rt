@@ -1,6 +1,6 @@
 //! Words that ask for the shadow of a tree.
 
-ghost use Rattle.std.specs.Prelude.{◌≡◌, IfOk, map, option_map, string_bytes};
+ghost use Rattle.std.specs.Prelude.{◌≡◌, IfOk, map, string_bytes};
 ghost use Rattle.clap.specs.Words.{found_of, rows_of};
 ghost use Rattle.fam_words.specs.Shadows.{shadow_behind, shadow_call, shadow_in};
 

@@ -1,17 +1,31 @@
 //! Arguments of simple commands, and what words mean to them.
 
-ghost use Rattle.std.specs.Prelude.{◌≡◌, ℕ, List, map, Some, None, true, false, IfOk, option_map, string_bytes};
-ghost use Rattle.clap.specs.Words.{app_of, found_of, rows_of, with_rule, is_simple_and_free};
-ghost use Rattle.fam_words.specs.Simple.{word_rule, option_rule, flag_rule, plain_app, value_in, flag_in, rows_given};
+ghost use Rattle.std.specs.Prelude.{◌≡◌, fold, map, true, false, IfOk, option_map, string_bytes};
+ghost use Rattle.clap.specs.Words.{app_of, found_of, rows_of, rule_of, is_simple_and_free};
+ghost use Rattle.fam_words.specs.Arguments.{rule_for, with_argument};
+ghost use Rattle.fam_words.specs.Simple.{plain_app, value_in, flag_in, rows_given};
 
 use clap::error::ErrorKind;
 use clap::{Arg, ArgAction, ArgMatches, Command};
 use fam_base::OutOfMemory;
 use std::alloc::Global;
 
+/// An argument of a command. Its id is its name.
+#[derive(Clone, Copy)]
+pub(crate) enum Argument {
+    /// A word that must stand.
+    Word(&'static str),
+    /// An option that has a long name alone, and whether it must be given.
+    Long(&'static str, bool),
+    /// An option that has a letter too, and whether it must be given.
+    Short(&'static str, char, bool),
+    /// A flag, by its name and its letter.
+    Flag(&'static str, char),
+}
+
 /// A command without arguments yet, and without help or version words.
 #[tactic(auto, unfolding(crate::specs::Simple::plain_app))]
-pub(crate) fn plain(alloc: Global, name: &str) -> Command<'_>
+fn plain(alloc: Global, name: &str) -> Command<'_>
     ensures { app_of result ≡ plain_app name.entry.now }
 {
     Command::new(alloc, name)
@@ -20,95 +34,58 @@ pub(crate) fn plain(alloc: Global, name: &str) -> Command<'_>
         .disable_version_flag(true)
 }
 
-/// Adds a word that must stand.
-#[tactic(auto, unfolding(crate::specs::Simple::word_rule))]
-pub(crate) fn word<'a>(
+/// An argument, as clap has it.
+#[tactic(auto, unfolding(crate::specs::Simple::word_rule, crate::specs::Simple::option_rule, crate::specs::Simple::flag_rule))]
+fn arg<'a>(alloc: Global, argument: Argument) -> Arg<'a>
+    ensures rule { rule_of result ≡ rule_for argument }
+    ensures alone { result.global ≡ false }
+{
+    match argument {
+        Argument::Word(id) => Arg::new(alloc, id).required(true).action(ArgAction::Set),
+        Argument::Long(id, needed) => Arg::new(alloc, id)
+            .long(id)
+            .required(needed)
+            .action(ArgAction::Set),
+        Argument::Short(id, letter, needed) => Arg::new(alloc, id)
+            .long(id)
+            .short(letter)
+            .required(needed)
+            .action(ArgAction::Set),
+        Argument::Flag(id, letter) => Arg::new(alloc, id)
+            .long(id)
+            .short(letter)
+            .action(ArgAction::SetTrue),
+    }
+}
+
+/// Adds an argument.
+#[tactic(auto, unfolding(crate::specs::Arguments::with_argument))]
+fn add<'a>(
     alloc: Global,
     command: Command<'a>,
-    id: &'a str,
+    argument: Argument,
 ) -> Result<Command<'a>, OutOfMemory>
-    ensures { IfOk result (λ c. app_of c ≡ with_rule (app_of command.entry) (word_rule id.entry.now)) }
+    ensures { IfOk result (λ c. app_of c ≡ with_argument (app_of command.entry) argument) }
 {
-    match command.arg(Arg::new(alloc, id).required(true).action(ArgAction::Set)) {
+    match command.arg(arg(alloc, argument)) {
         Ok(command) => Ok(command),
         Err(_) => Err(OutOfMemory),
     }
 }
 
-/// Adds an option that has a letter.
-#[tactic(auto, unfolding(crate::specs::Simple::option_rule))]
-pub(crate) fn option<'a>(
+/// The command with these arguments, in their order.
+pub(crate) fn command<'a>(
     alloc: Global,
-    command: Command<'a>,
-    id: &'a str,
-    letter: char,
-    required: bool,
+    name: &'a str,
+    arguments: &[Argument],
 ) -> Result<Command<'a>, OutOfMemory>
-    ensures { IfOk result (λ c. app_of c ≡ with_rule (app_of command.entry) (option_rule id.entry.now (Some letter) required)) }
+    ensures { IfOk result (λ c. app_of c ≡ fold with_argument (plain_app name.entry.now) arguments.now) }
 {
-    let arg = Arg::new(alloc, id)
-        .long(id)
-        .short(letter)
-        .required(required)
-        .action(ArgAction::Set);
-    match command.arg(arg) {
-        Ok(command) => Ok(command),
-        Err(_) => Err(OutOfMemory),
+    let mut command = plain(alloc, name);
+    for argument in arguments {
+        command = add(alloc, command, *argument)?;
     }
-}
-
-/// Adds an option that has a long name alone.
-#[tactic(auto, unfolding(crate::specs::Simple::option_rule))]
-pub(crate) fn long_option<'a>(
-    alloc: Global,
-    command: Command<'a>,
-    id: &'a str,
-) -> Result<Command<'a>, OutOfMemory>
-    ensures { IfOk result (λ c. app_of c ≡ with_rule (app_of command.entry) (option_rule id.entry.now None false)) }
-{
-    match command.arg(Arg::new(alloc, id).long(id).action(ArgAction::Set)) {
-        Ok(command) => Ok(command),
-        Err(_) => Err(OutOfMemory),
-    }
-}
-
-/// Adds an option that has a long name alone and must be given.
-#[tactic(auto, unfolding(crate::specs::Simple::option_rule))]
-pub(crate) fn needed_option<'a>(
-    alloc: Global,
-    command: Command<'a>,
-    id: &'a str,
-) -> Result<Command<'a>, OutOfMemory>
-    ensures { IfOk result (λ c. app_of c ≡ with_rule (app_of command.entry) (option_rule id.entry.now None true)) }
-{
-    let arg = Arg::new(alloc, id)
-        .long(id)
-        .required(true)
-        .action(ArgAction::Set);
-    match command.arg(arg) {
-        Ok(command) => Ok(command),
-        Err(_) => Err(OutOfMemory),
-    }
-}
-
-/// Adds a flag.
-#[tactic(auto, unfolding(crate::specs::Simple::flag_rule))]
-pub(crate) fn flag<'a>(
-    alloc: Global,
-    command: Command<'a>,
-    id: &'a str,
-    letter: char,
-) -> Result<Command<'a>, OutOfMemory>
-    ensures { IfOk result (λ c. app_of c ≡ with_rule (app_of command.entry) (flag_rule id.entry.now letter)) }
-{
-    let arg = Arg::new(alloc, id)
-        .long(id)
-        .short(letter)
-        .action(ArgAction::SetTrue);
-    match command.arg(arg) {
-        Ok(command) => Ok(command),
-        Err(_) => Err(OutOfMemory),
-    }
+    Ok(command)
 }
 
 /// The matches of a simple command, and nothing where its words are at fault.
