@@ -1,11 +1,12 @@
 //! The files of the system as a shelf. This is a trusted edge: what a real file holds, no clause tells.
 //!
-//! Regular files and block devices are sources. What comes through the standard input is one too where it is asked for
-//! as `/dev/stdin`: it is read whole when its size is asked for. Whatever else a name stands for, be it a named pipe, a
-//! terminal or a socket, has no size that can be known beforehand, and is a fault.
+//! Regular files and block devices are sources. What comes through the standard input is one too where it is a pipe or a
+//! socket and is asked for as `/dev/stdin`: it is read whole when its size is asked for. Whatever else a name stands for, be
+//! it a named pipe, a terminal or a closed standard input, has no size that can be known beforehand, and is a fault.
 
 ghost use Rattle.std.specs.Prelude.{◌≡◌, ◌≤◌, IfSome, None, length};
 
+use crate::open_file::open_to_read;
 use fam_base::NameText;
 use fam_media::{Failed, Shelf};
 use std::fs;
@@ -49,6 +50,11 @@ fn is_absent(kind: ErrorKind) -> bool {
     )
 }
 
+/// Whether bytes come through it until its other end is closed.
+fn is_stream(kind: fs::FileType) -> bool {
+    kind.is_fifo() || kind.is_socket()
+}
+
 /// Copies bytes from a place on, as many as there are and fit, and says how many.
 fn copied(bytes: &[u8], offset: u64, piece: &mut [u8]) -> usize
     ensures within { result ≤ length piece.old }
@@ -86,14 +92,14 @@ impl<'a> FileShelf<'a> {
     {
         self.open = None;
         let name = NameText::new(self.rt.alloc(), name).ok()?;
-        let file = File::open(self.rt, name.text()).ok()?;
+        let file = open_to_read(self.rt, name.text())?;
         self.open = Some((name, Source::File(file)));
         Some(())
     }
 
     /// Where a block device ends, in bytes.
     fn end_of(&self, name: &str) -> Option<u64> {
-        let mut file = File::open(self.rt, name).ok()?;
+        let mut file = open_to_read(self.rt, name)?;
         file.seek(SeekFrom::End(0)).ok()
     }
 
@@ -136,7 +142,7 @@ impl<'a> FileShelf<'a> {
             Some(metadata.len())
         } else if metadata.file_type().is_block_device() {
             self.end_of(name)
-        } else if name == INPUT {
+        } else if name == INPUT && is_stream(metadata.file_type()) {
             self.size_of_input()
         } else {
             None

@@ -2,9 +2,11 @@
 //! to it.
 #![tactic(auto)]
 
+mod description;
 mod file_media;
 mod file_shelf;
 mod folder_shade;
+mod open_file;
 mod std_sink;
 
 use fam_base::{NameText, OutOfMemory};
@@ -13,8 +15,9 @@ use fam_top::{dup_of, famfs, famfs_dup, famfs_mail, famfs_shadow, image_of, mail
 use file_media::FileMedia;
 use file_shelf::FileShelf;
 use folder_shade::FolderShade;
+use open_file::{open_to_read, open_to_write};
 use std::env;
-use std::fs::{File, OpenOptions};
+use std::fs::File;
 use std::io::ErrorKind;
 use std::os::unix::fs::FileExt;
 use std::process::ExitCode;
@@ -56,13 +59,15 @@ fn null(rt: &HostRuntime) -> Option<File> {
     File::open(rt, "/dev/null").ok()
 }
 
-/// Opens an image for reading and writing. One that may not be written counts as none.
-fn opened(rt: &HostRuntime, name: &str) -> Option<File> {
-    OpenOptions::new()
-        .read(true)
-        .write(true)
-        .open(rt, name)
-        .ok()
+/// Whether the words name a command that never writes its image, which therefore is opened for reading alone.
+fn only_reads(words: &Vec<String>) -> bool {
+    match words.first() {
+        Some(command) => matches!(
+            command.as_str(),
+            "logplay" | "verify" | "read" | "check" | "fsck"
+        ),
+        None => false,
+    }
 }
 
 /// Sixteen random bytes, or zeros where the system gives none.
@@ -78,9 +83,9 @@ fn random(rt: &HostRuntime) -> [u8; 16] {
 
 /// Writes the shadow of the image's tree into a folder.
 fn run_shadow(rt: &HostRuntime, words: &Vec<String>, image: NameText, folder: NameText) -> Status {
-    let file = opened(rt, image.text());
+    let file = open_to_read(rt, image.text());
+    let mut shade = FolderShade::new(rt, folder, file.as_ref());
     let mut media = FileMedia::new(rt.alloc(), file);
-    let mut shade = FolderShade::new(rt, folder);
     let mut out = StdSink::new(rt.stdout());
     let me = Uuid::from_bytes(SYSTEM);
     famfs_shadow(rt.alloc(), words, me, &mut media, &mut shade, &mut out)
@@ -88,8 +93,8 @@ fn run_shadow(rt: &HostRuntime, words: &Vec<String>, image: NameText, folder: Na
 
 /// Copies the file system on one image onto another one. The first is opened for reading alone.
 fn run_dup(rt: &HostRuntime, words: &Vec<String>, from: NameText, to: NameText) -> Status {
-    let source = File::open(rt, from.text()).ok();
-    let target = opened(rt, to.text());
+    let source = open_to_read(rt, from.text());
+    let target = open_to_write(rt, to.text());
     let mut from = FileMedia::new(rt.alloc(), source);
     let mut to = FileMedia::new(rt.alloc(), target);
     let mut out = StdSink::new(rt.stdout());
@@ -107,7 +112,7 @@ fn run_dup(rt: &HostRuntime, words: &Vec<String>, from: NameText, to: NameText) 
 
 /// Runs a script over the mailbox that a file of the image holds.
 fn run_mail(rt: &HostRuntime, words: &Vec<String>, image: NameText) -> Status {
-    let file = opened(rt, image.text());
+    let file = open_to_write(rt, image.text());
     let mut media = FileMedia::new(rt.alloc(), file);
     let mut shelf = FileShelf::new(rt);
     let mut out = StdSink::new(rt.stdout());
@@ -130,7 +135,8 @@ fn run(rt: &HostRuntime, words: &Vec<String>) -> Result<Status, OutOfMemory> {
         return Ok(run_mail(rt, words, image));
     }
     let file = match image_of(rt.alloc(), words)? {
-        Some(name) => opened(rt, name.text()),
+        Some(name) if only_reads(words) => open_to_read(rt, name.text()),
+        Some(name) => open_to_write(rt, name.text()),
         None => None,
     };
     let mut media = FileMedia::new(rt.alloc(), file);

@@ -1,4 +1,4 @@
-use Rattle.std.proofs.Common.{◌≡◌, ◌≤◌, length}
+use Rattle.std.proofs.Common.{◌≤◌, length}
 use Rattle.famfs.proofs.file_media.write_bytes.Given as goal
 
 -- so many bytes were written
