@@ -1,6 +1,5 @@
 //! Each test stands for calls that no command comes to.
 
-mod copies;
 mod free_runs;
 mod large;
 mod random;

@@ -1,9 +1,16 @@
 //! Bytes that are put together.
 
-ghost use Rattle.std.specs.Prelude.{◌≡◌, ◌++◌, IfOk, OnOk};
+ghost use Rattle.std.specs.Prelude.{◌≡◌, ◌++◌, ◌<◌, IfOk, IfSome, OnOk, length};
 
 use crate::stop::Stop;
 use std::alloc::Global;
+
+/// Where a byte stands first.
+pub fn place_of(bytes: &[u8], byte: u8) -> Option<usize>
+    ensures { IfSome result (λ at. at < length bytes.now) }
+{
+    bytes.iter().position(|each| *each == byte)
+}
 
 /// Puts bytes behind others.
 pub fn put(into: &mut Vec<u8>, bytes: &[u8]) -> Result<(), Stop>

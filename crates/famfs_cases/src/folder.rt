@@ -5,11 +5,21 @@ use crate::stop::Stop;
 use fam_shadow::MemShade;
 use std::alloc::Global;
 
-/// A file that stands in the folder at first.
+/// A file by its name.
 #[derive(Drop)]
-struct StoredFile {
-    name: String,
-    bytes: Vec<u8>,
+pub struct File {
+    pub name: String,
+    pub bytes: Vec<u8>,
+}
+
+impl File {
+    /// The same file again.
+    pub fn copy(&self, alloc: Global) -> Result<File, Stop> {
+        Ok(File {
+            name: copied_text(alloc, self.name.as_str())?,
+            bytes: copied(alloc, self.bytes.as_slice())?,
+        })
+    }
 }
 
 /// A call of the folder that is to fail, counted from its first, and how many bytes a put then keeps.
@@ -23,7 +33,7 @@ struct Failure {
 #[derive(Drop)]
 pub struct Folder {
     pub shade: MemShade,
-    held: Vec<StoredFile>,
+    held: Vec<File>,
     failures: Vec<Failure>,
 }
 
@@ -41,9 +51,7 @@ impl Folder {
     pub fn renewed(&self, alloc: Global) -> Result<Folder, Stop> {
         let mut folder = Folder::new(alloc);
         for file in self.held.iter() {
-            let name = copied_text(alloc, file.name.as_str())?;
-            let bytes = copied(alloc, file.bytes.as_slice())?;
-            folder.hold(name, bytes)?;
+            folder.hold(file.copy(alloc)?)?;
         }
         for failure in self.failures.iter() {
             folder.fail(failure.call, failure.kept)?;
@@ -51,10 +59,10 @@ impl Folder {
         Ok(folder)
     }
 
-    /// The name is a file of these bytes.
-    pub fn hold(&mut self, name: String, bytes: Vec<u8>) -> Result<(), Stop> {
-        self.shade.add(name.as_str(), bytes.as_slice())?;
-        push(&mut self.held, StoredFile { name, bytes })
+    /// The file stands in the folder.
+    pub fn hold(&mut self, file: File) -> Result<(), Stop> {
+        self.shade.add(file.name.as_str(), file.bytes.as_slice())?;
+        push(&mut self.held, file)
     }
 
     /// The call of this number, from 0, will fail, and where it is a put keep at most so many bytes.

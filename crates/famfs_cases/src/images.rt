@@ -21,20 +21,11 @@ const LINE_LIMIT: u64 = 1_048_577;
 /// One more than the number of the last slot of any log.
 const SLOT_LIMIT: u64 = 131_072;
 
-/// An image of zeros.
-fn image(alloc: Global, state: &mut State, words: &mut Words<'_>) -> Result<(), Stop> {
+/// An image of zeros, of so many lines as the words say.
+fn blank(alloc: Global, words: &mut Words<'_>) -> Result<MemMedia, Stop> {
     let lines = words.below(LINE_LIMIT)?;
     words.ended()?;
-    state.media = MemMedia::new(alloc, lines)?;
-    Ok(())
-}
-
-/// The other image, of zeros: a copy is made on it.
-fn other(alloc: Global, state: &mut State, words: &mut Words<'_>) -> Result<(), Stop> {
-    let lines = words.below(LINE_LIMIT)?;
-    words.ended()?;
-    state.other = MemMedia::new(alloc, lines)?;
-    Ok(())
+    Ok(MemMedia::new(alloc, lines)?)
 }
 
 /// The image and the other one change places.
@@ -46,21 +37,12 @@ fn swap(state: &mut State, words: &mut Words<'_>) -> Result<(), Stop> {
 
 /// One number as each word.
 fn fill(state: &mut State, words: &mut Words<'_>) -> Result<(), Stop> {
-    let value = words.number()?;
-    words.ended()?;
+    let value = words.last_number()?;
     for at in 0..state.media.lines() {
         if !put_line(&mut state.media, at, &[value; 8]) {
             return Err(words.refused());
         }
     }
-    Ok(())
-}
-
-/// Only the first lines.
-fn shorten(alloc: Global, state: &mut State, words: &mut Words<'_>) -> Result<(), Stop> {
-    let lines = words.number()?;
-    words.ended()?;
-    state.media = first_lines(alloc, &state.media, lines)?;
     Ok(())
 }
 
@@ -211,11 +193,11 @@ pub fn change_image(
     words: &mut Words<'_>,
 ) -> Result<bool, Stop> {
     match name {
-        b"image" => image(alloc, state, words)?,
-        b"other" => other(alloc, state, words)?,
+        b"image" => state.media = blank(alloc, words)?,
+        b"other" => state.other = blank(alloc, words)?,
         b"swap" => swap(state, words)?,
         b"fill" => fill(state, words)?,
-        b"shorten" => shorten(alloc, state, words)?,
+        b"shorten" => state.media = first_lines(alloc, &state.media, words.last_number()?)?,
         b"word" => word(state, words)?,
         b"byte" => byte(state, words)?,
         b"entry" => entry(alloc, state, words)?,

@@ -8,7 +8,7 @@ use crate::show::put_words;
 use crate::state::State;
 use crate::stop::Stop;
 use crate::words::Words;
-use fam_base::{Content, HostName, Line, Path, escape, strip_units, units_of};
+use fam_base::{Content, HostName, Line, Path, strip_units, units_of};
 use fam_content::ContentStream;
 use fam_crc::crc_more;
 use fam_entry::spell;
@@ -45,11 +45,11 @@ fn path(alloc: Global, words: &mut Words<'_>, into: &mut Vec<u8>) -> Result<(), 
     let Ok(path) = Path::read(bytes.as_slice()) else {
         return put(into, b"bad path\n");
     };
-    escape(path.bytes(), into)?;
+    put(into, path.escaped(alloc)?.as_slice())?;
     match path.parent() {
         Some(parent) => {
             put(into, b" in ")?;
-            escape(parent.bytes(), into)?;
+            put(into, parent.escaped(alloc)?.as_slice())?;
         }
         None => put(into, b" in the root")?,
     }

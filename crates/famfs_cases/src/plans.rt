@@ -9,22 +9,6 @@ use std::alloc::Global;
 /// The most room of a sink: 64 MiB.
 const MOST_ROOM: u64 = 67_108_864;
 
-/// The UUID of the host that runs what follows.
-fn host(state: &mut State, words: &mut Words<'_>) -> Result<(), Stop> {
-    let uuid = words.uuid()?;
-    words.ended()?;
-    state.host = uuid;
-    Ok(())
-}
-
-/// The random bytes of what follows.
-fn random(state: &mut State, words: &mut Words<'_>) -> Result<(), Stop> {
-    let uuid = words.uuid()?;
-    words.ended()?;
-    state.random = uuid.into_bytes();
-    Ok(())
-}
-
 /// The room of the sinks that follow.
 fn room(state: &mut State, words: &mut Words<'_>) -> Result<(), Stop> {
     let room = words.below(MOST_ROOM + 1)?;
@@ -40,21 +24,6 @@ fn short(alloc: Global, state: &mut State, words: &mut Words<'_>) -> Result<(), 
     let at = words.number()?;
     words.ended()?;
     state.cut_file(name, at)
-}
-
-/// A line that fails from now on.
-fn poison(state: &mut State, words: &mut Words<'_>) -> Result<(), Stop> {
-    let line = words.number()?;
-    words.ended()?;
-    state.poison(LineNo(line))
-}
-
-/// A line that fails no more.
-fn heal(state: &mut State, words: &mut Words<'_>) -> Result<(), Stop> {
-    let line = words.number()?;
-    words.ended()?;
-    state.heal(LineNo(line));
-    Ok(())
 }
 
 /// A call that is to fail.
@@ -92,13 +61,13 @@ pub fn plan(
     words: &mut Words<'_>,
 ) -> Result<bool, Stop> {
     match name {
-        b"host" => host(state, words)?,
-        b"random" => random(state, words)?,
+        b"host" => state.host = words.last_uuid()?,
+        b"random" => state.random = words.last_uuid()?.into_bytes(),
         b"room" => room(state, words)?,
         b"short" => short(alloc, state, words)?,
         b"fail" => fail(state, words)?,
-        b"poison" => poison(state, words)?,
-        b"heal" => heal(state, words)?,
+        b"poison" => state.poison(LineNo(words.last_number()?))?,
+        b"heal" => state.heal(LineNo(words.last_number()?)),
         _ => return Ok(false),
     }
     Ok(true)

@@ -32,14 +32,22 @@ enum Source {
     Lines,
 }
 
+/// Where a loop's values are, if a word says so.
+fn source_of(word: &[u8]) -> Option<Source> {
+    match word {
+        b"in" => Some(Source::Words),
+        b"from" => Some(Source::Numbers),
+        _ => None,
+    }
+}
+
 /// The names up to the word that says where the values are.
 fn names(alloc: Global, words: &mut Words<'_>, names: &mut Vec<Vec<u8>>) -> Result<Source, Stop> {
     while let Some(word) = words.next() {
-        match word.text {
-            b"in" => return Ok(Source::Words),
-            b"from" => return Ok(Source::Numbers),
-            name => push(names, copied(alloc, name)?)?,
+        if let Some(source) = source_of(word.text) {
+            return Ok(source);
         }
+        push(names, copied(alloc, word.text)?)?;
     }
     Ok(Source::Lines)
 }

@@ -2,8 +2,9 @@
 
 ghost use Rattle.std.specs.Prelude.{◌≤◌, ◌<◌, IfOk, length, vec_len};
 
-use crate::bytes::{copied, put, put_number};
+use crate::bytes::{copied, place_of, put, put_number};
 use crate::calls::{Outcome, call};
+use crate::folder::File;
 use crate::images::change_image;
 use crate::leaves::{crc_of, leaf};
 use crate::lines::{SourceLine, end_of_loop};
@@ -31,6 +32,14 @@ pub struct Runner {
     /// How many expectations of the outermost loop were met.
     met: u64,
     transcript: Vec<u8>,
+}
+
+/// Whether a text has one line feed.
+fn is_line(text: &[u8]) -> bool {
+    match place_of(text, b'\n') {
+        Some(at) => place_of(&text[at + 1..], b'\n').is_none(),
+        None => false,
+    }
 }
 
 /// Nothing was put, and nothing refused.
@@ -124,21 +133,20 @@ impl Runner {
             return Ok(());
         }
         put(&mut self.transcript, statement)?;
-        let feeds = self.last.text.iter().filter(|byte| **byte == b'\n').count();
-        put(
-            &mut self.transcript,
-            if feeds == 1 { b" = " } else { b" =\n" },
-        )?;
+        let sign = if is_line(self.last.text.as_slice()) {
+            b" = ".as_slice()
+        } else {
+            b" =\n".as_slice()
+        };
+        put(&mut self.transcript, sign)?;
         self.put_text()
     }
 
     /// The last text becomes a file of the shelf.
     fn keep(&mut self, words: &mut Words<'_>) -> Result<(), Stop> {
-        let word = words.expected()?;
-        let name = words.text(self.alloc, word)?;
-        words.ended()?;
+        let name = words.last_text(self.alloc)?;
         let bytes = copied(self.alloc, self.last.text.as_slice())?;
-        self.state.add_file(name, bytes)
+        self.state.add_file(File { name, bytes })
     }
 
     /// Remembers the image.
@@ -212,27 +220,25 @@ impl Runner {
         }
     }
 
-    /// The name of a file whose text lines are in front, its bytes, and how many the lines are.
-    fn named_file(
+    /// The file whose text lines are in front, and how many they are.
+    fn file_in_front(
         &mut self,
         words: &mut Words<'_>,
         behind: &[SourceLine<'_>],
-    ) -> Result<(String, Vec<u8>, usize), Stop>
-        ensures { IfOk result (λ file. file.2 ≤ length behind.now) }
+    ) -> Result<(File, usize), Stop>
+        ensures { IfOk result (λ file. file.1 ≤ length behind.now) }
     {
-        let word = words.expected()?;
-        let name = words.text(self.alloc, word)?;
-        words.ended()?;
+        let name = words.last_text(self.alloc)?;
         let (bytes, count) = text_in_front(self.alloc, &self.values, behind)?;
-        Ok((name, bytes, count))
+        Ok((File { name, bytes }, count))
     }
 
     /// A file of the shelf, and how many lines it has.
     fn add_file(&mut self, words: &mut Words<'_>, behind: &[SourceLine<'_>]) -> Result<usize, Stop>
         ensures { IfOk result (λ count. count ≤ length behind.now) }
     {
-        let (name, bytes, count) = self.named_file(words, behind)?;
-        self.state.add_file(name, bytes)?;
+        let (file, count) = self.file_in_front(words, behind)?;
+        self.state.add_file(file)?;
         Ok(count)
     }
 
@@ -240,16 +246,14 @@ impl Runner {
     fn add_held(&mut self, words: &mut Words<'_>, behind: &[SourceLine<'_>]) -> Result<usize, Stop>
         ensures { IfOk result (λ count. count ≤ length behind.now) }
     {
-        let (name, bytes, count) = self.named_file(words, behind)?;
-        self.state.folder.hold(name, bytes)?;
+        let (file, count) = self.file_in_front(words, behind)?;
+        self.state.folder.hold(file)?;
         Ok(count)
     }
 
     /// The bytes of a file of the folder.
     fn at(&mut self, words: &mut Words<'_>, statement: &[u8]) -> Result<(), Stop> {
-        let word = words.expected()?;
-        let name = words.text(self.alloc, word)?;
-        words.ended()?;
+        let name = words.last_text(self.alloc)?;
         let text = match self.state.folder.shade.at(name.as_str()) {
             Some(bytes) => copied(self.alloc, bytes)?,
             None => copied(self.alloc, b"none\n")?,

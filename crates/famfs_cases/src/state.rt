@@ -1,7 +1,7 @@
 //! What a case has at hand: an image and another one, files of the shelf, a folder, and the calls that are to fail.
 
-use crate::bytes::{copied, copied_text, push};
-use crate::folder::Folder;
+use crate::bytes::{copied_text, push};
+use crate::folder::{File, Folder};
 use crate::stop::Stop;
 use fam_base::{Line, LineNo, Mask};
 use fam_media::{Frail, Media, MemMedia, MemShelf, MemSink};
@@ -14,13 +14,6 @@ const HOST: [u8; 16] = [0, 0, 0, 0, 0, 0, 0, 0, 0, 0, 0, 0, 0, 0, 0, 1];
 
 /// The bytes that a sink has room for where a case says nothing of it.
 const ROOM: u64 = 1_048_576;
-
-/// A file of the shelf.
-#[derive(Drop)]
-struct File {
-    name: String,
-    bytes: Vec<u8>,
-}
 
 /// A file of which reads give no byte at `at` or past it.
 #[derive(Drop)]
@@ -108,9 +101,7 @@ fn plan_calls(media: &mut MemMedia, failures: &mut Vec<MediaFailure>) -> Result<
 fn copied_files(alloc: Global, files: &Vec<File>) -> Result<Vec<File>, Stop> {
     let mut copies = Vec::new(alloc);
     for file in files.iter() {
-        let name = copied_text(alloc, file.name.as_str())?;
-        let bytes = copied(alloc, file.bytes.as_slice())?;
-        push(&mut copies, File { name, bytes })?;
+        push(&mut copies, file.copy(alloc)?)?;
     }
     Ok(copies)
 }
@@ -163,9 +154,9 @@ impl State {
         })
     }
 
-    /// The name has these bytes from now on.
-    pub fn add_file(&mut self, name: String, bytes: Vec<u8>) -> Result<(), Stop> {
-        push(&mut self.files, File { name, bytes })
+    /// The shelf has this file from now on.
+    pub fn add_file(&mut self, file: File) -> Result<(), Stop> {
+        push(&mut self.files, file)
     }
 
     /// Reads of that name give no byte at `at` or past it from now on.

@@ -2,7 +2,7 @@
 
 ghost use Rattle.std.specs.Prelude.{◌≤◌, length};
 
-use crate::bytes::{copied, push, put};
+use crate::bytes::{copied, place_of, push, put};
 use crate::stop::Stop;
 use std::alloc::Global;
 
@@ -91,7 +91,7 @@ impl Values {
     pub fn put_into(&self, alloc: Global, text: &[u8]) -> Result<Vec<u8>, Stop> {
         let mut made = Vec::new(alloc);
         let mut rest = text;
-        while let Some(at) = rest.iter().position(|byte| *byte == b'$') {
+        while let Some(at) = place_of(rest, b'$') {
             put(&mut made, &rest[..at])?;
             let behind = &rest[at + 1..];
             let (name, more) = behind.split_at(name_length(behind));

@@ -2,7 +2,7 @@
 
 ghost use Rattle.std.specs.Prelude.{◌≡◌, ◌<◌, ◌≤◌, IfOk, IfSome, OnSome, drop, length};
 
-use crate::bytes::push;
+use crate::bytes::{place_of, push};
 use crate::stop::Stop;
 use fam_grammar::number as decimal;
 use std::alloc::Global;
@@ -70,7 +70,7 @@ pub fn number_of(word: &[u8]) -> Option<u64> {
 fn word_length(bytes: &[u8]) -> usize
     ensures { result ≤ length bytes.now }
 {
-    match bytes.iter().position(|byte| *byte == b' ') {
+    match place_of(bytes, b' ') {
         Some(at) => at,
         None => bytes.len(),
     }
@@ -173,6 +173,21 @@ impl<'a> Words<'a> {
         self.fitting(word, number_of(word.text))
     }
 
+    /// A number, behind which nothing is left.
+    pub fn last_number(&mut self) -> Result<u64, Stop> {
+        let number = self.number()?;
+        self.ended()?;
+        Ok(number)
+    }
+
+    /// A UUID, behind which nothing is left.
+    pub fn last_uuid(&mut self) -> Result<Uuid, Stop> {
+        let word = self.expected()?;
+        let uuid = self.fitting(word, Uuid::try_parse_ascii(word.text).ok())?;
+        self.ended()?;
+        Ok(uuid)
+    }
+
     /// A number below a limit.
     pub fn below(&mut self, limit: u64) -> Result<u64, Stop>
         ensures { IfOk result (λ number. number < limit) }
@@ -187,12 +202,6 @@ impl<'a> Words<'a> {
     /// A number of eight bits.
     pub fn byte(&mut self) -> Result<u8, Stop> {
         Ok(self.below(256)? as u8)
-    }
-
-    /// A UUID.
-    pub fn uuid(&mut self) -> Result<Uuid, Stop> {
-        let word = self.expected()?;
-        self.fitting(word, Uuid::try_parse_ascii(word.text).ok())
     }
 
     /// The bytes that a word spells: itself, but for `\xHH`, which is a byte, `\\`, which is a backslash, and `\e`, which
@@ -236,6 +245,14 @@ impl<'a> Words<'a> {
             Ok(text) => Ok(text),
             Err(_) => Err(self.bad(word.column)),
         }
+    }
+
+    /// The text of the next word, behind which nothing is left.
+    pub fn last_text(&mut self, alloc: Global) -> Result<String, Stop> {
+        let word = self.expected()?;
+        let text = self.text(alloc, word)?;
+        self.ended()?;
+        Ok(text)
     }
 
     /// The words that are left, each with the bytes that it spells.

@@ -1,90 +1,115 @@
 //! Free runs of a map of 1,024 units, of which the first 528 are superblock and log.
 
-ghost use Rattle.std.specs.Prelude.{◌≡◌, ◌*◌, ◌-◌, ◌≤◌, [], ◌∷◌, length};
-ghost use Rattle.fam_alloc.specs.declared.bits.TheConstants.{MOST_UNITS};
+ghost use Rattle.std.specs.Prelude.{◌≡◌, [], ◌∷◌, length};
 
-use super::large::one;
-use fam_alloc::{AllocMap, TakeFault};
+use fam_alloc::AllocMap;
 use fam_base::{Extent, Extents};
 use std::test::Fail;
 
 /// Bytes of a unit.
 const UNIT: u64 = 4096;
 
-/// Units from `first` on and below `end`.
-fn run(first: u64, end: u64) -> Extent
-    requires order { first ≤ end }
-    requires few { end ≤ MOST_UNITS }
-    ensures start { result.offset ≡ first * 4096 }
-    ensures length { result.length ≡ (end - first) * 4096 }
-{
-    Extent {
-        offset: first * UNIT,
-        length: (end - first) * UNIT,
-    }
+/// The units of the map.
+const UNITS: u64 = 1024;
+
+/// Units that are taken at once, and what is free then.
+struct Step {
+    /// The first unit that is taken.
+    first: u64,
+    /// The unit behind the last one.
+    end: u64,
+    /// How many free runs there are then.
+    runs: u64,
+    /// A unit at which a free run may begin, and its length where one does.
+    start: u64,
+    length: Option<u64>,
+    /// How many units are looked for, and where they are found.
+    count: u64,
+    found: Option<u64>,
 }
 
-/// Takes units from `first` on and below `end`.
-fn take_run(map: &mut AllocMap, first: u64, end: u64) -> Result<(), TakeFault>
-    requires order { first ≤ end }
-    requires within { end ≤ length map.old }
-    requires few { end ≤ MOST_UNITS }
-    ensures { length map.new ≡ length map.old }
-{
-    map.take(&one(run(first, end)), UNIT)
-}
+const STEPS: [Step; 5] = [
+    Step {
+        first: 600,
+        end: 600,
+        runs: 1,
+        start: 528,
+        length: Some(496),
+        count: 496,
+        found: Some(528),
+    },
+    Step {
+        first: 776,
+        end: 777,
+        runs: 2,
+        start: 528,
+        length: Some(248),
+        count: 249,
+        found: None,
+    },
+    Step {
+        first: 777,
+        end: 778,
+        runs: 2,
+        start: 778,
+        length: Some(246),
+        count: 248,
+        found: Some(528),
+    },
+    Step {
+        first: 528,
+        end: 776,
+        runs: 1,
+        start: 528,
+        length: None,
+        count: 246,
+        found: Some(778),
+    },
+    Step {
+        first: 778,
+        end: 1_024,
+        runs: 0,
+        start: 778,
+        length: None,
+        count: 1,
+        found: None,
+    },
+];
 
-/// Three extents.
-fn three(first: Extent, second: Extent, third: Extent) -> Extents
-    ensures { result ≡ first ∷ second ∷ third ∷ [] }
+/// One extent.
+fn one(extent: Extent) -> Extents
+    ensures { result ≡ extent ∷ [] }
 {
-    let mut extents = one(first);
-    extents.push(second);
-    extents.push(third);
+    let mut extents = Extents::new();
+    extents.push(extent);
     extents
 }
 
-#[test]
-fn a_unit_that_is_taken_parts_its_run(rt: HostRuntime) -> Result<(), Fail> {
-    let mut map = AllocMap::new(rt.alloc(), 1_024, 528)?;
-    assert_eq!(rt; map.runs(), 1);
-    assert_eq!(rt; map.free_runs().get(&528).copied(), Some(496));
-    assert!(rt; take_run(&mut map, 776, 777).is_ok());
-    assert_eq!(rt; map.runs(), 2);
-    assert_eq!(rt; map.free_runs().get(&528).copied(), Some(248));
-    assert_eq!(rt; map.free_runs().get(&777).copied(), Some(247));
-    assert_eq!(rt; map.find(249), None);
-    let copy = map.copy(rt.alloc())?;
-    assert!(rt; take_run(&mut map, 528, 776).is_ok());
-    assert_eq!(rt; map.runs(), 1);
-    assert_eq!(rt; copy.runs(), 2);
-    assert_eq!(rt; copy.find(248), Some(528));
-    Ok(())
+/// Takes the units of a step, and tells whether what is free then is what the step says.
+fn is_so(map: &mut AllocMap, step: &Step) -> bool
+    requires { length map.old ≡ 1024 }
+    ensures { length map.new ≡ 1024 }
+{
+    if step.first > step.end || step.end > UNITS || step.count == 0 {
+        return false;
+    }
+    let run = Extent {
+        offset: step.first * UNIT,
+        length: (step.end - step.first) * UNIT,
+    };
+    let is_taken = map.take(&one(run), UNIT).is_ok();
+    let length = map.free_runs().get(&step.start).copied();
+    is_taken
+        && map.runs() == step.runs
+        && length == step.length
+        && map.find(step.count) == step.found
 }
 
 #[test]
-fn a_run_that_is_taken_whole_is_gone(rt: HostRuntime) -> Result<(), Fail> {
-    let mut map = AllocMap::new(rt.alloc(), 1_024, 528)?;
-    assert!(rt; take_run(&mut map, 600, 600).is_ok());
-    assert_eq!(rt; map.runs(), 1);
-    assert!(rt; take_run(&mut map, 528, 1_024).is_ok());
-    assert_eq!(rt; map.runs(), 0);
-    assert_eq!(rt; map.find(1), None);
-    Ok(())
-}
-
-#[test]
-fn a_refusal_leaves_each_run_as_it_was(rt: HostRuntime) -> Result<(), Fail> {
-    let mut map = AllocMap::new(rt.alloc(), 1_024, 528)?;
-    let twice = three(run(528, 530), run(540, 550), run(545, 546));
-    let taken = map.take(&twice, UNIT);
-    assert_eq!(rt; taken, Err(TakeFault::Overlap(545)));
-    assert_eq!(rt; map.runs(), 1);
-    assert_eq!(rt; map.free_runs().get(&528).copied(), Some(496));
-    let apart = three(run(528, 530), run(540, 545), run(545, 546));
-    assert!(rt; map.take(&apart, UNIT).is_ok());
-    assert_eq!(rt; map.runs(), 2);
-    assert_eq!(rt; map.free_runs().get(&530).copied(), Some(10));
-    assert_eq!(rt; map.free_runs().get(&546).copied(), Some(478));
+fn runs_are_parted_and_go(rt: HostRuntime) -> Result<(), Fail> {
+    let mut map = AllocMap::new(rt.alloc(), UNITS, 528)?;
+    for step in &STEPS {
+        assert!(rt; is_so(&mut map, step));
+    }
     Ok(())
 }

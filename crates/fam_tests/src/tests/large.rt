@@ -10,7 +10,9 @@ use fam_alloc::{AllocMap, UsedUnits};
 use fam_base::{Attr, BadPath, Cmd, Content, Entry, Extent, Extents, Kind, MapKind, Params, Path};
 use fam_format::FIRST_FORMAT;
 use fam_plan::Plan;
+use fam_tasks::Kept;
 use fam_tree::{ApplyFault, Tree};
+use std::alloc::Global;
 use std::test::Fail;
 use uuid::Uuid;
 
@@ -45,40 +47,49 @@ fn add_letter(tree: &mut Tree, first: u8) -> Result<(), Fail> {
     Ok(())
 }
 
-#[test]
-fn more_entries_than_a_run_holds_are_added_and_a_copy_stays(rt: HostRuntime) -> Result<(), Fail> {
-    let mut tree = Tree::new(rt.alloc());
+/// A tree of the 676 directories whose paths have two letters.
+fn lettered_tree(alloc: Global) -> Result<Tree, Fail> {
+    let mut tree = Tree::new(alloc);
     for i in 0..26u8 {
         add_letter(&mut tree, i * 7 % 26)?;
     }
-    assert_eq!(rt; tree.len(), 676);
-    let last = lettered(25, 25)?;
-    assert_eq!(rt; tree.apply(&last), Err(ApplyFault::Exists(Kind::Directory)));
+    Ok(tree)
+}
+
+/// Whether the tree refuses a directory that it has.
+fn refuses(tree: &mut Tree, entry: &Entry) -> bool {
+    matches!(tree.apply(entry), Err(ApplyFault::Exists(Kind::Directory)))
+}
+
+/// Whether a tree has an entry more than its copy, which lacks the one of this path.
+fn has_one_more(tree: &Tree, copy: &Tree, path: &Path) -> bool {
+    tree.len() == 677 && copy.len() == 676 && copy.get(path).is_none()
+}
+
+#[test]
+fn more_entries_than_a_run_holds_are_added_and_a_copy_stays(rt: HostRuntime) -> Result<(), Fail> {
+    let mut tree = lettered_tree(rt.alloc())?;
+    assert!(rt; refuses(&mut tree, &lettered(25, 25)?));
     let copy = tree.copy(rt.alloc())?;
-    let late = Entry {
-        path: Path::read(b"late")?,
-        ..last
-    };
+    let mut late = lettered(25, 25)?;
+    assert!(rt; copy.get(&late.path).is_some());
+    late.path = Path::read(b"late")?;
     tree.apply(&late)?;
-    assert_eq!(rt; tree.len(), 677);
-    assert_eq!(rt; copy.len(), 676);
-    assert!(rt; copy.get(&late.path).is_none());
-    assert!(rt; copy.get(&last.path).is_some());
+    assert!(rt; has_one_more(&tree, &copy, &late.path));
     Ok(())
 }
 
 #[test]
 fn the_largest_device_has_a_map(rt: HostRuntime) -> Result<(), Fail> {
     let map = AllocMap::new(rt.alloc(), LARGEST, 268_434_432)?;
-    assert_eq!(rt; map.find(1024), Some(268_434_432));
-    assert_eq!(rt; map.find(1025), None);
+    assert!(rt; map.find(1024) == Some(268_434_432) && map.find(1025) == None);
     let empty = AllocMap::new(rt.alloc(), LARGEST, 0)?;
-    assert_eq!(rt; empty.find(LARGEST), Some(0));
+    assert!(rt; empty.find(LARGEST) == Some(0));
     Ok(())
 }
 
 /// One extent.
-pub(super) fn one(extent: Extent) -> Extents
+fn one(extent: Extent) -> Extents
     ensures { result ≡ extent ∷ [] }
 {
     let mut extents = Extents::new();
@@ -107,7 +118,7 @@ fn units_that_are_used_are_skipped(rt: HostRuntime) -> Result<(), Fail> {
     for i in 0..20_000 {
         cover_run(&mut map, 20_528 - i, 268_415_000 + i);
     }
-    assert_eq!(rt; map.count(), 268_434_998);
+    assert!(rt; map.count() == 268_434_998);
     Ok(())
 }
 
@@ -164,19 +175,33 @@ fn run(plan: &mut Plan, cmd: &Cmd) -> Result<Entry, Fail>
     Ok(entry)
 }
 
-#[test]
-fn the_first_entries_of_a_long_log_are_a_plan(rt: HostRuntime) -> Result<(), Fail> {
-    let mut plan = Plan::new(rt.alloc(), &long_log())?;
+/// A plan of 1,100 files.
+fn long_plan(alloc: Global) -> Result<Plan, Fail> {
+    let mut plan = Plan::new(alloc, &long_log())?;
     for number in 0..1_100 {
         run(&mut plan, &creat(&letters(number), 4_097)?)?;
     }
-    assert_eq!(rt; plan.count(), 1_100);
+    Ok(plan)
+}
+
+#[test]
+fn the_first_entries_of_a_long_log_are_a_plan(rt: HostRuntime) -> Result<(), Fail> {
+    let plan = long_plan(rt.alloc())?;
+    assert!(rt; plan.count() == 1_100);
     let mut first = plan.first(rt.alloc(), 3)?;
-    assert_eq!(rt; first.count(), 3);
+    assert!(rt; first.count() == 3);
     let next = run(&mut first, &creat(&letters(500), 1)?)?;
     assert!(rt;
         first.at(3) == Some(next),
         "it stands behind the first three"
     );
+    Ok(())
+}
+
+#[test]
+fn what_a_host_keeps_is_copied(rt: HostRuntime) -> Result<(), Fail> {
+    let kept = Kept::of(Plan::new(rt.alloc(), &long_log())?);
+    let copy = kept.copy(rt.alloc())?;
+    assert!(rt; copy.count() == kept.count());
     Ok(())
 }
