@@ -1,6 +1,6 @@
 //! The map of used units.
 
-ghost use Rattle.std.specs.Prelude.{◌≡◌, ℕ, None, true, false, not, ◌+◌, ◌<◌, ◌≤◌, ◌&&◌, ◌||◌, length, nat_lt, IfOk, OnOk, IfErr, OnErr};
+ghost use Rattle.std.specs.Prelude.{◌≡◌, ℕ, None, ◌+◌, ◌<◌, ◌≤◌, ◌&&◌, ◌||◌, length, nat_lt, IfOk, OnOk, IfErr, OnErr};
 ghost use Rattle.fam_format.specs.Units.{units_in, first_overlap};
 ghost use Rattle.fam_rules.specs.Room.{room, strips};
 ghost use Rattle.fam_alloc.specs.FreeRuns.{free_runs};

@@ -3,7 +3,7 @@
 //! A torn write leaves each word of a line old or new, by a mask. With no bit it changes nothing, and with
 //! all bits it is the write. A told image has eight words in each line, and writes keep that.
 
-ghost use Rattle.std.specs.Prelude.{◌≡◌, ◌≢◌, ◌<◌, ℕ, List, Some, length, map};
+ghost use Rattle.std.specs.Prelude.{◌≡◌, ◌≢◌, ◌<◌, ℕ, List, Some, length};
 ghost use Rattle.fam_base.specs.Image.{Image, IsNormal, eight, line_at, masked, with_line, with_masked};
 
 /// A written line is read back, and every other line reads as before.

@@ -16,7 +16,7 @@ use Rattle.fam_machine.proofs.CacheLemmas.{greater, less, same_key, other_key, w
 use Rattle.fam_machine.proofs.DirtyLemmas.{Lines, count_first, count_lines}
 use Rattle.fam_cache.specs.declared.blocks.Block.{Block}
 use Rattle.fam_cache.specs.declared.blocks.Mark.{Mark}
-use Rattle.fam_cache.specs.declared.blocks.Mark.TheVariants.{Empty, Fresh, Stored, Asked}
+use Rattle.fam_cache.specs.declared.blocks.Mark.TheVariants.{Empty}
 use Rattle.fam_cache.specs.Blocks.{HasNone, IsWhole, block_at, cache_of, cell_in, is_dirty_by, marked, no_block, number_at, with_lines}
 use Rattle.fam_cache.proofs.BlockLemmas.{cell_none, lines_other}
 
@@ -74,9 +74,7 @@ dirty_empty = ap count_lines (none_of _ (sym (len-entries finite.empty) ∙ len-
 
 dirty_marked : (mark : Mark) (words : List ℕ) → is_dirty (marked mark words) ≡ is_dirty_by mark
 dirty_marked Empty words = refl
-dirty_marked Fresh words = refl
-dirty_marked Stored words = refl
-dirty_marked Asked words = refl
+dirty_marked other words = refl
 
 count_append : (m : Mark) (ms : List Mark) → count_by is_dirty_by (ms ++ m ∷ []) ≡ cond (is_dirty_by m) 1 0 + count_by is_dirty_by ms
 count_append m [] = sum_by-cons {X = Mark} (λ x. cond (is_dirty_by x) 1 0) m []

@@ -110,12 +110,8 @@ others_left Digest modelled old new is one other differs = ap (λ (cache : Cache
 -- An operation at one line, or at none.
 
 pub sends_one : (op : Op) (lines : ℕ) (cache : Cache) → IsOneLine op → SendsWithin op lines cache
-sends_one (Load line k) lines cache one = tt
-sends_one (Store line k value) lines cache one = tt
-sends_one (WriteBack line) lines cache one = tt
 sends_one Fence lines cache one = absurd one
-sends_one (Invalidate line) lines cache one = tt
-sends_one Digest lines cache one = tt
+sends_one other lines cache one = tt
 
 -- A line that is cleaned is held as before.
 
@@ -138,9 +134,5 @@ same_held old new is l held = subst (λ (cache : Cache). IsHeld (cell_at cache l
 
 -- where the media failed, no line is held that wasn't so before
 pub left_held : (op : Op) (old new : Cache) → LeavesFailed op old new → (l : ℕ) → IsHeld (cell_at new l) → IsHeld (cell_at old l)
-left_held (Load line k) old new left = same_held old new left
-left_held (Store line k value) old new left = same_held old new left
-left_held (WriteBack line) old new left = same_held old new left
 left_held Fence old new left = λ l held. cleaned_held (take left.count (asked_lines old)) old l (subst (λ (cache : Cache). IsHeld (cell_at cache l)) left.is held)
-left_held (Invalidate line) old new left = same_held old new left
-left_held Digest old new left = same_held old new left
+left_held other old new left = same_held old new left

@@ -11,7 +11,7 @@ use Rattle.fam_machine.specs.declared.op.Op.{Op}
 use Rattle.fam_machine.specs.declared.op.Op.TheVariants.{Load, Store, WriteBack, Fence, Invalidate, Digest}
 use Rattle.fam_machine.specs.Caches.{Cache, cell_at, cell_changed, dirty_count, with_cell}
 use Rattle.fam_machine.specs.Cuts.{HasFailed, IsMachine}
-use Rattle.fam_machine.specs.OneLine.{IsDirty, IsHeld, asked_for, brought, current, failed_send, sent, stored, words_of}
+use Rattle.fam_machine.specs.OneLine.{IsDirty, asked_for, brought, current, failed_send, sent, stored, words_of}
 use Rattle.fam_machine.specs.Operations.{Failure, Machine, failed, given, machine, not_brought, not_sent, operated, torn_at}
 use Rattle.fam_machine.proofs.CacheLemmas.{cell_at-empty, cell_at-with_cell_other, cell_at-with_cell_same}
 use Rattle.fam_machine.proofs.DirtyLemmas.{none_dirty}
@@ -63,11 +63,6 @@ shed_asked real shown (inr lacks) = inr (ap asked_for lacks.0, undirty_asked sho
 pub shed_undirty : (real shown : Cell) → IsShedCopy real shown → ¬ (IsDirty real) → ¬ (IsDirty shown)
 shed_undirty real shown (inl same) clean = subst (λ (c : Cell). ¬ (IsDirty c)) same clean
 shed_undirty real shown (inr lacks) clean = lacks.1
-
--- what the one holds the other holds
-pub shed_held : (real shown : Cell) → IsShedCopy real shown → IsHeld real → IsHeld shown
-shed_held real shown (inl same) held = subst IsHeld same held
-shed_held real shown (inr lacks) held = absurd (let none : IsHeld Absent = subst IsHeld lacks.0 held in cc)
 
 -- One line of both is changed.
 

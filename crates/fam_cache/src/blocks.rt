@@ -5,7 +5,7 @@
 //! numbers: a new area moves those behind it, once for 1,024 lines. What an area says of a block that isn't there
 //! is any place, and the number of the block that stands in that place tells.
 
-ghost use Rattle.std.specs.Prelude.{◌≡◌, ◌==◌, ◌≢◌, ℕ, ◌+◌, ◌*◌, ◌/◌, ◌%◌, ◌-◌, ◌<◌, ◌≤◌, IsTrue, ◌↔◌, IfSome, None, OnOk, OnErr, List, length, count_by, slice_index, slice_index_or, slice_set, vec_len, vec_capacity, true, false};
+ghost use Rattle.std.specs.Prelude.{◌≡◌, ◌==◌, ◌≢◌, ℕ, ◌+◌, ◌*◌, ◌/◌, ◌%◌, ◌-◌, ◌<◌, ◌≤◌, IsTrue, ◌↔◌, IfSome, None, OnOk, OnErr, List, length, count_by, slice_index, slice_set, vec_len, vec_capacity, true, false};
 ghost use Rattle.std.specs.Ordering.{nat_cmp};
 ghost use Rattle.std.specs.FinMap as map;
 ghost use Rattle.std.specs.FinMap.{is_sorted};
@@ -13,7 +13,7 @@ ghost use Rattle.fam_base.specs.Image.{eight};
 ghost use Rattle.fam_machine.specs.Caches.{cell_at, dirty_count, with_cell};
 ghost use Rattle.fam_machine.specs.OneLine.{IsAsked, IsHeld, asked_for, cleaned, is_asked, is_dirty, is_held, words_of};
 ghost use Rattle.fam_machine.specs.declared.cell.Cell.{Cell};
-ghost use Rattle.fam_cache.specs.Blocks.{Before, HasNone, IsBlockOf, IsKept, IsSpot, IsWhole, area_at, cache_of, cell_in, is_gap, lines_of, marked, normal, number_at, words_there, HasRoom, is_dirty_by, IsEnlisted, IsFirstAsked, NoneAsked};
+ghost use Rattle.fam_cache.specs.Blocks.{Before, HasNone, IsBlockOf, IsKept, IsSpot, area_at, cell_in, is_gap, lines_of, marked, normal, number_at, words_there, HasRoom, is_dirty_by, IsEnlisted, IsFirstAsked, NoneAsked};
 ghost use Rattle.fam_cache.specs.Operations.{rest_stored};
 
 mod asked;

@@ -1,11 +1,11 @@
 //! A line that is dropped and brought anew, where memory lacks no word of it: one look-up of its place and one write there.
 //! Of a long log nearly all operations are such.
 
-ghost use Rattle.std.specs.Prelude.{◌≡◌, ◌+◌, ◌/◌, ◌<◌, ◌≤◌, IfOk, IfSome, OnErr, OnOk, IsErrOf, None};
+ghost use Rattle.std.specs.Prelude.{◌≡◌, ◌+◌, ◌/◌, ◌<◌, ◌≤◌, IfOk, IfSome, OnErr, IsErrOf, None};
 ghost use Rattle.fam_base.specs.Image.{eight, line_at};
 ghost use Rattle.fam_machine.specs.declared.cell.Cell.{Cell};
 ghost use Rattle.fam_machine.specs.Caches.{cell_at, with_cell};
-ghost use Rattle.fam_machine.specs.OneLine.{IsDirty, IsHeld};
+ghost use Rattle.fam_machine.specs.OneLine.{IsDirty};
 ghost use Rattle.fam_media.specs.Causes.{HasCause, IsSteady, Rose};
 ghost use Rattle.fam_media.specs.Outside.{IfModelled};
 ghost use Rattle.fam_cache.specs.Blocks.{HasNone, IsBlockOf, IsKept, lines_of};

@@ -27,7 +27,7 @@ use Rattle.fam_commands.specs.Kept.{AllJoin, IsKept, Kept, is_same_params, used,
 use Rattle.fam_commands.specs.Stands.{StandsFor, note_of, turn_given, with_given}
 use Rattle.fam_commands.specs.Table.{entries_read, fed, fed_super, params_or}
 use Rattle.fam_commands.specs.Task.{Task, no_params, op_at, op_of, used_in}
-use Rattle.fam_commands.specs.Turns.{Turn, Goes, Marks, Finds, Writes, Ends}
+use Rattle.fam_commands.specs.Turns.{Turn, Ends}
 use Rattle.fam_commands.proofs.Counted.Files.{told_are}
 use Rattle.fam_commands.proofs.Rows.Slots.{ReadsLog, below_gate, read_of}
 use Rattle.fam_commands.proofs.Steps.Standing.{standing_tied}
@@ -160,10 +160,6 @@ module _ (kept : Option Kept) (cmd : Cmd) (me : List ℕ) (lines : ℕ) (t : Tas
     now = with_given words (given_by (op_of t) word)
 
     told_by : (turn : Turn) → Tells t t.phase turn → kept_behind (note_of turn) (read_told kept cmd now lines) before ≡ kept_after turn t before
-    told_by (Goes next) tells = refl
-    told_by (Marks next) tells = refl
-    told_by (Finds n next) tells = refl
-    told_by (Writes seq e next) tells = refl
     told_by (Ends reply) tells = by_reply reply tells
       where
         by_reply : (r : Reply) → ReplyTells t t.phase r → kept_by r (read_told kept cmd now lines) before ≡ kept_by r (read_by t) before
@@ -174,15 +170,12 @@ module _ (kept : Option Kept) (cmd : Cmd) (me : List ℕ) (lines : ℕ) (t : Tas
             ap (λ (w : List ℕ). kept_by (Mounted m) (read_told kept cmd w lines) before) (decide_words word lists.phase)
             ∙ ap (λ (k : Kept). kept_by (Mounted m) k before) (decided_told lists.phase (replay_reads t.cmd lists.class))
         by_reply other tells' = refl
+    told_by other tells = refl
 
     pub kept_told : kept_behind (note_of (turn_given t word)) (read_told kept cmd (with_given words (given_by (op_of t) word)) lines) before ≡ kept_after (turn_given t word) t before
     kept_told = told_by (turn_given t word) (turn_tells t.phase t (unwrap_or (given_by (op_of t) word) 0))
 
     joins_by : (turn : Turn) → Tells t t.phase turn → IsKept before → IsKept (kept_after turn t before)
-    joins_by (Goes next) tells is = is
-    joins_by (Marks next) tells is = is
-    joins_by (Finds n next) tells is = is
-    joins_by (Writes seq e next) tells is = is
     joins_by (Ends reply) tells is = by_reply reply before tells is
       where
         by_reply : (r : Reply) (b : Option Kept) → ReplyTells t t.phase r → IsKept b → IsKept (kept_by r (read_by t) b)
@@ -190,6 +183,7 @@ module _ (kept : Option Kept) (cmd : Cmd) (me : List ℕ) (lines : ℕ) (t : Tas
         by_reply (Played m tree) (Some k) lists is' = decided_joins lists.phase (replay_reads t.cmd lists.class)
         by_reply (Mounted m) b lists is' = decided_joins lists.phase (replay_reads t.cmd lists.class)
         by_reply other b tells' is' = is'
+    joins_by other tells is = is
 
     pub kept_joins : IsKept before → IsKept (kept_after (turn_given t word) t before)
     kept_joins is = joins_by (turn_given t word) (turn_tells t.phase t (unwrap_or (given_by (op_of t) word) 0)) is

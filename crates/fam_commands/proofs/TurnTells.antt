@@ -167,34 +167,22 @@ part_tells p t File j = file_tells p t t.cmd j
 
 -- of the task with a word more
 as_before : (p : Phase) (t : Task) (word : ℕ) (turn : Turn) → Tells (with_word t word) p turn → Tells t p turn
-as_before p t word (Goes next) tells = tells
-as_before p t word (Marks next) tells = tells
-as_before p t word (Finds n next) tells = tells
-as_before p t word (Writes seq e next) tells = tells
 as_before p t word (Ends reply) tells = by_reply reply tells
   where
     by_reply : (r : Reply) → ReplyTells (with_word t word) p r → ReplyTells t p r
     by_reply (Played m tree) h = record { phase = h.phase; class = h.class; count = h.count }
     by_reply (Mounted m) h = record { phase = h.phase; class = h.class; count = h.count }
     by_reply other h = tt
+as_before p t word other tells = tells
 
 word_tells : (p : Phase) (t : Task) (part : Part) (j k word : ℕ) → Tells t p (word_turn (with_word t word) part j k)
 word_tells p t part j k word = either p t (nat_lt k 7) _ _ refl (as_before p t word _ (part_tells p (with_word t word) part j))
 
 pub turn_tells : (p : Phase) (t : Task) (word : ℕ) → Tells t p (turn_at p t word)
-turn_tells at.DropMagic t word = refl
 turn_tells at.Magic t word = magic_tells at.Magic t (magic_fault word)
-turn_tells (at.Drop part j) t word = refl
 turn_tells (at.Word part j k) t word = word_tells (at.Word part j k) t part j k word
-turn_tells at.DropGate t word = refl
 turn_tells at.Gate t word = gate_tells at.Gate t word (gate_fault word t.params)
 turn_tells (at.Check i) t word = check_tells (at.Check i) t t.cmd i
 turn_tells at.Decide t word = decide_tells at.Decide t refl t.cmd refl
-turn_tells (at.StoreData j k) t word = refl
-turn_tells (at.SendData j) t word = refl
-turn_tells (at.StoreSlot j k) t word = refl
-turn_tells (at.SendSlot j) t word = refl
-turn_tells at.FenceSlot t word = refl
-turn_tells at.StoreGate t word = refl
-turn_tells at.SendGate t word = refl
 turn_tells at.FenceGate t word = tt
+turn_tells other t word = refl

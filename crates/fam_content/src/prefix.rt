@@ -1,6 +1,6 @@
 //! The front of a line.
 
-ghost use Rattle.std.specs.Prelude.{◌≡◌, ◌<◌, ℕ, nat_lt, if◌then◌else◌, slice_index};
+ghost use Rattle.std.specs.Prelude.{◌≡◌, ◌<◌, ℕ, nat_lt, if◌then◌else◌};
 ghost use Rattle.fam_base.specs.Image.{byte_of};
 ghost use Rattle.fam_rules.specs.Content.{byte_in};
 

@@ -8,7 +8,7 @@ use Rattle.fam_base.specs.declared.entry.Entry.{Entry}
 use Rattle.fam_format.specs.Reading.{Lines}
 use Rattle.fam_format.specs.Super.{magic_line}
 use Rattle.std.specs.Prelude.{length}
-use Rattle.fam_dup.specs.Lines.{AreCut, ArePut, PutsEnd, copy_puts, files_puts, head_puts, slots_puts}
+use Rattle.fam_dup.specs.Lines.{AreCutAt, ArePut, PutsEnd, copy_puts, files_puts, head_puts, slots_puts}
 use Rattle.fam_dup.specs.Passes.{ArePassed}
 use Rattle.fam_dup.proofs.Passing.{pass_all, pass_cut, pass_part, put_none}
 
@@ -37,23 +37,23 @@ module _ (all a b c d e : List Put) (parts : all ≡ a ++ (b ++ (c ++ (d ++ e)))
   behind_4 first second third fourth = pass_part all d e t0 t3 t4 (behind_3 first second third) fourth
 
   -- the first one was cut, or another one
-  pub cut_1 : AreCut a t0 t1 → AreCut all t0 t1
+  pub cut_1 : {At : Put → Type 0} → AreCutAt At a t0 t1 → AreCutAt At all t0 t1
   cut_1 cut = pass_cut all a (b ++ (c ++ (d ++ e))) t0 t0 t1 start cut
 
-  pub cut_2 : ArePut a t0 t1 → AreCut b t1 t2 → AreCut all t0 t2
+  pub cut_2 : {At : Put → Type 0} → ArePut a t0 t1 → AreCutAt At b t1 t2 → AreCutAt At all t0 t2
   cut_2 first cut = pass_cut all b (c ++ (d ++ e)) t0 t1 t2 (behind_1 first) cut
 
-  pub cut_3 : ArePut a t0 t1 → ArePut b t1 t2 → AreCut c t2 t3 → AreCut all t0 t3
+  pub cut_3 : {At : Put → Type 0} → ArePut a t0 t1 → ArePut b t1 t2 → AreCutAt At c t2 t3 → AreCutAt At all t0 t3
   cut_3 first second cut = pass_cut all c (d ++ e) t0 t2 t3 (behind_2 first second) cut
 
-  pub cut_4 : ArePut a t0 t1 → ArePut b t1 t2 → ArePut c t2 t3 → AreCut d t3 t4 → AreCut all t0 t4
+  pub cut_4 : {At : Put → Type 0} → ArePut a t0 t1 → ArePut b t1 t2 → ArePut c t2 t3 → AreCutAt At d t3 t4 → AreCutAt At all t0 t4
   cut_4 first second third cut = pass_cut all d e t0 t3 t4 (behind_3 first second third) cut
 
   -- the last one ends as it does
-  pub ends_5 : {T E : Type 0} (result : Result T E) → ArePut a t0 t1 → ArePut b t1 t2 → ArePut c t2 t3 → ArePut d t3 t4 → PutsEnd e t4 t5 result → PutsEnd all t0 t5 result
-  ends_5 (Ok u) first second third fourth put =
+  pub ends_5 : {T E : Type 0} (At : E → Put → Type 0) (result : Result T E) → ArePut a t0 t1 → ArePut b t1 t2 → ArePut c t2 t3 → ArePut d t3 t4 → PutsEnd At e t4 t5 result → PutsEnd At all t0 t5 result
+  ends_5 At (Ok u) first second third fourth put =
       let last : ArePassed all (e ++ []) t0 t4 = subst (λ (l : List Put). ArePassed all l t0 t4) (sym (append-nil e)) (behind_4 first second third fourth) in
       pass_all all t0 t5 (pass_part all e [] t0 t4 t5 last put)
-  ends_5 (Err fault) first second third fourth cut =
+  ends_5 At (Err fault) first second third fourth cut =
       let last : ArePassed all (e ++ []) t0 t4 = subst (λ (l : List Put). ArePassed all l t0 t4) (sym (append-nil e)) (behind_4 first second third fourth) in
       pass_cut all e [] t0 t4 t5 last cut

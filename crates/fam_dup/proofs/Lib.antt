@@ -5,10 +5,8 @@ pub mod PutPlaces
 pub mod Parts
 pub mod Rows
 pub mod RunPuts
-pub mod Slots
 pub mod Failing
 pub mod Copying
-pub mod Sources
 pub mod Heads
 pub mod ReadParts
 pub mod Whole
@@ -16,3 +14,4 @@ pub mod Chains
 pub mod Cutting
 pub mod Finding
 pub mod Naming
+pub mod Asking

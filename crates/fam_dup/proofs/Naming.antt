@@ -1,9 +1,16 @@
 -- The line that a fault names, where one image or none was asked.
-use Rattle.std.proofs.Common.{◌≡◌, ℕ, arith}
+use Rattle.std.proofs.Common.{◌≡◌, ℕ, ◌+◌, ◌<◌, List, ap, refl, arith}
+use Rattle.fam_base.specs.declared.entry.Entry.{Entry}
+use Rattle.fam_format.specs.Reading.{Reading}
+use Rattle.fam_replay.specs.Sources.{FailsAt, IsCounted, IsReadCaused, Tells}
+use Rattle.fam_replay.specs.declared.fault.ReadFault.{ReadFault}
+use Rattle.fam_replay.specs.declared.fault.ReadFault.TheVariants as read
+use Rattle.fam_rules.specs.Written.{file_line}
 use Rattle.fam_dup.specs.declared.fault.DupFault.{DupFault}
 use Rattle.fam_dup.specs.declared.fault.DupFault.TheVariants as fault
-use Rattle.fam_dup.specs.Ends.{IsOwn, NamesLine}
-use Rattle.fam_dup.specs.Findings.{WantsMemory, class_of}
+use Rattle.fam_dup.specs.Ends.{FailsFromAt, IsCausedByFrom, IsFileStep, IsOwn, NamesLine, from_counted, of_read}
+use Rattle.fam_dup.specs.Findings.{FailsFrom, Finding, Names, WantsMemory, class_of, from_or}
+use Rattle.fam_dup.specs.Runs.{AreBelow}
 
 -- FROM alone was asked
 pub from_names : (from to : ℕ) (f : DupFault) → NamesLine from 0 f → NamesLine from to f
@@ -60,3 +67,76 @@ memory_names from to (fault.Stopped seq refusal) names = tt
 memory_names from to (fault.FromFault line) names = absurd (cc)
 memory_names from to (fault.ToFault line) names = absurd (cc)
 memory_names from to fault.OutOfMemory names = tt
+
+-- The line at which a media failed is one of more.
+
+pub from_among : (P Q : ℕ → Type 0) → ((at : ℕ) → P at → Q at) → (f : DupFault) → FailsFromAt P f → FailsFromAt Q f
+from_among P Q more (fault.ImageSmall lines) fails = tt
+from_among P Q more (fault.NoSuper word) fails = tt
+from_among P Q more (fault.BadSuper field found wanted) fails = tt
+from_among P Q more (fault.BadLog field found wanted) fails = tt
+from_among P Q more (fault.BadEntry seq reason) fails = tt
+from_among P Q more (fault.TooSmall needed have) fails = tt
+from_among P Q more (fault.HasSuper fs) fails = tt
+from_among P Q more (fault.Stopped seq refusal) fails = tt
+from_among P Q more (fault.FromFault line) fails = more line.0 fails
+from_among P Q more (fault.ToFault line) fails = tt
+from_among P Q more fault.OutOfMemory fails = tt
+
+pub read_among : (P Q : ℕ → Type 0) → ((at : ℕ) → P at → Q at) → (f : ReadFault) → FailsAt P f → FailsFromAt Q (of_read f)
+read_among P Q more (read.NoSuper word) fails = tt
+read_among P Q more (read.BadSuper field found wanted) fails = tt
+read_among P Q more (read.BadLog field found wanted) fails = tt
+read_among P Q more (read.BadEntry seq reason) fails = tt
+read_among P Q more (read.MediaFault line) fails = more line.0 fails
+read_among P Q more read.OutOfMemory fails = tt
+
+-- Of an entry's file, where lines are read from one on, and nothing of them was put.
+
+pub file_step : (e c : Entry) (words : List ℕ) (j n : ℕ) → AreBelow e j n → (f : DupFault) → class_of f ≡ FailsFrom
+    → FailsFromAt (λ at. (ahead : ℕ) × (ahead < n) × (at ≡ file_line e (j + ahead))) f → IsFileStep e c f (file_line c j, words)
+file_step e c words j n below (fault.ImageSmall lines) is fails = absurd (cc)
+file_step e c words j n below (fault.NoSuper word) is fails = absurd (cc)
+file_step e c words j n below (fault.BadSuper field found wanted) is fails = absurd (cc)
+file_step e c words j n below (fault.BadLog field found wanted) is fails = absurd (cc)
+file_step e c words j n below (fault.BadEntry seq reason) is fails = absurd (cc)
+file_step e c words j n below (fault.TooSmall needed have) is fails = absurd (cc)
+file_step e c words j n below (fault.HasSuper fs) is fails = absurd (cc)
+file_step e c words j n below (fault.Stopped seq refusal) is fails = absurd (cc)
+file_step e c words j n below (fault.FromFault line) is fails = record { next = j; ahead = fails.0; puts = refl; reads = fails.2; within = below fails.0 fails.1 }
+file_step e c words j n below (fault.ToFault line) is fails = absurd (cc)
+file_step e c words j n below fault.OutOfMemory is fails = absurd (cc)
+
+-- A fault of FROM's log.
+
+pub read_names : (f : ReadFault) (r : Reading) (rest : List Entry → Finding) → Tells f r → Names (class_of (of_read f)) (from_or r rest)
+read_names (read.NoSuper word) r rest tells = ap (λ (q : Reading). from_or q rest) tells
+read_names (read.BadSuper field found wanted) r rest tells = ap (λ (q : Reading). from_or q rest) tells
+read_names (read.BadLog field found wanted) r rest tells = ap (λ (q : Reading). from_or q rest) tells
+read_names (read.BadEntry seq reason) r rest tells = ap (λ (q : Reading). from_or q rest) tells
+read_names (read.MediaFault line) r rest tells = tt
+read_names read.OutOfMemory r rest tells = tt
+
+pub read_caused : (before now : ℕ) (f : ReadFault) → IsReadCaused before now f → IsCausedByFrom before now (class_of (of_read f))
+read_caused before now (read.NoSuper word) cause = tt
+read_caused before now (read.BadSuper field found wanted) cause = tt
+read_caused before now (read.BadLog field found wanted) cause = tt
+read_caused before now (read.BadEntry seq reason) cause = tt
+read_caused before now (read.MediaFault line) cause = cause
+read_caused before now read.OutOfMemory cause = tt
+
+pub read_counts : (before now : ℕ) (f : ReadFault) → IsCounted before now f → now ≡ from_counted (class_of (of_read f)) before
+read_counts before now (read.NoSuper word) count = count
+read_counts before now (read.BadSuper field found wanted) count = count
+read_counts before now (read.BadLog field found wanted) count = count
+read_counts before now (read.BadEntry seq reason) count = count
+read_counts before now (read.MediaFault line) count = count
+read_counts before now read.OutOfMemory count = count
+
+pub read_within : (lines : ℕ) (f : ReadFault) → FailsAt (λ at. at < lines) f → NamesLine lines 0 (of_read f)
+read_within lines (read.NoSuper word) within = tt
+read_within lines (read.BadSuper field found wanted) within = tt
+read_within lines (read.BadLog field found wanted) within = tt
+read_within lines (read.BadEntry seq reason) within = tt
+read_within lines (read.MediaFault line) within = within
+read_within lines read.OutOfMemory within = tt

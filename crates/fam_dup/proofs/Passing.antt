@@ -1,12 +1,12 @@
 -- The parts of a pass of writes, one behind another.
-use Rattle.std.proofs.Common.{◌≡◌, List, [], ◌∷◌, ◌++◌, Option, Some, None, refl, sym, ap, subst, ◌∙◌, inl, inr, append_assoc}
+use Rattle.std.proofs.Common.{Result, Ok, Err, List, [], ◌∷◌, ◌++◌, Option, Some, None, refl, sym, ap, subst, ◌∙◌, inr, append_assoc}
 use Rattle.std.specs.Option.{option_map}
 use Rattle.std.proofs.lemmas.List.{append-nil}
 use Rattle.fam_base.specs.Image.{Image}
 use Rattle.fam_media.specs.Outside.{IsTorn}
 use Rattle.fam_rules.specs.Written.{Put, put_lines}
 use Rattle.fam_rules.proofs.Puts.{put_lines-append}
-use Rattle.fam_dup.specs.Lines.{AreCut, ArePut, IsPartlyPut}
+use Rattle.fam_dup.specs.Lines.{AreCutAt, ArePut, IsPartlyPut, PutsEnd}
 use Rattle.fam_dup.specs.Passes.{ArePassed}
 
 -- without any an image is as before
@@ -23,13 +23,20 @@ put_both a b (Some image) mid new first second =
 -- One line.
 
 -- some of its words were put
-pub cut_torn : (put : Put) (old new : Option Image) → IsTorn old new put.0 put.1 → AreCut (put ∷ []) old new
-cut_torn put old new torn =
-    record { done = []; put = put; rest = []; parts = refl; cut = inr (subst (λ (o : Option Image). IsTorn o new put.0 put.1) (put_none old) torn) }
+pub cut_torn : {At : Put → Type 0} (put : Put) (old new : Option Image) → At put → IsTorn old new put.0 put.1 → AreCutAt At (put ∷ []) old new
+cut_torn put old new at torn = record {
+  cut = record { done = []; put = put; rest = []; parts = refl; cut = inr (subst (λ (o : Option Image). IsTorn o new put.0 put.1) (put_none old) torn) };
+  at = at;
+}
 
--- nothing of it was put
-pub cut_before : (put : Put) (old new : Option Image) → new ≡ old → AreCut (put ∷ []) old new
-cut_before put old new same = record { done = []; put = put; rest = []; parts = refl; cut = inl (same ∙ put_none old) }
+-- cut at such a line, it is cut at such a one
+pub cut_as : {At By : Put → Type 0} (puts : List Put) (old new : Option Image) → ((put : Put) → At put → By put) → AreCutAt At puts old new → AreCutAt By puts old new
+cut_as puts old new more cut = record { cut = cut.cut; at = more cut.cut.put cut.at }
+
+-- so it is where all may have been put
+pub ends_as : {T E : Type 0} (At By : E → Put → Type 0) (puts : List Put) (old new : Option Image) (result : Result T E) → ((fault : E) (put : Put) → At fault put → By fault put) → PutsEnd At puts old new result → PutsEnd By puts old new result
+ends_as At By puts old new (Ok u) more put = put
+ends_as At By puts old new (Err fault) more cut = cut_as puts old new (more fault) cut
 
 -- A pass.
 
@@ -47,16 +54,19 @@ module _ (all a b : List Put) (old mid new : Option Image) (passed : ArePassed a
   }
 
   -- a part was cut
-  pub pass_cut : AreCut a mid new → AreCut all old new
-  pass_cut cut = record {
-    done = passed.done ++ cut.done;
-    put = cut.put;
-    rest = cut.rest ++ b;
-    parts = passed.parts
-        ∙ ap (λ (l : List Put). passed.done ++ (l ++ b)) cut.parts
-        ∙ ap (λ (l : List Put). passed.done ++ l) (append_assoc cut.done (cut.put ∷ cut.rest) b)
-        ∙ sym (append_assoc passed.done cut.done (cut.put ∷ (cut.rest ++ b)));
-    cut = subst (λ (o : Option Image). IsPartlyPut cut.put o new) (put_both passed.done cut.done old mid (option_map (put_lines cut.done) mid) passed.put refl) cut.cut;
+  pub pass_cut : {At : Put → Type 0} → AreCutAt At a mid new → AreCutAt At all old new
+  pass_cut {At} at_cut = let cut = at_cut.cut in record {
+    cut = record {
+      done = passed.done ++ cut.done;
+      put = cut.put;
+      rest = cut.rest ++ b;
+      parts = passed.parts
+          ∙ ap (λ (l : List Put). passed.done ++ (l ++ b)) cut.parts
+          ∙ ap (λ (l : List Put). passed.done ++ l) (append_assoc cut.done (cut.put ∷ cut.rest) b)
+          ∙ sym (append_assoc passed.done cut.done (cut.put ∷ (cut.rest ++ b)));
+      cut = subst (λ (o : Option Image). IsPartlyPut cut.put o new) (put_both passed.done cut.done old mid (option_map (put_lines cut.done) mid) passed.put refl) cut.cut;
+    };
+    at = at_cut.at;
   }
 
 -- all lines were put

@@ -9,7 +9,7 @@ use Rattle.fam_base.specs.Image.{Image}
 use Rattle.fam_format.specs.Reading.{Lines}
 use Rattle.fam_rules.specs.Written.{Put, file_puts, slot_puts}
 use Rattle.fam_rules.proofs.Puts.{puts_from}
-use Rattle.fam_dup.specs.Lines.{AreCut, ArePut, bytes_in, files_puts, slots_puts}
+use Rattle.fam_dup.specs.Lines.{AreCutAt, ArePut, bytes_in, files_puts, slots_puts}
 use Rattle.fam_dup.specs.Passes.{ArePassed}
 use Rattle.fam_dup.proofs.Passing.{pass_all, pass_cut, pass_part}
 
@@ -26,7 +26,7 @@ module _ (f : ℕ → ℕ) (g : ℕ → List ℕ) (all : List Put) (j end : ℕ)
   row_part put = pass_part all ((f j, g j) ∷ []) (puts_from f g (j + 1) (end - (j + 1))) old mid new next_row put
 
   -- or cut
-  pub row_cut : AreCut ((f j, g j) ∷ []) mid new → AreCut all old new
+  pub row_cut : {At : Put → Type 0} → AreCutAt At ((f j, g j) ∷ []) mid new → AreCutAt At all old new
   row_cut cut = pass_cut all ((f j, g j) ∷ []) (puts_from f g (j + 1) (end - (j + 1))) old mid new next_row cut
 
 -- behind the last one

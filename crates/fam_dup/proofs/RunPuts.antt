@@ -13,7 +13,7 @@ use Rattle.fam_rules.specs.Place.{line_bytes, place, striped_place}
 use Rattle.fam_rules.specs.Written.{Put, file_line, put_lines}
 use Rattle.fam_rules.proofs.Puts.{puts_from}
 use Rattle.fam_rules.proofs.Puts.{put_lines-append}
-use Rattle.fam_dup.specs.Lines.{AreCut, ArePut}
+use Rattle.fam_dup.specs.Lines.{AreCutAt, ArePut}
 use Rattle.fam_dup.specs.Passes.{ArePassed}
 use Rattle.fam_dup.specs.Runs.{AreParts, AreTogether, part_puts, run_puts}
 use Rattle.fam_dup.proofs.Passing.{pass_cut, pass_part, put_none}
@@ -94,20 +94,23 @@ module _ (first : ℕ) (lines : List (List ℕ)) where
   run_put old new written = written ∙ run_some (length lines) old
 
   -- or failed at line k
-  pub run_cut : (old new : Option Image) (k : ℕ) → k < length lines → IsRunTorn old new first lines k → AreCut (run_puts first lines) old new
+  pub run_cut : (old new : Option Image) (k : ℕ) → k < length lines → IsRunTorn old new first lines k → AreCutAt (λ put. put.0 ≡ first + k) (run_puts first lines) old new
   run_cut old new k below torn =
       let count : length lines ≡ k + (1 + (length lines - (k + 1))) = omega arith in
       let start : 0 + k ≡ k = omega arith in
       let one : 1 + (length lines - (k + 1)) ≡ suc (length lines - (k + 1)) = omega arith in
       let rest : List Put = puts_from (λ i. first + i) (line_in lines) (k + 1) (length lines - (k + 1)) in
       record {
-        done = puts_from (λ i. first + i) (line_in lines) 0 k;
-        put = (first + k, line_in lines k);
-        rest = rest;
-        parts = ap (λ (n : ℕ). puts_from (λ i. first + i) (line_in lines) 0 n) count
-            ∙ puts_split (λ i. first + i) (line_in lines) 0 k (1 + (length lines - (k + 1)))
-            ∙ ap₂ (λ (a n : ℕ). puts_from (λ i. first + i) (line_in lines) 0 k ++ puts_from (λ i. first + i) (line_in lines) a n) start one;
-        cut = inr (subst (λ (o : Option Image). IsTorn o new (first + k) (line_in lines k)) (run_some k old) torn);
+        cut = record {
+          done = puts_from (λ i. first + i) (line_in lines) 0 k;
+          put = (first + k, line_in lines k);
+          rest = rest;
+          parts = ap (λ (n : ℕ). puts_from (λ i. first + i) (line_in lines) 0 n) count
+              ∙ puts_split (λ i. first + i) (line_in lines) 0 k (1 + (length lines - (k + 1)))
+              ∙ ap₂ (λ (a n : ℕ). puts_from (λ i. first + i) (line_in lines) 0 k ++ puts_from (λ i. first + i) (line_in lines) a n) start one;
+          cut = inr (subst (λ (o : Option Image). IsTorn o new (first + k) (line_in lines k)) (run_some k old) torn);
+        };
+        at = refl;
       }
 
 -- the same numbers and words, from different places on
@@ -132,15 +135,18 @@ run_parts c bytes j first lines is together parts =
     (λ i below. let at : 0 + i ≡ i = omega arith in ap (line_in lines) at ∙ parts i below)
 
 -- nothing was put yet of some lines of a file
-pub parts_before : (c : Entry) (bytes : List ℕ) (j n : ℕ) → 0 < n → (old : Option Image) → AreCut (part_puts c bytes j n) old old
-parts_before c bytes j n some old =
+pub parts_before : {At : Put → Type 0} (c : Entry) (bytes : List ℕ) (j n : ℕ) → 0 < n → (old : Option Image) → At (file_line c j, file_words bytes j) → AreCutAt At (part_puts c bytes j n) old old
+parts_before c bytes j n some old at =
     let more : n ≡ suc (n - 1) = omega arith in
     record {
-      done = [];
-      put = (file_line c j, file_words bytes j);
-      rest = part_puts c bytes (j + 1) (n - 1);
-      parts = ap (λ (k : ℕ). part_puts c bytes j k) more;
-      cut = inl (put_none old);
+      cut = record {
+        done = [];
+        put = (file_line c j, file_words bytes j);
+        rest = part_puts c bytes (j + 1) (n - 1);
+        parts = ap (λ (k : ℕ). part_puts c bytes j k) more;
+        cut = inl (put_none old);
+      };
+      at = at;
     }
 
 -- A pass of lines f j with words g j, n at once.
@@ -155,5 +161,5 @@ module _ (f : ℕ → ℕ) (g : ℕ → List ℕ) (all : List Put) (j n end : �
   run_part put = pass_part all (puts_from f g j n) (puts_from f g (j + n) (end - (j + n))) old mid new next_run put
 
   -- or cut
-  pub run_cut_short : AreCut (puts_from f g j n) mid new → AreCut all old new
+  pub run_cut_short : {At : Put → Type 0} → AreCutAt At (puts_from f g j n) mid new → AreCutAt At all old new
   run_cut_short cut = pass_cut all (puts_from f g j n) (puts_from f g (j + n) (end - (j + n))) old mid new next_run cut

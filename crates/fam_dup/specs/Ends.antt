@@ -1,19 +1,23 @@
 -- How a copy ends, and what each end leaves of TO.
-use Rattle.std.specs.Prelude.{ℕ, ◌≡◌, ◌⊎◌, ◌*◌, ◌<◌, ⊤, Bool, IsTrue, List, length, slice_get, Option, Some, Result, Ok, Err}
+use Rattle.std.specs.Prelude.{ℕ, ◌≡◌, ◌⊎◌, ◌+◌, ◌*◌, ◌<◌, ⊤, Bool, false, IsTrue, List, length, slice_get, Option, Some, Result, Ok, Err}
 use Rattle.fam_base.specs.declared.entry.Params.{Params}
 use Rattle.fam_base.specs.declared.entry.Entry.{Entry}
 use Rattle.fam_base.specs.Image.{Image, line_at}
 use Rattle.fam_format.specs.declared.faults.SuperFault.TheVariants as super
 use Rattle.fam_format.specs.Layout.{slots_of}
 use Rattle.fam_format.specs.Params.{is_format, is_log_length, is_unit}
-use Rattle.fam_format.specs.Reading.{Reading, NoSuperblock, Sound, reading}
+use Rattle.fam_format.specs.Reading.{Reading, NoSuperblock, Sound, reading, super_in}
 use Rattle.fam_media.specs.Causes.{Rose}
 use Rattle.fam_media.specs.Outside.{IfModelled}
+use Rattle.fam_media.specs.Plans.{one_more}
+use Rattle.fam_replay.specs.Sources.{IsOfLog}
+use Rattle.fam_replay.specs.declared.fault.ReadFault.{ReadFault}
+use Rattle.fam_replay.specs.declared.fault.ReadFault.TheVariants as read
 use Rattle.fam_rules.specs.Place.{line_bytes}
-use Rattle.fam_rules.specs.Written.{put_lines}
+use Rattle.fam_rules.specs.Written.{Put, file_line, put_lines}
 use Rattle.fam_dup.specs.Copies.{AreCopies}
 use Rattle.fam_dup.specs.Findings.{Copies, FailsFrom, FailsTo, FaultClass, FaultInLog, FaultInSlot, FaultInSuper, Finding, FullTo, SmallFrom, SmallTo, Stops, Names, Refuses, WantsMemory, class_of, finding}
-use Rattle.fam_dup.specs.Lines.{AreCut, IsOffCopy, bytes_in, copy_puts}
+use Rattle.fam_dup.specs.Lines.{AreCut, AreCutAt, IsOffCopy, bytes_in, copy_puts}
 use Rattle.fam_dup.specs.declared.fault.DupFault.{DupFault}
 use Rattle.fam_dup.specs.declared.fault.DupFault.TheVariants as fault
 
@@ -99,6 +103,126 @@ NamesLine from to (fault.Stopped seq refusal) = ⊤
 NamesLine from to (fault.FromFault line) = line.0 < from
 NamesLine from to (fault.ToFault line) = line.0 < to
 NamesLine from to fault.OutOfMemory = ⊤
+
+-- the line at which FROM failed is one of these
+abbrev pub FailsFromAt : (ℕ → Type 0) → DupFault → Type 0
+FailsFromAt At (fault.ImageSmall lines) = ⊤
+FailsFromAt At (fault.NoSuper word) = ⊤
+FailsFromAt At (fault.BadSuper field found wanted) = ⊤
+FailsFromAt At (fault.BadLog field found wanted) = ⊤
+FailsFromAt At (fault.BadEntry seq reason) = ⊤
+FailsFromAt At (fault.TooSmall needed have) = ⊤
+FailsFromAt At (fault.HasSuper fs) = ⊤
+FailsFromAt At (fault.Stopped seq refusal) = ⊤
+FailsFromAt At (fault.FromFault line) = At line.0
+FailsFromAt At (fault.ToFault line) = ⊤
+FailsFromAt At fault.OutOfMemory = ⊤
+
+-- the same of TO
+abbrev pub FailsToAt : (ℕ → Type 0) → DupFault → Type 0
+FailsToAt At (fault.ImageSmall lines) = ⊤
+FailsToAt At (fault.NoSuper word) = ⊤
+FailsToAt At (fault.BadSuper field found wanted) = ⊤
+FailsToAt At (fault.BadLog field found wanted) = ⊤
+FailsToAt At (fault.BadEntry seq reason) = ⊤
+FailsToAt At (fault.TooSmall needed have) = ⊤
+FailsToAt At (fault.HasSuper fs) = ⊤
+FailsToAt At (fault.Stopped seq refusal) = ⊤
+FailsToAt At (fault.FromFault line) = ⊤
+FailsToAt At (fault.ToFault line) = At line.0
+FailsToAt At fault.OutOfMemory = ⊤
+
+-- a line that is read of FROM before anything is written: of the superblock, or of the log behind one that reads
+abbrev pub IsReadAt : Image → ℕ → Type 0
+IsReadAt from at =
+    (at < 3) ⊎ ((p : Params) × (super_in (line_at from) (line_bytes * length from) ≡ Ok p) × IsOfLog (line_at from) p at)
+
+-- the step of a copy at which a fault came: TO failed at the line that was to be put
+abbrev pub IsToStep : DupFault → Put → Type 0
+IsToStep (fault.ImageSmall lines) put = ⊥
+IsToStep (fault.NoSuper word) put = ⊥
+IsToStep (fault.BadSuper field found wanted) put = ⊥
+IsToStep (fault.BadLog field found wanted) put = ⊥
+IsToStep (fault.BadEntry seq reason) put = ⊥
+IsToStep (fault.TooSmall needed have) put = ⊥
+IsToStep (fault.HasSuper fs) put = ⊥
+IsToStep (fault.Stopped seq refusal) put = ⊥
+IsToStep (fault.FromFault line) put = ⊥
+IsToStep (fault.ToFault line) put = put.0 ≡ line.0
+IsToStep fault.OutOfMemory put = ⊥
+
+-- or FROM failed at a line of an entry's file, of which the copy's next lines were to be put: this one, or one before it
+pub record IsLineAhead (e c : Entry) (line at : ℕ) : Type 0 where
+  pub next : ℕ
+  pub ahead : ℕ
+  pub puts : at ≡ file_line c next
+  pub reads : line ≡ file_line e (next + ahead)
+  pub within : line_bytes * (next + ahead) < e.size
+
+-- the step of a copy of this entry's file
+abbrev pub IsFileStep : Entry → Entry → DupFault → Put → Type 0
+IsFileStep e c (fault.ImageSmall lines) put = ⊥
+IsFileStep e c (fault.NoSuper word) put = ⊥
+IsFileStep e c (fault.BadSuper field found wanted) put = ⊥
+IsFileStep e c (fault.BadLog field found wanted) put = ⊥
+IsFileStep e c (fault.BadEntry seq reason) put = ⊥
+IsFileStep e c (fault.TooSmall needed have) put = ⊥
+IsFileStep e c (fault.HasSuper fs) put = ⊥
+IsFileStep e c (fault.Stopped seq refusal) put = ⊥
+IsFileStep e c (fault.FromFault line) put = IsLineAhead e c line.0 put.0
+IsFileStep e c (fault.ToFault line) put = put.0 ≡ line.0
+IsFileStep e c fault.OutOfMemory put = ⊥
+
+-- of one of these entries and its copy
+pub record IsStep (entries copies : List Entry) (fault : DupFault) (put : Put) : Type 0 where
+  pub step : IsToStep fault put ⊎ ((i : ℕ) × (e : Entry) × (c : Entry) × (slice_get entries i ≡ Some e) × (slice_get copies i ≡ Some c) × IsFileStep e c fault put)
+
+-- a copy was cut at the step of a fault
+pub record IsCutStep (from old : Image) (new : Option Image) (p : Params) (force : Bool) (fault : DupFault) : Type 0 where
+  pub entries : List Entry
+  pub copies : List Entry
+  pub found : finding from old p force ≡ Copies entries copies
+  pub cut : AreCutAt (IsStep entries copies fault) (copy_puts (line_at from) p entries copies) (Some old) new
+
+-- the line at which a media failed is one that was asked for then. Of FROM it is one that is read before anything is written, or one of
+-- the step at which the copy was cut; of TO one of its lines 0 to 2, which are read only where it isn't forced, or that of this step
+abbrev pub IsAskedIn : Image → Image → Option Image → Params → Bool → DupFault → Type 0
+IsAskedIn from old new p force (fault.ImageSmall lines) = ⊤
+IsAskedIn from old new p force (fault.NoSuper word) = ⊤
+IsAskedIn from old new p force (fault.BadSuper field found wanted) = ⊤
+IsAskedIn from old new p force (fault.BadLog field found wanted) = ⊤
+IsAskedIn from old new p force (fault.BadEntry seq reason) = ⊤
+IsAskedIn from old new p force (fault.TooSmall needed have) = ⊤
+IsAskedIn from old new p force (fault.HasSuper fs) = ⊤
+IsAskedIn from old new p force (fault.Stopped seq refusal) = ⊤
+IsAskedIn from old new p force (fault.FromFault line) =
+    ((new ≡ Some old) × IsReadAt from line.0) ⊎ IsCutStep from old new p force (fault.FromFault line)
+IsAskedIn from old new p force (fault.ToFault line) =
+    ((new ≡ Some old) × (force ≡ false) × (line.0 < 3)) ⊎ IsCutStep from old new p force (fault.ToFault line)
+IsAskedIn from old new p force fault.OutOfMemory = ⊤
+
+-- how often FROM has failed behind a fault, where it counts exactly: once more where the fault tells it, and not at all else
+abbrev pub from_counted : FaultClass → ℕ → ℕ
+from_counted (Refuses found) count = count
+from_counted FailsFrom count = one_more count
+from_counted FailsTo count = count
+from_counted WantsMemory count = count
+
+-- the same of TO
+abbrev pub to_counted : FaultClass → ℕ → ℕ
+to_counted (Refuses found) count = count
+to_counted FailsFrom count = count
+to_counted FailsTo count = one_more count
+to_counted WantsMemory count = count
+
+-- a fault of FROM's log
+abbrev pub of_read : ReadFault → DupFault
+of_read (read.NoSuper word) = fault.NoSuper word
+of_read (read.BadSuper field found wanted) = fault.BadSuper field found wanted
+of_read (read.BadLog field found wanted) = fault.BadLog field found wanted
+of_read (read.BadEntry seq reason) = fault.BadEntry seq reason
+of_read (read.MediaFault line) = fault.FromFault line
+of_read read.OutOfMemory = fault.OutOfMemory
 
 -- what FROM's lines alone can tell
 abbrev pub IsInFrom : Finding → Type 0

@@ -75,10 +75,15 @@ pub record AreCut (puts : List Put) (old new : Option Image) : Type 0 where
   pub parts : puts ≡ done ++ put ∷ rest
   pub cut : IsPartlyPut put (option_map (put_lines done) old) new
 
--- all lines were put, or the media failed at one of them
-abbrev pub PutsEnd : {T E : Type 0} → List Put → Option Image → Option Image → Result T E → Type 0
-PutsEnd puts old new (Ok u) = ArePut puts old new
-PutsEnd puts old new (Err fault) = AreCut puts old new
+-- lines were cut so, at such a line
+pub record AreCutAt (At : Put → Type 0) (puts : List Put) (old new : Option Image) : Type 0 where
+  pub cut : AreCut puts old new
+  pub at : At cut.put
+
+-- all lines were put, or a media failed at one of them: a fault is of such a line
+abbrev pub PutsEnd : {T E : Type 0} → (E → Put → Type 0) → List Put → Option Image → Option Image → Result T E → Type 0
+PutsEnd At puts old new (Ok u) = ArePut puts old new
+PutsEnd At puts old new (Err fault) = AreCutAt (At fault) puts old new
 
 -- an entry's file lies within a device of so many lines
 pub record IsFileOn (e : Entry) (lines : ℕ) : Type 0 where

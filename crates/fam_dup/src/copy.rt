@@ -1,9 +1,10 @@
 //! Copying a file system.
 
-ghost use Rattle.std.specs.Prelude.{◌≡◌, IfErr};
+ghost use Rattle.std.specs.Prelude.{◌≡◌, IfErr, OnOk, true};
 ghost use Rattle.fam_media.specs.Causes.{IsSteady};
 ghost use Rattle.fam_media.specs.Outside.{IfModelled};
-ghost use Rattle.fam_dup.specs.Ends.{AreAsked, Becomes, DupEnds, IsCaused, NamesLine};
+ghost use Rattle.fam_dup.specs.Ends.{AreAsked, Becomes, DupEnds, IsAskedIn, IsCaused, NamesLine, from_counted, to_counted};
+ghost use Rattle.fam_dup.specs.Findings.{class_of};
 
 use crate::copies::plan_copies;
 use crate::fault::DupFault;
@@ -35,6 +36,14 @@ pub fn dup<M: Media, N: Media>(
         (λ old new. DupEnds source old new params.now force result)) }
     ensures cause { IfErr result (λ fault. IsCaused (M.state from.old).faults (M.state from.new).faults
         (N.state to.old).faults (N.state to.new).faults fault) }
+    ensures asked { IfErr result (λ fault. IfModelled (M.state from.old).image (λ source. IfModelled (N.state to.old).image
+        (λ old. IsAskedIn source old (N.state to.new).image params.now force fault))) }
+
+    // A media that counts exactly has failed once where the fault tells it, and never else.
+    ensures quiet_from { OnOk result (M.exact ≡ true → (M.state from.new).faults ≡ (M.state from.old).faults) }
+    ensures quiet_to { OnOk result (N.exact ≡ true → (N.state to.new).faults ≡ (N.state to.old).faults) }
+    ensures counted_from { IfErr result (λ fault. M.exact ≡ true → (M.state from.new).faults ≡ from_counted (class_of fault) (M.state from.old).faults) }
+    ensures counted_to { IfErr result (λ fault. N.exact ≡ true → (N.state to.new).faults ≡ to_counted (class_of fault) (N.state to.old).faults) }
     ensures line { IfErr result (λ fault. NamesLine (M.size from.old) (N.size to.old) fault) }
     ensures same { (M.state from.new).image ≡ (M.state from.old).image }
     ensures steady_from { IsSteady M.size M.state from.old from.new }

@@ -1,16 +1,16 @@
 //! The files of a copy, by runs of lines: as many as stand one behind another on both media are read by one call and
 //! written by one, up to those of a buffer.
 
-ghost use Rattle.std.specs.Prelude.{◌≡◌, ◌+◌, ◌-◌, ◌*◌, ◌≤◌, ◌<◌, ◌∷◌, [], ℕ, IfErr, IfOk, OnOk, length, nat_lt, if◌then◌else◌, vec_len};
+ghost use Rattle.std.specs.Prelude.{◌≡◌, ◌+◌, ◌-◌, ◌*◌, ◌≤◌, ◌<◌, ◌∷◌, [], ℕ, IfErr, IfOk, OnOk, length, nat_lt, if◌then◌else◌, true, vec_len};
 ghost use Rattle.fam_base.specs.Image.{line_at};
 ghost use Rattle.fam_media.specs.Causes.{IsSteady};
 ghost use Rattle.fam_media.specs.Outside.{IfModelled};
 ghost use Rattle.fam_media.specs.Runs.{line_in};
 ghost use Rattle.fam_rules.specs.Content.{byte_in};
 ghost use Rattle.fam_rules.specs.Place.{IsProperEntry, line_bytes};
-ghost use Rattle.fam_rules.specs.Written.{file_puts};
+ghost use Rattle.fam_rules.specs.Written.{file_line, file_puts};
 ghost use Rattle.fam_dup.specs.Copies.{AreCopies};
-ghost use Rattle.fam_dup.specs.Ends.{IsCausedByFrom, IsFailure, NamesLine};
+ghost use Rattle.fam_dup.specs.Ends.{FailsFromAt, IsCausedByFrom, IsFailure, IsFileStep, IsStep, NamesLine, from_counted, to_counted};
 ghost use Rattle.fam_dup.specs.Findings.{FailsFrom, WantsMemory, class_of};
 ghost use Rattle.fam_dup.specs.Lines.{IsFileOn, PutsEnd, bytes_in, files_puts};
 ghost use Rattle.fam_dup.specs.Runs.{AreBelow, AreParts, AreTogether, part_puts};
@@ -69,6 +69,9 @@ fn read_parts<M: Media>(
     ensures count { length lines.new ≡ length lines.old }
     ensures failed { IfErr result (λ fault. class_of fault ≡ FailsFrom) }
     ensures cause { IfErr result (λ fault. IsCausedByFrom (M.state from.old).faults (M.state from.new).faults (class_of fault)) }
+    ensures at { IfErr result (FailsFromAt (λ at. (ahead : ℕ) × (ahead < length lines.old) × (at ≡ file_line entry.now (j + ahead)))) }
+    ensures quiet { OnOk result (M.exact ≡ true → (M.state from.new).faults ≡ (M.state from.old).faults) }
+    ensures counted { IfErr result (λ fault. M.exact ≡ true → (M.state from.new).faults ≡ from_counted (class_of fault) (M.state from.old).faults) }
     ensures line { IfErr result (λ fault. NamesLine (M.size from.old) 0 fault) }
     ensures same { (M.state from.new).image ≡ (M.state from.old).image }
     ensures steady { IsSteady M.size M.state from.old from.new }
@@ -100,11 +103,15 @@ fn copy_run<M: Media, N: Media>(
     requires below { AreBelow entry.now j (length lines.old) }
     requires together { AreTogether entry.now j (length lines.old) }
     requires together_copy { AreTogether copy.now j (length lines.old) }
-    ensures puts { IfModelled (M.state from.old).image (λ image. PutsEnd (part_puts copy.now (bytes_in (line_at image) entry.now) j (length lines.old))
+    ensures puts { IfModelled (M.state from.old).image (λ image. PutsEnd (IsFileStep entry.now copy.now) (part_puts copy.now (bytes_in (line_at image) entry.now) j (length lines.old))
         (N.state to.old).image (N.state to.new).image result) }
     ensures count { length lines.new ≡ length lines.old }
     ensures failed { IfErr result (λ fault. IsFailure (M.state from.old).faults (M.state from.new).faults
         (N.state to.old).faults (N.state to.new).faults (class_of fault)) }
+    ensures quiet_from { OnOk result (M.exact ≡ true → (M.state from.new).faults ≡ (M.state from.old).faults) }
+    ensures quiet_to { OnOk result (N.exact ≡ true → (N.state to.new).faults ≡ (N.state to.old).faults) }
+    ensures counted_from { IfErr result (λ fault. M.exact ≡ true → (M.state from.new).faults ≡ from_counted (class_of fault) (M.state from.old).faults) }
+    ensures counted_to { IfErr result (λ fault. N.exact ≡ true → (N.state to.new).faults ≡ to_counted (class_of fault) (N.state to.old).faults) }
     ensures line { IfErr result (λ fault. NamesLine (M.size from.old) (N.size to.old) fault) }
     ensures same { (M.state from.new).image ≡ (M.state from.old).image }
     ensures steady_from { IsSteady M.size M.state from.old from.new }
@@ -113,7 +120,7 @@ fn copy_run<M: Media, N: Media>(
     read_parts(from, entry, j, lines)?;
     match write_lines(to, file_line(copy, j), lines) {
         Ok(()) => Ok(()),
-        Err(FailedAt(line)) => Err(DupFault::ToFault(line)),
+        Err(failed) => Err(DupFault::ToFault(failed.0)),
     }
 }
 
@@ -144,11 +151,15 @@ fn copy_file<M: Media, N: Media>(
     requires place { IsFileOn copy.now (N.size to.old) }
     requires size { copy.now.size ≡ entry.now.size }
     requires buffer { 0 < length buffer.old }
-    ensures puts { IfModelled (M.state from.old).image (λ image. PutsEnd (file_puts copy.now (bytes_in (line_at image) entry.now))
+    ensures puts { IfModelled (M.state from.old).image (λ image. PutsEnd (IsFileStep entry.now copy.now) (file_puts copy.now (bytes_in (line_at image) entry.now))
         (N.state to.old).image (N.state to.new).image result) }
     ensures buffer { length buffer.new ≡ length buffer.old }
     ensures failed { IfErr result (λ fault. IsFailure (M.state from.old).faults (M.state from.new).faults
         (N.state to.old).faults (N.state to.new).faults (class_of fault)) }
+    ensures quiet_from { OnOk result (M.exact ≡ true → (M.state from.new).faults ≡ (M.state from.old).faults) }
+    ensures quiet_to { OnOk result (N.exact ≡ true → (N.state to.new).faults ≡ (N.state to.old).faults) }
+    ensures counted_from { IfErr result (λ fault. M.exact ≡ true → (M.state from.new).faults ≡ from_counted (class_of fault) (M.state from.old).faults) }
+    ensures counted_to { IfErr result (λ fault. N.exact ≡ true → (N.state to.new).faults ≡ to_counted (class_of fault) (N.state to.old).faults) }
     ensures line { IfErr result (λ fault. NamesLine (M.size from.old) (N.size to.old) fault) }
     ensures same { (M.state from.new).image ≡ (M.state from.old).image }
     ensures steady_from { IsSteady M.size M.state from.old from.new }
@@ -176,10 +187,14 @@ pub(crate) fn copy_files<M: Media, N: Media>(
     requires to_device { copies.now.params.device ≤ line_bytes * N.size to.old }
     requires copies { AreCopies source.now.entries copies.now.entries }
     requires buffer { 0 < length buffer.old }
-    ensures puts { IfModelled (M.state from.old).image (λ image. PutsEnd (files_puts (line_at image) source.now.entries copies.now.entries)
+    ensures puts { IfModelled (M.state from.old).image (λ image. PutsEnd (IsStep source.now.entries copies.now.entries) (files_puts (line_at image) source.now.entries copies.now.entries)
         (N.state to.old).image (N.state to.new).image result) }
     ensures failed { IfErr result (λ fault. IsFailure (M.state from.old).faults (M.state from.new).faults
         (N.state to.old).faults (N.state to.new).faults (class_of fault)) }
+    ensures quiet_from { OnOk result (M.exact ≡ true → (M.state from.new).faults ≡ (M.state from.old).faults) }
+    ensures quiet_to { OnOk result (N.exact ≡ true → (N.state to.new).faults ≡ (N.state to.old).faults) }
+    ensures counted_from { IfErr result (λ fault. M.exact ≡ true → (M.state from.new).faults ≡ from_counted (class_of fault) (M.state from.old).faults) }
+    ensures counted_to { IfErr result (λ fault. N.exact ≡ true → (N.state to.new).faults ≡ to_counted (class_of fault) (N.state to.old).faults) }
     ensures line { IfErr result (λ fault. NamesLine (M.size from.old) (N.size to.old) fault) }
     ensures same { (M.state from.new).image ≡ (M.state from.old).image }
     ensures steady_from { IsSteady M.size M.state from.old from.new }

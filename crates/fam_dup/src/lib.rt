@@ -19,4 +19,3 @@ mod writes;
 pub use copy::dup;
 pub use fault::{DupFault, DupRefusal};
 pub use laws::{a_cut_copy_is_old_none_or_whole, a_whole_copy_is_read, only_room_stops_a_copy};
-pub use source::read_source;

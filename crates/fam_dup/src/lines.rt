@@ -1,6 +1,6 @@
 //! Single lines of a media, and its superblock.
 
-ghost use Rattle.std.specs.Prelude.{◌≡◌, ◌∷◌, [], ◌+◌, ◌*◌, ◌^◌, ◌<◌, ◌≤◌, IfErr, IfOk, OnErr, OnOk, ℕ, length, slice_index};
+ghost use Rattle.std.specs.Prelude.{◌≡◌, ◌∷◌, [], ◌+◌, ◌*◌, ◌^◌, ◌<◌, ◌≤◌, IfErr, IfOk, OnErr, OnOk, ℕ, is_err, length, slice_index, true};
 ghost use Rattle.fam_base.specs.Image.{line_at};
 ghost use Rattle.fam_format.specs.Layout.{least_lines};
 ghost use Rattle.fam_format.specs.Params.{SoundParams};
@@ -8,8 +8,9 @@ ghost use Rattle.fam_format.specs.Reading.{super_in};
 ghost use Rattle.fam_media.specs.Causes.{IsSteady, Rose};
 ghost use Rattle.fam_media.specs.Outside.{IfModelled};
 ghost use Rattle.fam_rules.specs.Place.{line_bytes};
-ghost use Rattle.fam_media.specs.Runs.{AreRead, line_in};
-ghost use Rattle.fam_dup.specs.Lines.{AreCut, ArePut};
+ghost use Rattle.fam_media.specs.Plans.{count_if};
+ghost use Rattle.fam_media.specs.Runs.{AreRead, IsFailedBehind, line_in, read_of, write_of};
+ghost use Rattle.fam_dup.specs.Lines.{AreCutAt, ArePut};
 ghost use Rattle.fam_dup.specs.Runs.{run_puts};
 
 use fam_base::{Line, LineNo, Params};
@@ -45,6 +46,8 @@ pub(crate) fn read_line<M: Media>(media: &mut M, line: LineNo) -> Result<Line, F
     ensures words { IfOk result (λ words. IfModelled (M.state media.old).image (λ image. words ≡ line_at image line.0)) }
     ensures same { (M.state media.new).image ≡ (M.state media.old).image }
     ensures rose { OnErr result (Rose (M.state media.old).faults (M.state media.new).faults) }
+    ensures counted { M.exact ≡ true → (M.state media.new).faults ≡ count_if (is_err result) (M.state media.old).faults }
+    ensures at { IfErr result (λ failed. failed.0 ≡ line) }
     ensures line { IfErr result (λ failed. failed.0.0 < M.size media.old) }
     ensures steady { IsSteady M.size M.state media.old media.new }
 {
@@ -62,8 +65,10 @@ pub(crate) fn write_line<M: Media>(
 ) -> Result<(), FailedAt>
     requires within { line.0 < M.size media.old }
     ensures put { OnOk result (ArePut ((line.0, words.now) ∷ []) (M.state media.old).image (M.state media.new).image) }
-    ensures cut { OnErr result (AreCut ((line.0, words.now) ∷ []) (M.state media.old).image (M.state media.new).image) }
+    ensures cut { IfErr result (λ failed. AreCutAt (λ put. put.0 ≡ failed.0.0) ((line.0, words.now) ∷ []) (M.state media.old).image (M.state media.new).image) }
     ensures rose { OnErr result (Rose (M.state media.old).faults (M.state media.new).faults) }
+    ensures counted { M.exact ≡ true → (M.state media.new).faults ≡ count_if (is_err result) (M.state media.old).faults }
+    ensures at { IfErr result (λ failed. failed.0 ≡ line) }
     ensures line { IfErr result (λ failed. failed.0.0 < M.size media.old) }
     ensures steady { IsSteady M.size M.state media.old media.new }
 {
@@ -84,6 +89,9 @@ pub(crate) fn read_lines<M: Media>(
     ensures count { length lines.new ≡ length lines.old }
     ensures same { (M.state media.new).image ≡ (M.state media.old).image }
     ensures rose { OnErr result (Rose (M.state media.old).faults (M.state media.new).faults) }
+    ensures counted { M.exact ≡ true → (M.state media.new).faults ≡ count_if (is_err result) (M.state media.old).faults }
+    ensures at { IfErr result (λ failed. (done : ℕ) × (done < length lines.old) × (failed.0.0 ≡ first.0 + done)
+        × (M.exact ≡ true → IsFailedBehind (read_of M.reads first.0) done media.old media.new)) }
     ensures line { IfErr result (λ failed. failed.0.0 < M.size media.old) }
     ensures steady { IsSteady M.size M.state media.old media.new }
 {
@@ -102,8 +110,11 @@ pub(crate) fn write_lines<M: Media>(
 ) -> Result<(), FailedAt>
     requires within { first.0 + length lines.now ≤ M.size media.old }
     ensures put { OnOk result (ArePut (run_puts first.0 lines.now) (M.state media.old).image (M.state media.new).image) }
-    ensures cut { OnErr result (AreCut (run_puts first.0 lines.now) (M.state media.old).image (M.state media.new).image) }
+    ensures cut { IfErr result (λ failed. AreCutAt (λ put. put.0 ≡ failed.0.0) (run_puts first.0 lines.now) (M.state media.old).image (M.state media.new).image) }
     ensures rose { OnErr result (Rose (M.state media.old).faults (M.state media.new).faults) }
+    ensures counted { M.exact ≡ true → (M.state media.new).faults ≡ count_if (is_err result) (M.state media.old).faults }
+    ensures at { IfErr result (λ failed. (done : ℕ) × (done < length lines.now) × (failed.0.0 ≡ first.0 + done)
+        × (M.exact ≡ true → IsFailedBehind (write_of M.writes first.0 lines.now) done media.old media.new)) }
     ensures line { IfErr result (λ failed. failed.0.0 < M.size media.old) }
     ensures steady { IsSteady M.size M.state media.old media.new }
 {
@@ -121,6 +132,8 @@ fn super_lines<M: Media>(media: &mut M) -> Result<[Line; 3], FailedAt>
         (have : ℕ) → super_in (line_at lines) have ≡ super_in (line_at image) have)) }
     ensures same { (M.state media.new).image ≡ (M.state media.old).image }
     ensures rose { OnErr result (Rose (M.state media.old).faults (M.state media.new).faults) }
+    ensures counted { M.exact ≡ true → (M.state media.new).faults ≡ count_if (is_err result) (M.state media.old).faults }
+    ensures at { IfErr result (λ failed. failed.0.0 < 3) }
     ensures line { IfErr result (λ failed. failed.0.0 < M.size media.old) }
     ensures steady { IsSteady M.size M.state media.old media.new }
 {
@@ -139,6 +152,8 @@ pub(crate) fn superblock<M: Media>(media: &mut M) -> Result<Result<Params, Super
     ensures device { IfOk result (λ found. IfOk found (λ p. p.device ≤ line_bytes * M.size media.old)) }
     ensures same { (M.state media.new).image ≡ (M.state media.old).image }
     ensures rose { OnErr result (Rose (M.state media.old).faults (M.state media.new).faults) }
+    ensures counted { M.exact ≡ true → (M.state media.new).faults ≡ count_if (is_err result) (M.state media.old).faults }
+    ensures at { IfErr result (λ failed. failed.0.0 < 3) }
     ensures line { IfErr result (λ failed. failed.0.0 < M.size media.old) }
     ensures steady { IsSteady M.size M.state media.old media.new }
 {

@@ -1,11 +1,10 @@
 //! What stands on TO.
 
-ghost use Rattle.std.specs.Prelude.{◌≡◌, ◌*◌, ◌≤◌, IfErr, OnOk};
+ghost use Rattle.std.specs.Prelude.{◌≡◌, ◌*◌, ◌<◌, ◌≤◌, IfErr, OnOk, false, true};
 ghost use Rattle.fam_format.specs.Params.{SoundParams};
 ghost use Rattle.fam_media.specs.Causes.{IsSteady};
 ghost use Rattle.fam_media.specs.Outside.{IfModelled};
-ghost use Rattle.fam_rules.specs.Place.{line_bytes};
-ghost use Rattle.fam_dup.specs.Ends.{AreAsked, IsCausedByTo, NamesLine};
+ghost use Rattle.fam_dup.specs.Ends.{AreAsked, FailsToAt, IsCausedByTo, NamesLine, to_counted};
 ghost use Rattle.fam_dup.specs.Findings.{Finding, Names, class_of, to_or};
 ghost use Rattle.fam_format.specs.Params.{IsUuid};
 
@@ -42,6 +41,10 @@ pub(crate) fn check_target<N: Media>(
     ensures fault { IfErr result (λ fault. IfModelled (N.state to.old).image (λ image. (rest : Finding)
         → Names (class_of fault) (to_or image params.now force rest))) }
     ensures cause { IfErr result (λ fault. IsCausedByTo (N.state to.old).faults (N.state to.new).faults (class_of fault)) }
+    ensures asked { IfErr result (FailsToAt (λ at. (force ≡ false) × (at < 3))) }
+    ensures unread { force ≡ true → to.new ≡ to.old }
+    ensures quiet { OnOk result (N.exact ≡ true → (N.state to.new).faults ≡ (N.state to.old).faults) }
+    ensures counted { IfErr result (λ fault. N.exact ≡ true → (N.state to.new).faults ≡ to_counted (class_of fault) (N.state to.old).faults) }
     ensures line { IfErr result (λ fault. NamesLine 0 (N.size to.old) fault) }
     ensures same { (N.state to.new).image ≡ (N.state to.old).image }
     ensures steady { IsSteady N.size N.state to.old to.new }

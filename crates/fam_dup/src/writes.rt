@@ -1,18 +1,17 @@
 //! What is written on TO, line by line.
 
-ghost use Rattle.std.specs.Prelude.{◌≡◌, ◌+◌, ◌*◌, ◌≤◌, ◌<◌, ◌∷◌, [], IfErr, IfOk, OnOk, length};
+ghost use Rattle.std.specs.Prelude.{◌≡◌, ◌+◌, ◌*◌, ◌≤◌, ◌<◌, ◌∷◌, [], IfErr, OnOk, length, true};
 ghost use Rattle.fam_base.specs.Image.{line_at};
-ghost use Rattle.fam_format.specs.Layout.{geometry, least_lines};
+ghost use Rattle.fam_format.specs.Layout.{least_lines};
 ghost use Rattle.fam_format.specs.Params.{SoundParams};
-ghost use Rattle.fam_format.specs.Slot.{spelling};
 ghost use Rattle.fam_media.specs.Causes.{IsSteady, Rose};
 ghost use Rattle.fam_media.specs.Outside.{IfModelled};
 ghost use Rattle.fam_rules.specs.Place.{line_bytes};
 ghost use Rattle.fam_rules.specs.Written.{slot_part, slot_puts};
 ghost use Rattle.fam_dup.specs.Copies.{AreCopies};
-ghost use Rattle.fam_dup.specs.Ends.{IsCausedByFrom, IsFailure, NamesLine};
-ghost use Rattle.fam_dup.specs.Findings.{FailsFrom, FailsTo, class_of};
-ghost use Rattle.fam_dup.specs.Lines.{IsFileOn, PutsEnd, bytes_in, copy_puts, files_puts, head_puts, slots_puts};
+ghost use Rattle.fam_dup.specs.Ends.{IsFailure, IsStep, IsToStep, NamesLine, from_counted, to_counted};
+ghost use Rattle.fam_dup.specs.Findings.{FailsTo, class_of};
+ghost use Rattle.fam_dup.specs.Lines.{PutsEnd, copy_puts, head_puts, slots_puts};
 
 use crate::copies::entry_at;
 use crate::fault::DupFault;
@@ -29,8 +28,10 @@ use fam_super::{MAGIC, Super};
 /// Writes a line of TO.
 fn write_to<N: Media>(to: &mut N, line: LineNo, words: &Line) -> Result<(), DupFault>
     requires within { line.0 < N.size to.old }
-    ensures puts { PutsEnd ((line.0, words.now) ∷ []) (N.state to.old).image (N.state to.new).image result }
+    ensures puts { PutsEnd IsToStep ((line.0, words.now) ∷ []) (N.state to.old).image (N.state to.new).image result }
     ensures failed { IfErr result (λ fault. (class_of fault ≡ FailsTo) × Rose (N.state to.old).faults (N.state to.new).faults) }
+    ensures quiet { OnOk result (N.exact ≡ true → (N.state to.new).faults ≡ (N.state to.old).faults) }
+    ensures counted { IfErr result (λ fault. N.exact ≡ true → (N.state to.new).faults ≡ to_counted (class_of fault) (N.state to.old).faults) }
     ensures line { IfErr result (λ fault. NamesLine 0 (N.size to.old) fault) }
     ensures steady { IsSteady N.size N.state to.old to.new }
 {
@@ -56,8 +57,10 @@ fn write_slot<N: Media>(to: &mut N, params: &Params, seq: u64, copy: &Entry) -> 
     requires sound { SoundParams params.now }
     requires device { params.now.device ≤ line_bytes * N.size to.old }
     requires slot { seq < params.now.slots }
-    ensures puts { PutsEnd (slot_puts params.now seq copy.now) (N.state to.old).image (N.state to.new).image result }
+    ensures puts { PutsEnd IsToStep (slot_puts params.now seq copy.now) (N.state to.old).image (N.state to.new).image result }
     ensures failed { IfErr result (λ fault. (class_of fault ≡ FailsTo) × Rose (N.state to.old).faults (N.state to.new).faults) }
+    ensures quiet { OnOk result (N.exact ≡ true → (N.state to.new).faults ≡ (N.state to.old).faults) }
+    ensures counted { IfErr result (λ fault. N.exact ≡ true → (N.state to.new).faults ≡ to_counted (class_of fault) (N.state to.old).faults) }
     ensures line { IfErr result (λ fault. NamesLine 0 (N.size to.old) fault) }
     ensures steady { IsSteady N.size N.state to.old to.new }
 {
@@ -71,8 +74,10 @@ fn write_slot<N: Media>(to: &mut N, params: &Params, seq: u64, copy: &Entry) -> 
 /// Writes the slots of all copies.
 fn write_slots<N: Media>(to: &mut N, copies: &Plan) -> Result<(), DupFault>
     requires device { copies.now.params.device ≤ line_bytes * N.size to.old }
-    ensures puts { PutsEnd (slots_puts copies.now.params 0 copies.now.entries) (N.state to.old).image (N.state to.new).image result }
+    ensures puts { PutsEnd IsToStep (slots_puts copies.now.params 0 copies.now.entries) (N.state to.old).image (N.state to.new).image result }
     ensures failed { IfErr result (λ fault. (class_of fault ≡ FailsTo) × Rose (N.state to.old).faults (N.state to.new).faults) }
+    ensures quiet { OnOk result (N.exact ≡ true → (N.state to.new).faults ≡ (N.state to.old).faults) }
+    ensures counted { IfErr result (λ fault. N.exact ≡ true → (N.state to.new).faults ≡ to_counted (class_of fault) (N.state to.old).faults) }
     ensures line { IfErr result (λ fault. NamesLine 0 (N.size to.old) fault) }
     ensures steady { IsSteady N.size N.state to.old to.new }
 {
@@ -87,8 +92,10 @@ fn write_slots<N: Media>(to: &mut N, copies: &Plan) -> Result<(), DupFault>
 /// Writes gate, header and superblock.
 fn write_head<N: Media>(to: &mut N, params: &Params, count: u64) -> Result<(), DupFault>
     requires within { least_lines ≤ N.size to.old }
-    ensures puts { PutsEnd (head_puts params.now count) (N.state to.old).image (N.state to.new).image result }
+    ensures puts { PutsEnd IsToStep (head_puts params.now count) (N.state to.old).image (N.state to.new).image result }
     ensures failed { IfErr result (λ fault. (class_of fault ≡ FailsTo) × Rose (N.state to.old).faults (N.state to.new).faults) }
+    ensures quiet { OnOk result (N.exact ≡ true → (N.state to.new).faults ≡ (N.state to.old).faults) }
+    ensures counted { IfErr result (λ fault. N.exact ≡ true → (N.state to.new).faults ≡ to_counted (class_of fault) (N.state to.old).faults) }
     ensures line { IfErr result (λ fault. NamesLine 0 (N.size to.old) fault) }
     ensures steady { IsSteady N.size N.state to.old to.new }
 {
@@ -114,10 +121,14 @@ pub(crate) fn write_copy<M: Media, N: Media>(
     requires from_device { source.now.params.device ≤ line_bytes * M.size from.old }
     requires to_device { copies.now.params.device ≤ line_bytes * N.size to.old }
     requires copies { AreCopies source.now.entries copies.now.entries }
-    ensures puts { IfModelled (M.state from.old).image (λ image. PutsEnd (copy_puts (line_at image) copies.now.params source.now.entries copies.now.entries)
+    ensures puts { IfModelled (M.state from.old).image (λ image. PutsEnd (IsStep source.now.entries copies.now.entries) (copy_puts (line_at image) copies.now.params source.now.entries copies.now.entries)
         (N.state to.old).image (N.state to.new).image result) }
     ensures failed { IfErr result (λ fault. IsFailure (M.state from.old).faults (M.state from.new).faults
         (N.state to.old).faults (N.state to.new).faults (class_of fault)) }
+    ensures quiet_from { OnOk result (M.exact ≡ true → (M.state from.new).faults ≡ (M.state from.old).faults) }
+    ensures quiet_to { OnOk result (N.exact ≡ true → (N.state to.new).faults ≡ (N.state to.old).faults) }
+    ensures counted_from { IfErr result (λ fault. M.exact ≡ true → (M.state from.new).faults ≡ from_counted (class_of fault) (M.state from.old).faults) }
+    ensures counted_to { IfErr result (λ fault. N.exact ≡ true → (N.state to.new).faults ≡ to_counted (class_of fault) (N.state to.old).faults) }
     ensures line { IfErr result (λ fault. NamesLine (M.size from.old) (N.size to.old) fault) }
     ensures same { (M.state from.new).image ≡ (M.state from.old).image }
     ensures steady_from { IsSteady M.size M.state from.old from.new }

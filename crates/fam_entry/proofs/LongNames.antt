@@ -4,7 +4,7 @@ use Rattle.std.proofs.lemmas.Bool.{cases_lt, false≢true}
 use Rattle.std.proofs.lemmas.List.{get_or-drop, get_or-take, take_all}
 use Rattle.std.proofs.lemmas.List.Elements.{All-nil}
 use Rattle.std.specs.List.{list_all}
-use Rattle.fam_base.specs.Paths.{is_name, is_path, has_no_nul, names, path_limit}
+use Rattle.fam_base.specs.Paths.{is_name, is_path, has_no_nul, names}
 use Rattle.fam_base.proofs.PathLemmas.{path_of_parts}
 use Rattle.fam_base.proofs.PathTests.{Passed, part, byte_passed, all_passed}
 

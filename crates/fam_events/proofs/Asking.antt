@@ -49,23 +49,10 @@ use Rattle.fam_events.proofs.Running.{finish_as_step, runs_free}
 
 -- a cause of a source
 of_source : (what : Ask) (cause : Refusal) → UnfitForm what cause → IsOfSource cause
-of_source what why.NoHost is = absurd is
-of_source what (why.SameHost host) is = absurd is
-of_source what why.TooManyHosts is = absurd is
-of_source what (why.BadGeometry unit log) is = absurd is
-of_source what (why.TooSmall need have) is = absurd is
-of_source what (why.ImageSmall lines) is = absurd is
-of_source what (why.Busy host) is = absurd is
-of_source what (why.Dirty host) is = absurd is
-of_source what (why.HasSuper uuid) is = absurd is
-of_source what why.Idle is = absurd is
-of_source what (why.NoLine at lines) is = absurd is
 of_source what (why.NoFile name) is = tt
 of_source what (why.CopyLimit sum) is = tt
 of_source what (why.BadListing at) is = tt
-of_source what (why.MediaFault at) is = absurd is
-of_source what why.Mounted is = absurd is
-of_source what why.NotMounted is = absurd is
+of_source what other is = absurd is
 
 -- the notes of a call that refuses
 refuses_form : (name : List ℕ) (cause : Refusal) (lines : ℕ) (hosts : List HostForm) (notes : List Note) → DoesForm (call.Refuses name cause) lines hosts notes → notes ≡ Refused name cause ∷ []

@@ -22,7 +22,7 @@ use Rattle.fam_journal.specs.Forms.{ActsForm, AtForm, BreaksForm, DoesForm, Form
 use Rattle.fam_journal.specs.Names.{AreNamed}
 use Rattle.fam_journal.specs.Notes.{Note}
 use Rattle.fam_journal.specs.View.{HostView}
-use Rattle.fam_journal.proofs.Forms.Pairs.{IsNoMake}
+use Rattle.fam_journal.proofs.Faces.{IsNoMake}
 use Rattle.fam_world.specs.Answers.{IfAnswered}
 use Rattle.fam_world.specs.declared.fault.WorldFault.{WorldFault}
 use Rattle.fam_world.specs.declared.fault.WorldFault.TheVariants as fault
@@ -37,16 +37,8 @@ count_kept a b e = sym (length-map a heading) ∙ ap (λ hs. length hs) e ∙ le
 
 -- nothing but a mkfs is cut by a media fault
 no_break : (c : Call) (lines : ℕ) (hosts : List HostForm) (notes : List Note) → IsNoMake c → BreaksForm c lines hosts notes → DoesForm c lines hosts notes
-no_break (call.Declares name uuid) lines hosts notes other is = absurd is
 no_break (call.Makes name request) lines hosts notes other is = absurd other
-no_break (call.Begins name cmd) lines hosts notes other is = absurd is
-no_break (call.Steps name) lines hosts notes other is = absurd is
-no_break (call.Finishes name) lines hosts notes other is = absurd is
-no_break (call.Stops name) lines hosts notes other is = absurd is
-no_break (call.Halts name) lines hosts notes other is = absurd is
-no_break (call.Umounts name) lines hosts notes other is = absurd is
-no_break (call.Moves name line move) lines hosts notes other is = absurd is
-no_break (call.Refuses name cause) lines hosts notes other is = absurd is
+no_break rest lines hosts notes other is = absurd is
 
 module _ (c : Call) (a : WorldChange) (formed : IsFormed a.old) (fits : FitsMedia a.lines a.old.hosts) where
   -- notes that are added, of a form
@@ -201,26 +193,11 @@ module _ (name : List ℕ) (request : MkfsRequest) (a : WorldChange) (formed : I
   Made answered = MakeCall c a.lines answered a.media a.old a.new
 
   refused_says : (cause : Refusal) → Made (Some cause) → CallSays c a (broken_by cause)
-  refused_says why.NoHost w = make_done (Some why.NoHost) refl w.answers w.leaves
-  refused_says (why.SameHost host) w = make_done (Some (why.SameHost host)) refl w.answers w.leaves
-  refused_says why.TooManyHosts w = make_done (Some why.TooManyHosts) refl w.answers w.leaves
-  refused_says (why.BadGeometry unit log) w = make_done (Some (why.BadGeometry unit log)) refl w.answers w.leaves
-  refused_says (why.TooSmall need have) w = make_done (Some (why.TooSmall need have)) refl w.answers w.leaves
-  refused_says (why.ImageSmall lines) w = make_done (Some (why.ImageSmall lines)) refl w.answers w.leaves
-  refused_says (why.Busy host) w = make_done (Some (why.Busy host)) refl w.answers w.leaves
-  refused_says (why.Dirty host) w = make_done (Some (why.Dirty host)) refl w.answers w.leaves
-  refused_says (why.HasSuper uuid) w = make_done (Some (why.HasSuper uuid)) refl w.answers w.leaves
-  refused_says why.Idle w = make_done (Some why.Idle) refl w.answers w.leaves
-  refused_says why.Mounted w = make_done (Some why.Mounted) refl w.answers w.leaves
-  refused_says why.NotMounted w = make_done (Some why.NotMounted) refl w.answers w.leaves
-  refused_says (why.NoLine at lines) w = make_done (Some (why.NoLine at lines)) refl w.answers w.leaves
-  refused_says (why.NoFile name) w = make_done (Some (why.NoFile name)) refl w.answers w.leaves
-  refused_says (why.CopyLimit sum) w = make_done (Some (why.CopyLimit sum)) refl w.answers w.leaves
-  refused_says (why.BadListing at) w = make_done (Some (why.BadListing at)) refl w.answers w.leaves
   refused_says (why.MediaFault at) w = record {
     adds = added c a formed fits (BreaksForm c) w.answers.adds (broken_form at w.answers.adds.notes (w.answers.form formed) w.answers.said);
     keeps = broken_kept c a formed fits same w.leaves;
   }
+  refused_says other w = make_done (Some other) refl w.answers w.leaves
 
   pub make_says : (called : Result (Unit {0}) WorldFault) → IfAnswered called Made → (IsErrOf called fault.OutOfMemory → IsStill a) → CallSays c a (make_outcome called)
   make_says (Ok x) w still = make_done None tt w.answers w.leaves

@@ -127,23 +127,10 @@ module _ (lines : ℕ) (old : WorldView) where
   number_below name h is = let below = number_within (shown_state old lines) name h is in let same = count_shown in omega (arith, below, same)
 
   source_own : (cause : Refusal) → IsOfSource cause → IsOwn (length old.hosts) cause
-  source_own why.NoHost is = absurd is
-  source_own (why.SameHost host) is = absurd is
-  source_own why.TooManyHosts is = absurd is
-  source_own (why.BadGeometry unit log) is = absurd is
-  source_own (why.TooSmall need have) is = absurd is
-  source_own (why.ImageSmall lines) is = absurd is
-  source_own (why.Busy host) is = absurd is
-  source_own (why.Dirty host) is = absurd is
-  source_own (why.HasSuper uuid) is = absurd is
-  source_own why.Idle is = absurd is
-  source_own (why.NoLine at lines) is = absurd is
   source_own (why.NoFile name) is = record { named = tt; faultless = refl }
   source_own (why.CopyLimit sum) is = record { named = tt; faultless = refl }
   source_own (why.BadListing at) is = record { named = tt; faultless = refl }
-  source_own (why.MediaFault at) is = absurd is
-  source_own why.Mounted is = absurd is
-  source_own why.NotMounted is = absurd is
+  source_own other is = absurd is
 
   -- notes of a call that takes no media
   pub record HostsNotes (c : Call) (new : WorldView) : Type 0 where
@@ -162,31 +149,22 @@ module _ (lines : ℕ) (old : WorldView) where
 
   acted_notes : (c : Call) → TakesNoMedia c lines old → HostsNotes c (acted c lines old)
   acted_notes (call.Declares name uuid) takes = record { notes = Host name uuid ∷ []; joined = refl; named = (tt, tt); faultless = refl }
-  acted_notes (call.Makes name request) takes = absurd takes
   acted_notes (call.Begins name cmd) takes = at_host (call.Begins name cmd) (number_in name old) _ (λ h. Start h cmd) (λ h is. (number_below name h is, tt)) (λ h. refl)
-  acted_notes (call.Steps name) takes = absurd takes
-  acted_notes (call.Finishes name) takes = absurd takes
   acted_notes (call.Stops name) takes = at_host (call.Stops name) (number_in name old) _ Stop (λ h is. (number_below name h is, tt)) (λ h. refl)
   acted_notes (call.Halts name) takes = at_host (call.Halts name) (number_in name old) _ Halt (λ h is. (number_below name h is, tt)) (λ h. refl)
   acted_notes (call.Umounts name) takes = at_host (call.Umounts name) (number_in name old) _ Umount (λ h is. (number_below name h is, tt)) (λ h. refl)
-  acted_notes (call.Moves name line move) takes = absurd takes
   acted_notes (call.Refuses name cause) takes = one_refused (call.Refuses name cause) name cause _ (by_takes takes) refl
     where
       by_takes : IsOfSource cause ⊎ ((cmd : Cmd) × (refusal_in (call.Begins name cmd) old lines ≡ Some cause)) → IsOwn (length old.hosts) cause
       by_takes (inl x) = source_own cause x
       by_takes (inr x) = world_own (call.Begins name x.0) tt cause x.1
+  acted_notes other takes = absurd takes
 
   is_quiet : (c : Call) → TakesNoMedia c lines old → TakesHostsAlone c
-  is_quiet (call.Declares name uuid) takes = tt
   is_quiet (call.Makes name request) takes = takes
-  is_quiet (call.Begins name cmd) takes = tt
-  is_quiet (call.Steps name) takes = tt
   is_quiet (call.Finishes name) takes = takes
-  is_quiet (call.Stops name) takes = tt
-  is_quiet (call.Halts name) takes = tt
-  is_quiet (call.Umounts name) takes = tt
   is_quiet (call.Moves name line move) takes = takes
-  is_quiet (call.Refuses name cause) takes = tt
+  is_quiet other takes = tt
 
   pub hosts_notes : (c : Call) → TakesNoMedia c lines old → HostsNotes c (world_after c lines old)
   hosts_notes c takes = by_refusal (refusal_in c old lines) refl

@@ -13,7 +13,7 @@ use Rattle.fam_journal.specs.Forms.{AnswerForm, Begun, CommandStage, EntryForm, 
 use Rattle.fam_journal.specs.Kept.{Held}
 use Rattle.fam_journal.specs.Machines.{Machines}
 use Rattle.fam_journal.specs.Members.{changed_at}
-use Rattle.fam_journal.specs.Notes.{Answer, Note, Host, Made, Cut, Start, Mark, Found, Writes, Answered, Stop, Halt, Umount, Refused}
+use Rattle.fam_journal.specs.Notes.{Answer, Note, Mark, Found, Writes, Answered}
 use Rattle.fam_journal.specs.View.{WorldStands, WorldView}
 use Rattle.fam_journal.specs.ByWorld.{number_in, refusal_in, shown_state}
 use Rattle.fam_journal.proofs.Calls.Members.{changed_here}
@@ -127,19 +127,12 @@ staged_on host h hosts stage same runs =
 
 -- it runs on behind a note that is no answer
 pub note_runs : (h : ℕ) (hosts : List HostForm) (note : Note) → OfRunning (slice_get hosts h) (λ me t. TaskNote h me t note) → runs_form (slice_get hosts h) ≡ true → runs_form (slice_get (forms_after hosts note) h) ≡ not (is_answer_note note)
-note_runs h hosts (Host name uuid) x runs = absurd (of_none (slice_get hosts h) x)
-note_runs h hosts (Made host p) x runs = absurd (of_none (slice_get hosts h) x)
-note_runs h hosts (Cut host k) x runs = absurd (of_none (slice_get hosts h) x)
-note_runs h hosts (Start host cmd) x runs = absurd (of_none (slice_get hosts h) x)
 note_runs h hosts (Mark host) x runs = staged_on host h hosts Marked (of_answer (slice_get hosts h) (λ me t. t.stage ≡ Begun) host h x) runs
 note_runs h hosts (Found host n) x runs = staged_on host h hosts (Met n) (of_three (slice_get hosts h) (λ t. HasWish t.cmd) (λ t. t.stage ≡ Marked) host h x) runs
 note_runs h hosts (Writes host seq entry) x runs = staged_on host h hosts (Named seq) (of_three (slice_get hosts h) (λ t. EntryForm t.cmd entry) (λ t. t.stage ≡ Met seq) host h x) runs
 note_runs h hosts (Answered host answer) x runs =
     ap (λ (k : ℕ). runs_form (slice_get (changed_at k (λ (f : HostForm). record f { task = None; keeps = keeps_behind answer f.keeps }) hosts) h)) (of_answer (slice_get hosts h) (λ me t. AnswerForm me t.cmd t.stage answer) host h x) ∙ over_runs answer h hosts
-note_runs h hosts (Stop host) x runs = absurd (of_none (slice_get hosts h) x)
-note_runs h hosts (Halt host) x runs = absurd (of_none (slice_get hosts h) x)
-note_runs h hosts (Umount host) x runs = absurd (of_none (slice_get hosts h) x)
-note_runs h hosts (Refused name cause) x runs = absurd (of_none (slice_get hosts h) x)
+note_runs h hosts other x runs = absurd (of_none (slice_get hosts h) x)
 
 or_false : (t : Bool) → Rattle.std.specs.Prelude.◌||◌ t false ≡ t
 or_false true = refl

@@ -65,28 +65,12 @@ module _ (c : Call) (lines : ℕ) (answered : Option Refusal) (old new : WorldVi
 -- nothing is done
 
 pub nothing_form : (c : Call) (lines : ℕ) (hosts : List HostForm) → PartForm c lines hosts []
-nothing_form (call.Declares name uuid) lines hosts = refl
-nothing_form (call.Makes name request) lines hosts = refl
-nothing_form (call.Begins name cmd) lines hosts = refl
-nothing_form (call.Steps name) lines hosts = refl
 nothing_form (call.Finishes name) lines hosts = inl refl
-nothing_form (call.Stops name) lines hosts = refl
-nothing_form (call.Halts name) lines hosts = refl
-nothing_form (call.Umounts name) lines hosts = refl
-nothing_form (call.Moves name line move) lines hosts = refl
-nothing_form (call.Refuses name cause) lines hosts = refl
+nothing_form other lines hosts = refl
 
 pub nothing_part : (c : Call) (state : Machines) → DoesPart c state [] state
-nothing_part (call.Declares name uuid) state = (refl, refl)
-nothing_part (call.Makes name request) state = (refl, refl)
-nothing_part (call.Begins name cmd) state = (refl, refl)
-nothing_part (call.Steps name) state = (refl, refl)
 nothing_part (call.Finishes name) state = inr (refl, refl)
-nothing_part (call.Stops name) state = (refl, refl)
-nothing_part (call.Halts name) state = (refl, refl)
-nothing_part (call.Umounts name) state = (refl, refl)
-nothing_part (call.Moves name line move) state = (refl, refl)
-nothing_part (call.Refuses name cause) state = (refl, refl)
+nothing_part other state = (refl, refl)
 
 module _ (a : WorldChange) (still : IsStill a) where
   same_journal : a.new.journal ≡ a.old.journal ++ []

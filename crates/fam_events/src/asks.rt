@@ -27,10 +27,10 @@ ghost use Rattle.fam_events.specs.declared.asks.Asked.TheVariants.{Begun, Refuse
 ghost use Rattle.fam_events.specs.declared.fault.EventFault.TheVariants.{OutOfMemory};
 
 use crate::fault::EventFault;
-use crate::sound::is_command;
 use fam_base::{Cmd, HostName};
 use fam_journal::{Ask, Refusal};
 use fam_media::Shelf;
+use fam_protocol::is_command;
 use fam_sources::{Sourced, resolve};
 use fam_world::{World, WorldFault};
 use std::alloc::Global;

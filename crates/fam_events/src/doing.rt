@@ -1,7 +1,6 @@
 //! One event of a run.
 
-ghost use Rattle.std.specs.Prelude.{◌≡◌, ℕ, OnErr, Option, Some};
-ghost use Rattle.fam_base.specs.Image.{Image};
+ghost use Rattle.std.specs.Prelude.{◌≡◌, OnErr, Some};
 ghost use Rattle.fam_grammar.specs.Sound.{IsSoundAsk, IsSoundEvent};
 ghost use Rattle.fam_journal.specs.declared.event.Event.TheVariants as event;
 ghost use Rattle.fam_journal.specs.CallRecords.{FitsMedia};

@@ -8,7 +8,6 @@ mod asks;
 mod calls;
 mod doing;
 mod fault;
-mod sound;
 mod steps;
 
 pub use doing::{happen, run_last};

@@ -1,7 +1,6 @@
 //! So many operations of a host's task.
 
 ghost use Rattle.std.specs.Prelude.{◌≡◌, ◌<◌, ℕ, Option};
-ghost use Rattle.fam_base.specs.Image.{Image};
 ghost use Rattle.fam_journal.specs.declared.event.Event.TheVariants.{Step};
 ghost use Rattle.fam_journal.specs.CallRecords.{FitsMedia};
 ghost use Rattle.fam_journal.specs.Calls.{Steps};

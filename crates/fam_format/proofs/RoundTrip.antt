@@ -1,6 +1,6 @@
 -- What is spelled is read: each field by itself, and the entry.
 use Rattle.std.proofs.Common.{◌≡◌, ℕ, zero, suc, ◌+◌, ◌-◌, ◌*◌, ◌/◌, ◌%◌, ◌<◌, ◌≤◌, true, List, [], ◌∷◌, length, map, get_or, refl, sym, ap, eqb, ◌∙◌, arith}
-use Rattle.std.specs.Cmp.Lexicographic.{pointwise, nat_list_eq_equiv}
+use Rattle.std.specs.Cmp.Lexicographic.{pointwise}
 use Rattle.std.proofs.lemmas.Bool.{and_parts, eqb-true}
 use Rattle.std.proofs.lemmas.Bool.Decides.{nat_tests}
 use Rattle.std.proofs.lemmas.List.FromFn.{get_or-map-range_with_len, length-map-range_with_len, fill_by_all}
@@ -36,10 +36,6 @@ same_words (x ∷ xs) [] h = cc
 same_words (x ∷ xs) (y ∷ ys) h =
     let both = and_parts (eqb x y) (pointwise eqb xs ys) h in
     ap (λ (z : ℕ). z ∷ xs) (eqb-true x y both.0) ∙ ap (λ (l : List ℕ). y ∷ l) (same_words xs ys both.1)
-
--- `==` finds a list equal to itself
-pub same_words_pass : (xs : List ℕ) → pointwise eqb xs xs ≡ true
-same_words_pass xs = nat_list_eq_equiv.refl xs
 
 -- the words of the path
 pub word_behind : (e : Entry) (seq i : ℕ) → path_word ≤ i → slot_word_at e seq i ≡ word_of_bytes e.path (i - path_word)

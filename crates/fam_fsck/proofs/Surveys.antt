@@ -21,10 +21,9 @@ use Rattle.fam_format.proofs.JoinLaws.{replay_more}
 use Rattle.fam_format.proofs.EntryLawsProofs.{proper_inside}
 use Rattle.fam_alloc.specs.Taken.{is_taken, taken_units, holds, LieWithin}
 use Rattle.fam_alloc.proofs.OverlapLemmas.{holds-append}
-use Rattle.fam_rules.specs.Reports.{Survey, applied_or, used_count}
+use Rattle.fam_rules.specs.Reports.{used_count}
 use Rattle.fam_fsck.specs.declared.found.Found.{Found}
 use Rattle.fam_fsck.specs.Found.{pair_of, pairs_of, applied_of, entries_of, found_as, tree_after, LiesWithin}
-use Rattle.fam_fsck.specs.Scan.{survey_of, bad_after}
 
 -- Lists.
 
@@ -45,13 +44,6 @@ entries_one_more list i e fault =
     ap (map (λ (f : ℕ × Entry). f.1)) (pairs_one_more list i e fault) ∙ map-append (λ (f : ℕ × Entry). f.1) (pairs_of list) ((i, e) ∷ [])
 
 -- The survey.
-
--- with an entry that applies, or doesn't
-pub survey_more : (list : List Found) (bad : Option (ℕ × Reason)) (past i : ℕ) (e : Entry) (fault : Option Reason) → survey_of (list ++ found_as i e fault ∷ []) (bad_after bad i fault) past ≡ applied_or (survey_of list bad past) i e fault
-survey_more list bad past i e None =
-    ap₂ (λ (fs : List (ℕ × Entry)) (es : List Entry). let s : Survey = record { found = fs; applied = es; bad = bad; past = past } in s) (pairs_one_more list i e None) (applied_one_more list i e)
-survey_more list bad past i e (Some r) =
-    ap₂ (λ (fs : List (ℕ × Entry)) (es : List Entry). let s : Survey = record { found = fs; applied = es; bad = bad_after bad i (Some r); past = past } in s) (pairs_one_more list i e (Some r)) (applied_as_before list i e r)
 
 -- The tree.
 

@@ -4,7 +4,7 @@
 ghost use Rattle.std.specs.Prelude.{◌≡◌, ◌+◌, ◌^◌, ◌<◌, fold, length};
 ghost use Rattle.fam_base.specs.Commands.{IsListing};
 ghost use Rattle.fam_rules.specs.Checks.{checked};
-ghost use Rattle.fam_fsck.specs.Merge.{behind, first_path, left, met, passed, with_changed, with_extra, with_missing, with_pair};
+ghost use Rattle.fam_fsck.specs.Merge.{behind, first_path, left, met, passed, with_extra, with_missing, with_pair};
 
 use fam_base::{Entry, Path};
 use fam_rules::Checked;

@@ -370,10 +370,6 @@ event_sound_behind end word.Run words =
     behind IsSoundEvent (word_of name_of end words) _ (λ name rest.
     then_holds IsSoundAsk IsSoundEvent (ask_line end rest) _ (ask_sound end rest) (λ asked none sound. sound))
 event_sound_behind end word.Step words = behind IsSoundEvent (word_of name_of end words) _ (λ name rest. steps_sound end name rest)
-event_sound_behind end word.Finish words = behind IsSoundEvent (word_of name_of end words) _ (λ name rest. ends_holds IsSoundEvent _ rest tt)
-event_sound_behind end word.Stop words = behind IsSoundEvent (word_of name_of end words) _ (λ name rest. ends_holds IsSoundEvent _ rest tt)
-event_sound_behind end word.Halt words = behind IsSoundEvent (word_of name_of end words) _ (λ name rest. ends_holds IsSoundEvent _ rest tt)
-event_sound_behind end word.Umount words = behind IsSoundEvent (word_of name_of end words) _ (λ name rest. ends_holds IsSoundEvent _ rest tt)
 event_sound_behind end word.Evict words =
     behind IsSoundEvent (word_of name_of end words) _ (λ name rest. behind IsSoundEvent (word_of number_of_text end rest) _ (λ at rest. ends_holds IsSoundEvent _ rest tt))
 event_sound_behind end word.Leak words =
@@ -382,6 +378,7 @@ event_sound_behind end word.Leak words =
 event_sound_behind end word.Fetch words =
     behind IsSoundEvent (word_of name_of end words) _ (λ name rest.
     behind IsSoundEvent (word_of number_of_text end rest) _ (λ at rest. behind IsSoundEvent (word_of mask_of end rest) _ (λ mask rest. ends_holds IsSoundEvent _ rest tt)))
+event_sound_behind end other words = behind IsSoundEvent (word_of name_of end words) _ (λ name rest. ends_holds IsSoundEvent _ rest tt)
 
 event_sound : (end : ℕ) (words : List Word) → Holds IsSoundEvent (event_line end words)
 unfolding event_line

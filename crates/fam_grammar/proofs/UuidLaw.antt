@@ -126,10 +126,6 @@ event_uuids end word.Mkfs words =
 event_uuids end word.Begin words = behind IsSoundEvent (word_of name_of end words) _ (λ name rest. behind IsSoundEvent (ask_line end rest) _ (λ asked none. tt))
 event_uuids end word.Run words = behind IsSoundEvent (word_of name_of end words) _ (λ name rest. behind IsSoundEvent (ask_line end rest) _ (λ asked none. tt))
 event_uuids end word.Step words = behind IsSoundEvent (word_of name_of end words) _ (λ name rest. steps_uuids end name rest)
-event_uuids end word.Finish words = behind IsSoundEvent (word_of name_of end words) _ (λ name rest. ends_holds IsSoundEvent _ rest tt)
-event_uuids end word.Stop words = behind IsSoundEvent (word_of name_of end words) _ (λ name rest. ends_holds IsSoundEvent _ rest tt)
-event_uuids end word.Halt words = behind IsSoundEvent (word_of name_of end words) _ (λ name rest. ends_holds IsSoundEvent _ rest tt)
-event_uuids end word.Umount words = behind IsSoundEvent (word_of name_of end words) _ (λ name rest. ends_holds IsSoundEvent _ rest tt)
 event_uuids end word.Evict words =
     behind IsSoundEvent (word_of name_of end words) _ (λ name rest. behind IsSoundEvent (word_of number_of_text end rest) _ (λ at rest. ends_holds IsSoundEvent _ rest tt))
 event_uuids end word.Leak words =
@@ -138,6 +134,7 @@ event_uuids end word.Leak words =
 event_uuids end word.Fetch words =
     behind IsSoundEvent (word_of name_of end words) _ (λ name rest.
     behind IsSoundEvent (word_of number_of_text end rest) _ (λ at rest. behind IsSoundEvent (word_of mask_of end rest) _ (λ mask rest. ends_holds IsSoundEvent _ rest tt)))
+event_uuids end other words = behind IsSoundEvent (word_of name_of end words) _ (λ name rest. ends_holds IsSoundEvent _ rest tt)
 
 line_uuids : (end : ℕ) (words : List Word) → Holds IsSoundEvent (event_line end words)
 unfolding event_line

@@ -5,7 +5,7 @@ ghost use Rattle.fam_base.specs.declared.cmd.Cmd.TheVariants as cmd;
 ghost use Rattle.fam_base.specs.declared.cmd.Content.TheVariants as content;
 ghost use Rattle.fam_journal.specs.declared.event.Ask.TheVariants as ask;
 ghost use Rattle.fam_grammar.specs.Cursor.{words_left, IsShort, Tells};
-ghost use Rattle.fam_grammar.specs.Lines.{attr_of, directory_mode, file_mode, fill_of, mkdir_takes, creat_takes, cp_takes, against_of, against_line, ask_behind, ask_line, mkdir_line, creat_line, cp_line, verify_line, read_cmd_line, check_line};
+ghost use Rattle.fam_grammar.specs.Lines.{attr_of, fill_of, against_of, ask_behind, ask_line, mkdir_line, creat_line, cp_line, verify_line, read_cmd_line, check_line};
 ghost use Rattle.fam_grammar.specs.Options.{file_options, no_file_options};
 
 use crate::cursor::fitting;

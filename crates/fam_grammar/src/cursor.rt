@@ -1,6 +1,6 @@
 //! Reading a line from the left, word by word. `specs/Cursor.antt` says what each call gives.
 
-ghost use Rattle.std.specs.Prelude.{◌≡◌, ◌≤◌, ◌+◌, ◌^◌, ◌<◌, ◌∷◌, length, ℕ, List, Option};
+ghost use Rattle.std.specs.Prelude.{◌≡◌, ◌≤◌, ◌+◌, ◌^◌, ◌<◌, ◌∷◌, length, List, Option};
 ghost use Rattle.fam_grammar.specs.Cursor.{words_left, seen, BeginsWithWord, IsShort, IsNext, IsExpected, Tells, prefix_length};
 ghost use Rattle.fam_grammar.specs.Reading.{fitting_word, ends_with, word_of};
 ghost use Rattle.fam_grammar.specs.Keywords.{event_word, command_word};

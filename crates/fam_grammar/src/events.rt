@@ -2,7 +2,7 @@
 
 ghost use Rattle.std.specs.Prelude.{◌≡◌};
 ghost use Rattle.fam_grammar.specs.Cursor.{words_left, IsShort, Tells};
-ghost use Rattle.fam_grammar.specs.Lines.{host_line, mkfs_line, begin_line, run_line, steps_line, step_line, name_line, evict_line, leak_line, fetch_line, event_behind, event_line};
+ghost use Rattle.fam_grammar.specs.Lines.{host_line, mkfs_line, begin_line, run_line, step_line, name_line, evict_line, leak_line, fetch_line, event_behind, event_line};
 ghost use Rattle.fam_grammar.specs.Options.{mkfs_options, no_mkfs_options};
 ghost use Rattle.fam_journal.specs.declared.event.Event.TheVariants as event;
 

@@ -1,7 +1,7 @@
 //! Options of a line. `specs/Options.antt` has their words.
 
 ghost use Rattle.std.specs.Prelude.{◌≡◌};
-ghost use Rattle.fam_grammar.specs.Options.{file_option_of, with_file_option, with_file_word, no_file_options, mkfs_option_of, with_mkfs_option, with_mkfs_word, no_mkfs_options, once};
+ghost use Rattle.fam_grammar.specs.Options.{file_option_of, with_file_option, with_file_word, no_file_options, mkfs_option_of, with_mkfs_option, with_mkfs_word, no_mkfs_options};
 
 use crate::keywords::is;
 use crate::numbers::{number, size};

@@ -4,7 +4,7 @@ ghost use Rattle.std.specs.Prelude.{◌≡◌, ◌<◌, ◌≤◌, IfOk, IfSome,
 ghost use Rattle.fam_base.specs.Commands.{mode_limit, read_limit};
 ghost use Rattle.fam_base.specs.Escapes.{is_plain};
 ghost use Rattle.fam_format.specs.Params.{is_format};
-ghost use Rattle.fam_grammar.specs.Spellings.{name_of, uuid_of, unescaped, in_prefix, byte_of, with_octal, path_of, file_of, id_of, mask_of, count_of, steps_of, halted_of, format_of, is_octal, mode_of, at_comma, stripe_of, stripe_with, value_behind};
+ghost use Rattle.fam_grammar.specs.Spellings.{name_of, uuid_of, unescaped, in_prefix, byte_of, with_octal, path_of, file_of, id_of, mask_of, count_of, steps_of, halted_of, format_of, is_octal, mode_of, at_comma, stripe_of, value_behind};
 ghost use Rattle.uuid.specs.Text.{hex_digit_value, parsed};
 ghost use Rattle.std.specs.List.{list_all};
 

@@ -1,6 +1,6 @@
 //! A line of a script and its words, read from the left.
 
-ghost use Rattle.std.specs.Prelude.{◌+◌, ◌^◌, ◌<◌, length};
+ghost use Rattle.std.specs.Prelude.{◌+◌, ◌^◌, ◌<◌};
 
 /// Which line it is, counted from 1, and the column behind its end.
 #[derive(Clone, Copy)]

@@ -39,17 +39,9 @@ kept_on start state left old new call notes held sound does stands journal = rec
 }
 
 part_does : (start : Image) (state left : Machines) (journal notes : List Note) (call : Call) → Reached start state journal → DoesPart call state notes left → Reached start left (journal ++ notes)
-part_does start state left journal notes (call.Declares name uuid) kept x = kept_quiet start journal notes left state x.0 x.1 kept
-part_does start state left journal notes (call.Makes name request) kept x = kept_quiet start journal notes left state x.0 x.1 kept
-part_does start state left journal notes (call.Begins name cmd) kept x = kept_quiet start journal notes left state x.0 x.1 kept
-part_does start state left journal notes (call.Steps name) kept x = kept_quiet start journal notes left state x.0 x.1 kept
 part_does start state left journal notes (call.Finishes name) kept (inl x) = operates_kept start x.host x.does.count state journal kept notes left x.does.does
 part_does start state left journal notes (call.Finishes name) kept (inr x) = kept_quiet start journal notes left state x.0 x.1 kept
-part_does start state left journal notes (call.Stops name) kept x = kept_quiet start journal notes left state x.0 x.1 kept
-part_does start state left journal notes (call.Halts name) kept x = kept_quiet start journal notes left state x.0 x.1 kept
-part_does start state left journal notes (call.Umounts name) kept x = kept_quiet start journal notes left state x.0 x.1 kept
-part_does start state left journal notes (call.Moves name line move) kept x = kept_quiet start journal notes left state x.0 x.1 kept
-part_does start state left journal notes (call.Refuses name cause) kept x = kept_quiet start journal notes left state x.0 x.1 kept
+part_does start state left journal notes e kept x = kept_quiet start journal notes left state x.0 x.1 kept
 
 pub part_on : (start : Image) (state left : Machines) (old new : WorldView) (call : Call) (notes : List Note) → Held start state old state.memory → DoesPart call state notes left
     → WorldStands (length start) left new → new.journal ≡ old.journal ++ notes → Held start left new left.memory

@@ -1,3 +1,4 @@
+pub mod Faces
 pub mod JournalLaws
 pub mod Settled
 pub mod Calls

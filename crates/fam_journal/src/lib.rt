@@ -15,13 +15,14 @@ mod laws;
 mod refusal;
 
 pub use event::{Ask, Event};
+pub use fam_protocol::is_command;
 pub use host_id::HostId;
 pub use laws::{
     a_call_without_media_does_its_row, a_call_without_media_has_its_form,
-    a_clean_run_is_the_only_one, a_held_image_reads_as_its_journal, a_new_world_is_held,
-    a_refusal_is_told_by_the_world, a_row_has_its_form, a_row_keeps_what_is_held,
-    a_run_has_its_form, a_run_is_settled, an_operation_does_its_row, an_operation_has_its_form,
-    at_most_one_entry_is_pending, every_answer_is_of_the_rules, the_history_only_grows,
-    what_a_task_says_is_legal,
+    a_clean_run_is_the_only_one, a_damaged_image_stays, a_held_image_reads_as_its_journal,
+    a_new_world_is_held, a_refusal_is_told_by_the_world, a_row_has_its_form,
+    a_row_keeps_what_is_held, a_run_has_its_form, a_run_is_settled, an_operation_does_its_row,
+    an_operation_has_its_form, at_most_one_entry_is_pending, every_answer_is_of_the_rules,
+    the_history_only_grows, what_a_task_says_is_legal,
 };
 pub use refusal::Refusal;

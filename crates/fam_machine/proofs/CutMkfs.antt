@@ -19,14 +19,14 @@ use Rattle.fam_rules.proofs.CutPuts.{IsPutInPart, Left, cut_left}
 use Rattle.fam_rules.proofs.FormattedProofs.{formatted_reads}
 use Rattle.fam_rules.proofs.Puts.{AreElsewhere}
 use Rattle.fam_machine.specs.declared.cell.Cell.{Cell}
-use Rattle.fam_machine.specs.declared.cell.Cell.TheVariants.{Absent, Clean, Dirty}
+use Rattle.fam_machine.specs.declared.cell.Cell.TheVariants.{Dirty}
 use Rattle.fam_machine.specs.declared.op.Op.{Op}
 use Rattle.fam_machine.specs.declared.op.Op.TheVariants.{Load, Store, Invalidate}
 use Rattle.fam_machine.specs.Caches.{Cache, cell_at, with_cell}
 use Rattle.fam_machine.specs.Cuts.{Cuts, Fails}
 use Rattle.fam_machine.specs.EightWords.{HasEightWords}
 use Rattle.fam_machine.specs.Mkfs.{IsHeadSent, IsOldNoneOrNew, done_ops, drop_line, expected_by, expected_ops, goes_on, mkfs_ops, put_ops, read_ops, superblock_found, write_ops}
-use Rattle.fam_machine.specs.OneLine.{IsDirty, failed_send, sent}
+use Rattle.fam_machine.specs.OneLine.{IsDirty, failed_send}
 use Rattle.fam_machine.specs.Operations.{Failure, Machine, line_no, load_ops, machine, operated, operated_all, store_ops}
 use Rattle.fam_machine.proofs.CacheLemmas.{cell_at-with_cell_same}
 use Rattle.fam_machine.proofs.Failing.{brought_fails, send_fails}

@@ -2,7 +2,6 @@
 use Rattle.std.proofs.Common.{ℕ, zero, suc, ◌≡◌, List, [], ◌∷◌, map, Option, Some, None, inl, refl, sym, ap, subst, ◌∙◌}
 use Rattle.std.specs.Prelude.{option_map, take, drop}
 use Rattle.std.proofs.lemmas.Option.{same_Some}
-use Rattle.fam_base.specs.declared.line.LineNo.{LineNo}
 use Rattle.fam_base.specs.Image.{Image, eight, line_at, with_line}
 use Rattle.fam_base.proofs.ImageLemmas.{with_line-line_at}
 use Rattle.fam_machine.specs.declared.cell.Cell.{Cell}
@@ -10,7 +9,7 @@ use Rattle.fam_machine.specs.declared.cell.Cell.TheVariants.{Absent, Clean, Dirt
 use Rattle.fam_machine.specs.declared.op.Op.{Op}
 use Rattle.fam_machine.specs.declared.op.Op.TheVariants.{Load, Store, WriteBack, Fence, Invalidate, Digest}
 use Rattle.fam_machine.specs.Caches.{asked_lines, cell_at}
-use Rattle.fam_machine.specs.HostMoves.{Evict, Fetch, Leak, Move, failed_fetch, failed_move, move_failed, moved, moved_words}
+use Rattle.fam_machine.specs.HostMoves.{Evict, Fetch, Leak, Move, failed_fetch, move_failed, moved}
 use Rattle.fam_machine.specs.OneLine.{IsAsked, IsDirty, failed_leak, failed_send, leaked, sent}
 use Rattle.fam_machine.specs.Operations.{Breaking, Failure, Machine, failed, first_not_sent, operated, send_lines}
 use Rattle.fam_machine.proofs.Failing.{brought_fails, send_fails}
@@ -63,12 +62,9 @@ module _ (m : Machine) (normal : map eight m.image ≡ m.image) (clean : (l : �
   same_line l w is = ap (λ (w : List ℕ). with_line l w m.image) is ∙ with_line-line_at m.image normal l
 
   pub operated_still : (op : Op) → (operated op m).image ≡ m.image
-  operated_still (Load l k) = refl
-  operated_still (Store l k value) = refl
-  operated_still (WriteBack l) = refl
   operated_still Fence = ap (λ (lines : List ℕ). (send_lines lines m).image) none_asked_for
   operated_still (Invalidate l) = same_line l.0 _ (sent_none (line_at m.image l.0) (cell_at m.cache l.0) (clean l.0))
-  operated_still Digest = refl
+  operated_still other = refl
 
   no_fence_fails : (through : Breaking) → failed through Fence m ≡ None
   no_fence_fails through =

@@ -15,29 +15,19 @@ use Rattle.fam_machine.proofs.CacheLemmas.{cell_at-with_cell_other}
 -- the word that a machine gives, or any where it gives none, is the word of the operation
 pub same_given : (op : Op) (m : Machine) → given_by op (unwrap_or (given op m) 0) ≡ given op m
 same_given (Load line k) m = refl
-same_given (Store line k value) m = refl
-same_given (WriteBack line) m = refl
-same_given (Invalidate line) m = refl
-same_given Fence m = refl
-same_given Digest m = refl
+same_given other m = refl
 
 -- The form of the image.
 
 pub operated_length : (op : Op) (m : Machine) → length (operated op m).image ≡ length m.image
-operated_length (Load l k) m = refl
-operated_length (Store l k value) m = refl
-operated_length (WriteBack l) m = refl
 operated_length Fence m = send_lines_length (asked_lines m.cache) m
 operated_length (Invalidate l) m = length-with_line m.image l.0 (sent (line_at m.image l.0) (cell_at m.cache l.0))
-operated_length Digest m = refl
+operated_length other m = refl
 
 pub operated_normal : (op : Op) (m : Machine) → map eight m.image ≡ m.image → map eight (operated op m).image ≡ (operated op m).image
-operated_normal (Load l k) m normal = normal
-operated_normal (Store l k value) m normal = normal
-operated_normal (WriteBack l) m normal = normal
 operated_normal Fence m normal = send_lines_normal (asked_lines m.cache) m normal
 operated_normal (Invalidate l) m normal = normal-with_line m.image normal l.0 (sent (line_at m.image l.0) (cell_at m.cache l.0))
-operated_normal Digest m normal = normal
+operated_normal other m normal = normal
 
 -- Lines.
 
@@ -52,12 +42,9 @@ IsAt Digest line = ⊤
 
 -- other lines of memory and of the cache are as before
 pub memory_away : (op : Op) (m : Machine) (line l : ℕ) → IsAt op line → l ≢ line → line_at (operated op m).image l ≡ line_at m.image l
-memory_away (Load a k) m line l at other = refl
-memory_away (Store a k value) m line l at other = refl
-memory_away (WriteBack a) m line l at other = refl
 memory_away Fence m line l at other = absurd at
 memory_away (Invalidate a) m line l at other = line_at-with_line_other m.image a.0 (sent (line_at m.image a.0) (cell_at m.cache a.0)) l (λ e. other (e ∙ at))
-memory_away Digest m line l at other = refl
+memory_away rest m line l at other = refl
 
 pub cache_away : (op : Op) (m : Machine) (line l : ℕ) → IsAt op line → l ≢ line → cell_at (operated op m).cache l ≡ cell_at m.cache l
 cache_away (Load a k) m line l at other = cell_at-with_cell_other a.0 (brought (line_at m.image a.0) (cell_at m.cache a.0)) m.cache l (λ e. other (e ∙ at))

@@ -21,7 +21,7 @@ use Rattle.fam_mail.specs.declared.note.MailNote.{MailNote}
 use Rattle.fam_mail.specs.declared.note.MailNote.TheVariants as note
 use Rattle.fam_mail.specs.declared.note.MailRefusal.{MailRefusal}
 use Rattle.fam_mail.specs.declared.note.MailRefusal.TheVariants as why
-use Rattle.fam_mail.specs.Calls.{Begins, Changes, CountEnds, Declares, FailsAt, FinishEnds, Finishes, Halts, IfAnswered, IsTurnedDown, MovesAt, MovesLine, Refuses, Stays, Stops, ask_refusal, begin_refusal, capacity_in, declare_refusal, finish_count, host_at, idle_refusal, line_refusal, no_refusal, refusal_named, refusal_of, second_writer, stays_count}
+use Rattle.fam_mail.specs.Calls.{Begins, Changes, CountEnds, Declares, FailsAt, FinishEnds, Finishes, Halts, IfAnswered, MovesAt, MovesLine, Refuses, Stays, Stops, ask_refusal, begin_refusal, capacity_in, declare_refusal, finish_count, host_at, idle_refusal, line_refusal, no_refusal, refusal_named, refusal_of, second_writer, stays_count}
 use Rattle.fam_mail.specs.Follows.{BeginsPart, ByRefusal, Completes, Continues, DoesSteps, IsBegun, IsDeclared, IsGiven, IsMoveCut, IsMoved, IsNothing, IsUnfinished, Moves, OfHost, world_of}
 use Rattle.fam_mail.specs.Happens.{Adds, HasCounted, IsByWords, SaysBy, cause_faults, faults_of, outcome}
 use Rattle.fam_mail.specs.Machines.{Machines, Operations, busy_at, is_busy, none}

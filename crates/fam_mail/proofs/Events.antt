@@ -140,9 +140,6 @@ begins_hold b runs runs' s m host ask floor inv post mine others = record {
 
 -- The writer is declared: a host of which the cache is empty, and which has no task.
 module _ (b : Box) (runs : Runs) (s : SharedState) (m : Mail) (inv : Invariant b runs s m) (none : b.writer ≡ None) (host : ℕ) (empty : (l : ℕ) → s.copy host l ≡ Absent) (idle : runs host ≡ None) where
-  with_writer : Box
-  with_writer = record b { writer = Some host }
-
   top_declared : top (s.memory (b.place 0)) (s.copy host (b.place 0)) ≡ top_at b s
   top_declared = ap (λ (c : Cell). top (s.memory (b.place 0)) c) (empty (b.place 0)) ∙ ap (λ (o : Option ℕ). top (s.memory (b.place 0)) (masters_copy o s (b.place 0))) (sym none)
 
@@ -171,11 +168,7 @@ module _ (b : Box) (runs : Runs) (s : SharedState) (m : Mail) (inv : Invariant b
   phase_declared h not at.DropGate floor t known = known
   phase_declared h not at.LoadGate floor t known = (record { low = known.0.low; copy = known.0.copy; writers = λ is. absurd (not (same_Some h host (sym is))) }, known.1)
   phase_declared h not (at.StoreRecord k) floor t known = absurd (no_writer h t.ask known.1.own)
-  phase_declared h not at.SendRecord floor t known = absurd (no_writer h t.ask known.0.own)
-  phase_declared h not at.FenceRecord floor t known = absurd (no_writer h t.ask known.0.own)
-  phase_declared h not at.StoreGate floor t known = absurd (no_writer h t.ask known.0.own)
   phase_declared h not at.SendGate floor t known = absurd (no_writer h t.ask known.own)
-  phase_declared h not at.FenceGate floor t known = absurd (no_writer h t.ask known.0.own)
   phase_declared h not at.Count floor t known = (record { low = known.0.low; high = known.0.high }, known.1)
   phase_declared h not (at.DropRecord i) floor t known =
       record { has = record { low = known.has.low; high = known.has.high }; below = known.below; read = known.read }
@@ -187,6 +180,7 @@ module _ (b : Box) (runs : Runs) (s : SharedState) (m : Mail) (inv : Invariant b
       words = known.1.words;
     },
   )
+  phase_declared h not other floor t known = absurd (no_writer h t.ask known.0.own)
 
   pub declared_holds : Invariant (record b { writer = Some host }) runs s m
   declared_holds = record {

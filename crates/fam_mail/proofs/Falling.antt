@@ -22,17 +22,11 @@ gate_falls Take t word over =
     let le : word ≤ t.capacity = below_capacity (nat_lt t.capacity word) t.capacity word Go refl over in omega (arith, le)
 
 pub falls : (p : Phase) (t : Task) (word : ℕ) → PhaseFits p t → is_over (turn_at p word t) ≡ false → left_of (task_at p word t) < left_at p t
-falls at.DropGate t word fits over = omega arith
 falls at.LoadGate t word fits over = gate_falls t.ask t word over
 falls (at.StoreRecord k) t word fits over =
     by_equal (λ (p : Phase). left_at p (record t { phase = p }) < 18 - k) k 7 at.SendRecord (at.StoreRecord (k + 1)) (λ e. omega (arith, e)) (λ ne. omega (arith, fits.0))
-falls at.SendRecord t word fits over = omega arith
-falls at.FenceRecord t word fits over = omega arith
-falls at.StoreGate t word fits over = omega arith
-falls at.SendGate t word fits over = omega arith
 falls at.FenceGate t word fits over = absurd cc
-falls at.Count t word fits over = omega arith
-falls (at.DropRecord i) t word fits over = omega arith
 falls (at.LoadRecord i k) t word fits over =
     by_equal (λ (x : Task). left_of x < 9 * (t.gate - i) - k) k 7 (record t { phase = at.DropRecord (i + 1); words = words_with 7 word t; records = records_with word t }) (record t { phase = at.LoadRecord i (k + 1); words = words_with k word t })
     (λ e. omega (arith, e, fits.0)) (λ ne. omega (arith, ne, fits.0, fits.2))
+falls other t word fits over = omega arith

@@ -34,7 +34,7 @@ use Rattle.fam_mail.specs.Standing.{Stands}
 use Rattle.fam_mail.specs.Tasks.{Task, starting}
 use Rattle.fam_mail.specs.World.{HostView, MailView, changed_at, index_from, index_of, is_named, new_host, noted}
 use Rattle.fam_mail.proofs.EventRows.{same_declare, same_named}
-use Rattle.fam_mail.proofs.Holding.{cut_held, named_put, other_name, own_name, plain_held, same_held, served_held, stands_as}
+use Rattle.fam_mail.proofs.Holding.{cut_held, other_name, own_name, plain_held, same_held, served_held, stands_as}
 use Rattle.fam_mail.proofs.Journals.{IsPlain, legal_both, legal_due, state_both}
 use Rattle.fam_mail.proofs.Members.{changed_here}
 use Rattle.fam_mail.proofs.MovedOn.{fails_stand, moves_stand}
@@ -421,19 +421,12 @@ module _ (entry : Entry) (start : Image) (records : List (List ℕ)) where
   part_of m journal held name limit notes new (inr o) = operations_of m journal held name (λ at host. IsUnfinished limit entry name at m notes new) notes new o o.does.count o.does.does
 
   pub part_held : (m : Machines) (journal : List MailNote) → Held entry start records m journal → (e : MailEvent) → IsSoundEvent e → (notes : List MailNote) (new : Machines) → DoesPart entry e m notes new → Held entry start records new (journal ++ notes)
-  part_held m journal held (event.Writer name) sound notes new x = nothing_held m journal held notes new x
-  part_held m journal held (event.Reader name) sound notes new x = nothing_held m journal held notes new x
-  part_held m journal held (event.Begin name ask) sound notes new x = nothing_held m journal held notes new x
   part_held m journal held (event.Run name ask) sound notes new (inl x) = nothing_held m journal held notes new x
   part_held m journal held (event.Run name ask) sound notes new (inr x) =
       continues_held m journal held name ask sound x.0 (IsUnfinished None entry name) (λ n o ns q c. (c.count, c.does)) notes new x.1
   part_held m journal held (event.Step name count) sound notes new x = part_of m journal held name (Some count) notes new x
   part_held m journal held (event.Finish name) sound notes new x = part_of m journal held name None notes new x
-  part_held m journal held (event.Stop name) sound notes new x = nothing_held m journal held notes new x
-  part_held m journal held (event.Halt name) sound notes new x = nothing_held m journal held notes new x
-  part_held m journal held (event.Evict name line) sound notes new x = nothing_held m journal held notes new x
-  part_held m journal held (event.Leak name line mask) sound notes new x = nothing_held m journal held notes new x
-  part_held m journal held (event.Fetch name line mask) sound notes new x = nothing_held m journal held notes new x
+  part_held m journal held other sound notes new x = nothing_held m journal held notes new x
 
   -- And so do all of them.
   pub follows_held : (events : List MailEvent) (m : Machines) (journal : List MailNote) → Held entry start records m journal → AreSound events → (notes : List MailNote) (new : Machines) → Follows entry events m notes new → Held entry start records new (journal ++ notes)

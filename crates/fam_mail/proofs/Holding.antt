@@ -88,21 +88,12 @@ stands_as rest v past past' image stands mail floors =
 
 -- A task goes on with what it was asked.
 asked_at : (p : Phase) (word : ℕ) (t : Task) → (task_at p word t).ask ≡ t.ask
-asked_at at.DropGate word t = refl
-asked_at at.LoadGate word t = refl
-asked_at (at.StoreRecord k) word t = refl
-asked_at at.SendRecord word t = refl
-asked_at at.FenceRecord word t = refl
-asked_at at.StoreGate word t = refl
-asked_at at.SendGate word t = refl
-asked_at at.FenceGate word t = refl
-asked_at at.Count word t = refl
-asked_at (at.DropRecord i) word t = refl
 asked_at (at.LoadRecord i k) word t = by (k == 7)
   where
     by : (b : Bool) → (cond b (record t { phase = at.DropRecord (i + 1); words = Rattle.fam_mail.specs.Tasks.words_with 7 word t; records = Rattle.fam_mail.specs.Tasks.records_with word t }) (record t { phase = at.LoadRecord i (k + 1); words = Rattle.fam_mail.specs.Tasks.words_with k word t })).ask ≡ t.ask
     by true = refl
     by false = refl
+asked_at other word t = refl
 
 kept_ask : (over : Bool) (next t : Task) → cond over None (Some next) ≡ Some t → next.ask ≡ t.ask
 kept_ask true next t is = absurd cc

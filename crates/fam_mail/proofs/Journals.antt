@@ -50,48 +50,25 @@ module _ (capacity : ℕ) (name : List ℕ) (s : State) (ask : Ask) (asked : s.a
 
   -- they settle what the turn does
   pub turn_mail : (t : Turn) → MaySay t ask (s.floor name) s.mail capacity → (state_along capacity s (turn_notes name t)).mail ≡ settles t ask s.mail
-  turn_mail Go says = refl
-  turn_mail Mark says = refl
   turn_mail (Found n) says =
       ap (λ (b : Bool). cond b (record (found n s.mail) { pending = own_record (s.asked name) }) (found n s.mail)) (lt-ltb n capacity says.1) ∙ ap (λ (o : Option (List ℕ)). record (found n s.mail) { pending = o }) own
-  turn_mail (Posted n) says = refl
   turn_mail (Full n) says = ap (λ (b : Bool). cond b (record (found n s.mail) { pending = own_record (s.asked name) }) (found n s.mail)) (le-ltb n capacity (omega (arith, says.1)))
-  turn_mail (Taken records) says = refl
-  turn_mail (BadBox gate most) says = refl
-  turn_mail (BadRecord i word) says = refl
+  turn_mail other says = refl
 
 -- marks
 module _ (capacity : ℕ) (name : List ℕ) (s : State) where
   pub turn_floor : path_eq name name ≡ true → (t : Turn) → (state_along capacity s (turn_notes name t)).floor name ≡ floor_after t (length s.mail.list) (s.floor name)
-  turn_floor same Go = refl
   turn_floor same Mark = ap (λ (b : Bool). cond b (Some (length s.mail.list)) (s.floor name)) same
-  turn_floor same (Found n) = refl
-  turn_floor same (Posted n) = refl
-  turn_floor same (Full n) = refl
-  turn_floor same (Taken records) = refl
-  turn_floor same (BadBox gate most) = refl
-  turn_floor same (BadRecord i word) = refl
+  turn_floor same other = refl
 
   pub others_floor : (other : List ℕ) → path_eq other name ≡ false → (t : Turn) → (state_along capacity s (turn_notes name t)).floor other ≡ s.floor other
-  others_floor other differ Go = refl
   others_floor other differ Mark = ap (λ (b : Bool). cond b (Some (length s.mail.list)) (s.floor other)) differ
-  others_floor other differ (Found n) = refl
-  others_floor other differ (Posted n) = refl
-  others_floor other differ (Full n) = refl
-  others_floor other differ (Taken records) = refl
-  others_floor other differ (BadBox gate most) = refl
-  others_floor other differ (BadRecord i word) = refl
+  others_floor other differ rest = refl
 
   -- no turn asks for anything
   pub turn_asked : (t : Turn) → (state_along capacity s (turn_notes name t)).asked ≡ s.asked
   turn_asked Go = refl
-  turn_asked Mark = refl
-  turn_asked (Found n) = refl
-  turn_asked (Posted n) = refl
-  turn_asked (Full n) = refl
-  turn_asked (Taken records) = refl
-  turn_asked (BadBox gate most) = refl
-  turn_asked (BadRecord i word) = refl
+  turn_asked other = refl
 
 -- Notes that change nothing that is settled, marked or asked, and may come anywhere.
 pub record IsPlain (capacity : ℕ) (x : MailNote) : Type 0 where

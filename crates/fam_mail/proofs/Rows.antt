@@ -132,13 +132,7 @@ both_faults (x ∷ a) b = omega (arith, both_faults a b)
 
 quiet_turn : (name : List ℕ) (t : Turn) → faults_of (turn_notes name t) ≡ 0
 quiet_turn name turn.Go = refl
-quiet_turn name turn.Mark = refl
-quiet_turn name (turn.Found n) = refl
-quiet_turn name (turn.Posted n) = refl
-quiet_turn name (turn.Full n) = refl
-quiet_turn name (turn.Taken records) = refl
-quiet_turn name (turn.BadBox gate capacity) = refl
-quiet_turn name (turn.BadRecord i word) = refl
+quiet_turn name other = refl
 
 -- a fault that is noted was counted
 pub rose_counted : (before now : ℕ) (notes : List MailNote) → faults_of notes ≡ 1 → Rose before now → HasCounted before now notes
@@ -212,19 +206,14 @@ record_words name None i word t e = last_words name (i + 1 == t.gate) (records_w
 phase_words : (name : List ℕ) (p : Phase) (word : ℕ) (t : Task) → AreByWords (turn_notes name (turn_at p word t))
 phase_words name at.DropGate word t = (tt, tt)
 phase_words name at.LoadGate word t = gate_words name t.ask t.capacity word
-phase_words name (at.StoreRecord k) word t = tt
-phase_words name at.SendRecord word t = tt
-phase_words name at.FenceRecord word t = tt
-phase_words name at.StoreGate word t = tt
-phase_words name at.SendGate word t = tt
 phase_words name at.FenceGate word t = (tt, tt)
 phase_words name at.Count word t = last_words name (t.gate == 0) []
-phase_words name (at.DropRecord i) word t = tt
 phase_words name (at.LoadRecord i k) word t = by (k == 7)
   where
     by : (b : Bool) → AreByWords (turn_notes name (cond b (record_turn (wrong_word (words_with 7 word t)) i word t) turn.Go))
     by true = record_words name (wrong_word (words_with 7 word t)) i word t refl
     by false = tt
+phase_words name other word t = tt
 
 pub operated_words : (entry : Entry) (name : List ℕ) (host : HostView) (told : MediaChange) (over : Bool) (next : HostView) (notes : List MailNote) → HostOperates entry name host told over next notes → AreByWords notes
 operated_words entry name host told over next notes operates = by operates.how

@@ -14,7 +14,7 @@ use Rattle.fam_mail.specs.declared.ask.Ask.{Ask}
 use Rattle.fam_mail.specs.declared.event.MailEvent.{MailEvent}
 use Rattle.fam_mail.specs.declared.event.MailEvent.TheVariants.{Finish, Run}
 use Rattle.fam_mail.specs.declared.note.MailNote.{MailNote}
-use Rattle.fam_mail.specs.declared.note.MailNote.TheVariants.{Writer, Reader, Start, Mark, Found, Posted, Full, Taken, BadBox, BadRecord, Stop, Halt, MediaFault, Refused}
+use Rattle.fam_mail.specs.declared.note.MailNote.TheVariants.{Mark, Found, Posted, Full, Taken, BadBox, BadRecord}
 use Rattle.fam_mail.specs.declared.note.MailRefusal.{MailRefusal}
 use Rattle.fam_mail.specs.declared.turn.Turn.{Turn}
 use Rattle.fam_mail.specs.declared.turn.Turn.TheVariants as turn
@@ -98,20 +98,10 @@ grows_found true c m own = grows_joined c m (dropped m) refl
 grows_found false c m own = grows_joined c m (dropped m) refl
 
 grows_note : (capacity : ℕ) (s : State) (x : MailNote) → Grows s.mail.list (mail_behind capacity s x).list
-grows_note capacity s (Writer name) = grows_same s.mail.list
-grows_note capacity s (Reader name) = grows_same s.mail.list
-grows_note capacity s (Start name ask) = grows_same s.mail.list
-grows_note capacity s (Mark name) = grows_same s.mail.list
 grows_note capacity s (Found name n) = grows_found (nat_lt n capacity) (n == length s.mail.list + 1) s.mail (own_record (s.asked name))
 grows_note capacity s (Posted name n) = grows_joined (n == length s.mail.list) s.mail s.mail refl
-grows_note capacity s (Full name n) = grows_same s.mail.list
 grows_note capacity s (Taken name count records) = grows_joined (count == length s.mail.list + 1) s.mail s.mail refl
-grows_note capacity s (BadBox name gate most) = grows_same s.mail.list
-grows_note capacity s (BadRecord name i word) = grows_same s.mail.list
-grows_note capacity s (Stop name) = grows_same s.mail.list
-grows_note capacity s (Halt name) = grows_same s.mail.list
-grows_note capacity s (MediaFault name line) = grows_same s.mail.list
-grows_note capacity s (Refused name cause) = grows_same s.mail.list
+grows_note capacity s other = grows_same s.mail.list
 
 grows_both : (a b c : List (List ℕ)) → Grows a b → Grows b c → Grows a c
 grows_both a b c first second = (first.0 ++ second.0, second.1 ∙ ap (λ (l : List (List ℕ)). l ++ second.0) first.1 ∙ append_assoc a first.0 second.0)
@@ -131,9 +121,6 @@ front_twice {A} (x ∷ l) q (suc k) below = ap (λ (ys : List A). x ∷ ys) (fro
 
 -- a note is a mark of this host, or changes nothing of its floor
 mark_or_not : (name : List ℕ) (s : State) (x : MailNote) → (x ≡ Mark name) ⊎ (IsNoMark name x × (floor_behind s x name ≡ s.floor name))
-mark_or_not name s (Writer other) = inr (tt, refl)
-mark_or_not name s (Reader other) = inr (tt, refl)
-mark_or_not name s (Start other ask) = inr (tt, refl)
 mark_or_not name s (Mark other) = by (path_eq name other) refl
   where
     by : (b : Bool) → path_eq name other ≡ b → (Mark other ≡ Mark name) ⊎ ((other ≡ name → ⊥) × (cond (path_eq name other) (Some (length s.mail.list)) (s.floor name) ≡ s.floor name))
@@ -142,16 +129,7 @@ mark_or_not name s (Mark other) = by (path_eq name other) refl
       λ same. absurd (let yes : path_eq name other ≡ true = ap (λ (n : List ℕ). path_eq name n) same ∙ own_name name in cc),
       ap (λ (b : Bool). cond b (Some (length s.mail.list)) (s.floor name)) e,
     )
-mark_or_not name s (Found other n) = inr (tt, refl)
-mark_or_not name s (Posted other n) = inr (tt, refl)
-mark_or_not name s (Full other n) = inr (tt, refl)
-mark_or_not name s (Taken other count records) = inr (tt, refl)
-mark_or_not name s (BadBox other gate most) = inr (tt, refl)
-mark_or_not name s (BadRecord other i word) = inr (tt, refl)
-mark_or_not name s (Stop other) = inr (tt, refl)
-mark_or_not name s (Halt other) = inr (tt, refl)
-mark_or_not name s (MediaFault other line) = inr (tt, refl)
-mark_or_not name s (Refused other cause) = inr (tt, refl)
+mark_or_not name s other = inr (tt, refl)
 
 -- the last mark, with as many records as were settled then
 record Marked (capacity : ℕ) (s : State) (name : List ℕ) (journal : List MailNote) : Type 0 where

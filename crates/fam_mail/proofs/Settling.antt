@@ -77,10 +77,6 @@ module _ (b : Box) (h : ℕ) (s : SharedState) (m m' : Mail) (settles : Settles 
   pub task_settled : (r : Run) → TaskHolds b h r s m → TaskHolds b h r s m'
   task_settled r holds = record { capacity = holds.capacity; long = holds.long; post = holds.post; phase = phase_settled r.task.phase r.floor r.task holds.phase }
 
--- nothing is settled
-pub settles_same : (b : Box) (h : ℕ) (s : SharedState) (m : Mail) → Settles b h s m m
-settles_same b h s m = record { grows = omega arith; front = λ i le. refl; writing = λ ask gate w. w; published = λ ask gate p. p }
-
 -- the pending record joins, which memory's gate counts: nobody writes it any more
 pub settles_joined : (b : Box) (h : ℕ) (s : SharedState) (m : Mail) → Core b s m → gate_at b s ≡ length m.list + 1 → Settles b h s m (joined m)
 settles_joined b h s m core counted = record {
@@ -118,9 +114,6 @@ pub found_pending : (n : ℕ) (m : Mail) → (found n m).pending ≡ None
 found_pending n m = by_equal (λ (x : Mail). x.pending ≡ None) n (length m.list + 1) (joined m) (dropped m) (λ e. refl) (λ ne. refl)
 
 module _ (b : Box) (s : SharedState) (m : Mail) (core : Core b s m) (n : ℕ) (top_is : top_at b s ≡ n) (gate_is : n ≤ gate_at b s) (pending : Option (List ℕ)) (room : n + length (listed pending) ≤ b.capacity) where
-  settled_now : Mail
-  settled_now = record (found n m) { pending = pending }
-
   low : length m.list ≤ n
   low = omega (arith, core.low, core.order, top_is)
 

@@ -416,46 +416,19 @@ module _ (b : Box) (host : ℕ) (floor : Option ℕ) (m : Mail) (s : SharedState
 
 -- a task goes on with what it was asked, on the same box, and with eight words
 same_ask : (p : Phase) (word : ℕ) (t : Task) → (task_at p word t).ask ≡ t.ask
-same_ask at.DropGate word t = refl
-same_ask at.LoadGate word t = refl
-same_ask (at.StoreRecord k) word t = refl
-same_ask at.SendRecord word t = refl
-same_ask at.FenceRecord word t = refl
-same_ask at.StoreGate word t = refl
-same_ask at.SendGate word t = refl
-same_ask at.FenceGate word t = refl
-same_ask at.Count word t = refl
-same_ask (at.DropRecord i) word t = refl
 same_ask (at.LoadRecord i k) word t = by_equal (λ (x : Task). x.ask ≡ t.ask) k 7
     (record t { phase = at.DropRecord (i + 1); words = words_with 7 word t; records = records_with word t }) (record t { phase = at.LoadRecord i (k + 1); words = words_with k word t }) (λ e. refl) (λ ne. refl)
+same_ask other word t = refl
 
 same_capacity : (p : Phase) (word : ℕ) (t : Task) → (task_at p word t).capacity ≡ t.capacity
-same_capacity at.DropGate word t = refl
-same_capacity at.LoadGate word t = refl
-same_capacity (at.StoreRecord k) word t = refl
-same_capacity at.SendRecord word t = refl
-same_capacity at.FenceRecord word t = refl
-same_capacity at.StoreGate word t = refl
-same_capacity at.SendGate word t = refl
-same_capacity at.FenceGate word t = refl
-same_capacity at.Count word t = refl
-same_capacity (at.DropRecord i) word t = refl
 same_capacity (at.LoadRecord i k) word t = by_equal (λ (x : Task). x.capacity ≡ t.capacity) k 7
     (record t { phase = at.DropRecord (i + 1); words = words_with 7 word t; records = records_with word t }) (record t { phase = at.LoadRecord i (k + 1); words = words_with k word t }) (λ e. refl) (λ ne. refl)
+same_capacity other word t = refl
 
 still_long : (p : Phase) (word : ℕ) (t : Task) → length (task_at p word t).words ≡ length t.words
-still_long at.DropGate word t = refl
-still_long at.LoadGate word t = refl
-still_long (at.StoreRecord k) word t = refl
-still_long at.SendRecord word t = refl
-still_long at.FenceRecord word t = refl
-still_long at.StoreGate word t = refl
-still_long at.SendGate word t = refl
-still_long at.FenceGate word t = refl
-still_long at.Count word t = refl
-still_long (at.DropRecord i) word t = refl
 still_long (at.LoadRecord i k) word t = by_equal (λ (x : Task). length x.words ≡ length t.words) k 7
     (record t { phase = at.DropRecord (i + 1); words = words_with 7 word t; records = records_with word t }) (record t { phase = at.LoadRecord i (k + 1); words = words_with k word t }) (λ e. length-set t.words 7 word) (λ ne. length-set t.words k word)
+still_long other word t = refl
 
 -- A step of a run.
 pub step_holds : (b : Box) (host word : ℕ) (m : Mail) (r : Run) (old new : Runs) (s s' : SharedState) → Invariant b old s m → Steps b host word m r old new s s' → StepHolds b word m r new s'

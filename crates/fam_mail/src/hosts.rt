@@ -1,6 +1,6 @@
 //! Hosts with a mailbox, whom a call is for, and why it is refused at once.
 
-ghost use Rattle.std.specs.Prelude.{◌≡◌, ◌+◌, ◌<◌, ◌≤◌, ◌++◌, ◌∷◌, [], ℕ, List, IfOk, IfSome, Some, None, OnErr, OnOk, is_some, vec_capacity, vec_len};
+ghost use Rattle.std.specs.Prelude.{◌≡◌, ◌+◌, ◌<◌, ◌≤◌, ◌++◌, ◌∷◌, [], List, IfOk, IfSome, Some, None, OnOk, is_some, vec_capacity, vec_len};
 ghost use Rattle.std.specs.FinMap as map;
 ghost use Rattle.fam_mail.specs.Tasks.{most_records, starting};
 ghost use Rattle.fam_mail.specs.Calls.{IsPlaced, begin_refusal, declare_refusal, idle_refusal, line_refusal, no_refusal};

@@ -5,7 +5,6 @@ ghost use Rattle.std.specs.Prelude.{ℕ, ◌≡◌, ◌≢◌, ◌↔◌, IsTrue
 ghost use Rattle.fam_machine.specs.declared.op.Op.{Op};
 ghost use Rattle.fam_rules.specs.Place.{IsProperEntry, line_bytes};
 ghost use Rattle.fam_rules.specs.Written.{file_line};
-ghost use Rattle.fam_mail.specs.Boxes.{capacity_of};
 ghost use Rattle.fam_mail.specs.declared.phase.Phase.TheVariants as at;
 ghost use Rattle.fam_mail.specs.Tasks as spec;
 ghost use Rattle.fam_mail.specs.Tasks.{IsSound, is_over, most_records, op_of, starting, task_of, turn_of};

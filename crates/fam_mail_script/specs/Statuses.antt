@@ -1,5 +1,5 @@
 -- What the notes of a mailbox count for. docs/MANUAL.md, "Mailboxes".
-use Rattle.std.specs.Prelude.{ℕ, Bool, true, false, ◌&&◌, List, [], ◌∷◌}
+use Rattle.std.specs.Prelude.{Bool, true, ◌&&◌, List, [], ◌∷◌}
 use Rattle.fam_outcomes.specs.declared.status.Status.{Status}
 use Rattle.fam_outcomes.specs.declared.status.Status.TheVariants as status
 use Rattle.fam_outcomes.specs.Statuses.{is_done}

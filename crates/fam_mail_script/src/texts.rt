@@ -1,6 +1,6 @@
 //! Notes in print. `specs/Texts.antt` has their lines.
 
-ghost use Rattle.std.specs.Prelude.{◌≡◌, ◌++◌, ◌≤◌, IfOk, OnOk, codes, length};
+ghost use Rattle.std.specs.Prelude.{◌≡◌, ◌++◌, ◌≤◌, IfOk, OnOk, codes};
 ghost use Rattle.fam_mail_script.specs.Texts as text;
 ghost use Rattle.fam_outcomes.specs.Texts as lines;
 

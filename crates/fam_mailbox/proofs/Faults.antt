@@ -1,16 +1,11 @@
 -- Why no event is run, by what was read.
-use Rattle.std.proofs.Common.{◌≡◌, ℕ, ◌+◌, ◌≤◌, ◌<◌, List, length, Option, Some, Result, Ok, Err, inl, inr, arith}
+use Rattle.std.proofs.Common.{◌≡◌, ℕ, ◌+◌, ◌≤◌, ◌<◌, List, length, Option, Some, Result, Ok, Err, subst, inl, inr, arith}
 use Rattle.std.specs.Prelude.{IfErr, IfOk}
 use Rattle.std.specs.FinMap as map
 use Rattle.fam_base.specs.Image.{Image, line_at}
 use Rattle.fam_base.specs.declared.entry.Entry.{Entry}
 use Rattle.fam_base.specs.declared.entry.Kind.TheVariants as kind
 use Rattle.fam_base.specs.declared.entry.Params.{Params}
-use Rattle.fam_dup.specs.Findings.{FaultInLog, FaultInSlot, FaultInSuper, Finding, SmallFrom, from_or}
-use Rattle.fam_dup.proofs.Failing.{rose_later}
-use Rattle.fam_format.specs.declared.faults.LogFault.{LogFault}
-use Rattle.fam_format.specs.declared.faults.Reason.{Reason}
-use Rattle.fam_format.specs.declared.faults.SuperFault.{SuperFault}
 use Rattle.fam_format.specs.Layout.{least_lines}
 use Rattle.fam_format.specs.Reading as read
 use Rattle.fam_format.specs.Reading.{Reading, reading}
@@ -28,25 +23,10 @@ use Rattle.fam_mailbox.specs.declared.fault.LookFault.{LookFault}
 use Rattle.fam_mailbox.specs.declared.fault.LookFault.TheVariants as fault
 use Rattle.fam_mailbox.specs.Lookups.{HasEntries, HasFile, IsLookCaused, IsNoFile, IsSo, look_of}
 
--- What an image reads as.
-
-pub in_super : (r : Reading) (f : SuperFault) → ((rest : List Entry → Finding) → from_or r rest ≡ FaultInSuper f) → r ≡ read.NoSuperblock f
-in_super (read.NoSuperblock g) f told = let e = told (λ l. SmallFrom 0) in cc
-in_super (read.BadHeader g) f told = let e = told (λ l. SmallFrom 0) in absurd cc
-in_super (read.BadSlot i reason) f told = let e = told (λ l. SmallFrom 0) in absurd cc
-in_super (read.Sound p entries) f told = let e = told (λ l. SmallFrom 0) in absurd cc
-
-pub in_log : (r : Reading) (f : LogFault) → ((rest : List Entry → Finding) → from_or r rest ≡ FaultInLog f) → r ≡ read.BadHeader f
-in_log (read.NoSuperblock g) f told = let e = told (λ l. SmallFrom 0) in absurd cc
-in_log (read.BadHeader g) f told = let e = told (λ l. SmallFrom 0) in cc
-in_log (read.BadSlot i reason) f told = let e = told (λ l. SmallFrom 0) in absurd cc
-in_log (read.Sound p entries) f told = let e = told (λ l. SmallFrom 0) in absurd cc
-
-pub in_slot : (r : Reading) (seq : ℕ) (reason : Reason) → ((rest : List Entry → Finding) → from_or r rest ≡ FaultInSlot seq reason) → r ≡ read.BadSlot seq reason
-in_slot (read.NoSuperblock g) seq reason told = let e = told (λ l. SmallFrom 0) in absurd cc
-in_slot (read.BadHeader g) seq reason told = let e = told (λ l. SmallFrom 0) in absurd cc
-in_slot (read.BadSlot i other) seq reason told = let e = told (λ l. SmallFrom 0) in cc
-in_slot (read.Sound p entries) seq reason told = let e = told (λ l. SmallFrom 0) in absurd cc
+-- a count that rose has risen from what it was before
+rose_later : (first before now : ℕ) → first ≤ before → Rose before now → Rose first now
+rose_later first before now later (inl rose) = inl (omega arith)
+rose_later first before now later (inr last) = inr last
 
 -- What stands at a path.
 
@@ -76,27 +56,15 @@ pub no_files : (path : List ℕ) (told : Option Image) (params : Params) (entrie
 no_files path told params entries (Ok e) has none = tt
 no_files path told params entries (Err f) has none = λ image is. let h = has image is in no_file_so path image params entries f h.enough h.reads none
 
-pub no_file_caused : (lines : ℕ) (media : MediaChange) (path : List ℕ) (entries : List Entry) (f : LookFault) → IsNoFile entries path f → IsLookCaused lines media f
-no_file_caused lines media path entries (fault.ImageSmall n) none = tt
-no_file_caused lines media path entries (fault.NoSuper word) none = tt
-no_file_caused lines media path entries (fault.BadSuper field found wanted) none = tt
-no_file_caused lines media path entries (fault.BadLog field found wanted) none = tt
-no_file_caused lines media path entries (fault.BadEntry seq reason) none = tt
-no_file_caused lines media path entries (fault.NotFound m) none = tt
-no_file_caused lines media path entries (fault.IsDirectory m) none = tt
-no_file_caused lines media path entries (fault.BoxSmall size) none = tt
-no_file_caused lines media path entries (fault.BadBox gate capacity) none = tt
-no_file_caused lines media path entries (fault.BadRecord i) none = tt
-no_file_caused lines media path entries (fault.MediaFault at) none = absurd none
-no_file_caused lines media path entries fault.OutOfMemory none = tt
-
 -- The box.
 
 pub box_so : (path : List ℕ) (image : Image) (told : Option Image) (entry : Entry) (f : BoxFault) → told ≡ Some image → HasFile path image entry → 128 ≤ entry.size
-    → IfWrong f (λ w. IfModelled told (λ i. box_of (file_line entry) (capacity_of entry.size) (line_at i) ≡ Err w)) → IsSo path image (look_of f)
-box_so path image told entry (check.Wrong (wrong.BadBox gate capacity)) is file room none = record { entry = entry; file = file; room = room; wrong_is = none image is }
-box_so path image told entry (check.Wrong (wrong.BadRecord i)) is file room none = record { entry = entry; file = file; room = room; wrong_is = none image is }
-box_so path image told entry (check.MediaFault line) is file room none = tt
+    → IfWrong f (λ w. IfModelled told (λ i. box_of (file_line entry) (capacity_of entry.size) (line_at i) ≡ Err w))
+    → IfFailed f (λ line. IsReadLine (file_line entry) (capacity_of entry.size) told line.0) → IsSo path image (look_of f)
+box_so path image told entry (check.Wrong (wrong.BadBox gate capacity)) is file room none read = record { entry = entry; file = file; room = room; wrong_is = none image is }
+box_so path image told entry (check.Wrong (wrong.BadRecord i)) is file room none read = record { entry = entry; file = file; room = room; wrong_is = none image is }
+box_so path image told entry (check.MediaFault line) is file room none read =
+    inr (record { entry = entry; file = file; room = room; line_is = subst (λ (i : Option Image). IsReadLine (file_line entry) (capacity_of entry.size) i line.0) is read })
 
 -- a line that is read is the media's
 read_within : (place : ℕ → ℕ) (capacity line lines : ℕ) (told : Option Image) → ((j : ℕ) → j ≤ capacity → place j < lines) → IsReadLine place capacity told line → line < lines

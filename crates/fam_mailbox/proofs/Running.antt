@@ -28,7 +28,7 @@ use Rattle.fam_program.proofs.Texts.Pieces.{part_both, whole_both}
 use Rattle.fam_rules.specs.Written.{file_line}
 use Rattle.fam_mailbox.specs.Lookups.{IsPlaced}
 use Rattle.fam_mailbox.specs.Puts.{PutShort}
-use Rattle.fam_mailbox.specs.Runs.{AllDone, HasDone, MailEnding, MailRan, SinkFails, WantsMemory}
+use Rattle.fam_mailbox.specs.Runs.{AllDone, EndsIn, HasDone, MailEnding, MailRan, PutsByEvent, PutsFirst, PutsPart, SinkFails, WantsMemory}
 use Rattle.fam_mailbox.proofs.Found.{lines_apart, lines_within}
 use Rattle.fam_mailbox.proofs.Rendering.{short_behind, text_both}
 
@@ -157,7 +157,7 @@ module _ {M : Type 0} (size : M → ℕ) (state : M → MediaState) (entry : Ent
       from_within =
           let sum = ap (λ (ns : List MailNote). length ns) n.joined ∙ length-append v.journal n.notes in omega (arith, sum, kept_is)
 
-      rest : drop kept w.journal ≡ n.notes
+      pub rest : drop kept w.journal ≡ n.notes
       rest = ap (λ (k : ℕ). drop k w.journal) kept_is ∙ ap (drop (length v.journal)) n.joined ∙ drop_front v.journal n.notes
 
       whole : v.journal ++ drop kept w.journal ≡ w.journal
@@ -184,8 +184,8 @@ module _ {M : Type 0} (size : M → ℕ) (state : M → MediaState) (entry : Ent
   module _ {K : Type 0} (sink_state : K → SinkState) (out last : K) where
     ended : (ending : MailEnding) (next : M) (w : MailView) (given : Status) → w.entry ≡ entry → HasCounted (state media).faults (state next).faults w.journal → AreByWords w.journal
         → ((start : Image) → (state media).image ≡ Some start → (records : List (List ℕ)) × (box_of (file_line w.entry) (capacity_of w.entry.size) (line_at start) ≡ Ok records) × HasDone ending start records events w (state next).image)
-        → Rattle.fam_mailbox.specs.Runs.PutsMail ending w.journal (change sink_state out last) given → MailRan entry events (change state media next) (change sink_state out last) given
-    ended ending next w given entry_is counted words done puts = record {
+        → Rattle.fam_mailbox.specs.Runs.PutsMail ending w.journal (change sink_state out last) given → PutsByEvent ending entry events w.journal (change state media next) (change sink_state out last) given → MailRan entry events (change state media next) (change sink_state out last) given
+    ended ending next w given entry_is counted words done puts each = record {
       ending = ending;
       journal = w.journal;
       counted = counted;
@@ -201,6 +201,7 @@ module _ {M : Type 0} (size : M → ℕ) (state : M → MediaState) (entry : Ent
             done = d.2;
           };
       put = puts;
+      each = each;
     }
 
     -- all events are done
@@ -211,30 +212,30 @@ module _ {M : Type 0} (size : M → ℕ) (state : M → MediaState) (entry : Ent
         (λ start is.
         let t = going.told start is in
         (t.records, t.run.reads, subst (λ (es : List MailEvent). HasRun start t.records es w (state next).image) (take_all count events all) t.run))
-        (good, put)
+        (good, put) tt
 
     -- the sink failed behind an event
     pub sink_ran : (count : ℕ) (next : M) (w : MailView) → Going size state entry events count media next w → PutPart (render w.journal) (change sink_state out last)
-        → MailRan entry events (change state media next) (change sink_state out last) status.SinkFault
-    sink_ran count next w going put =
+        → EndsIn entry (Ok tt) PutsPart events w.journal (change state media next) (change sink_state out last) → MailRan entry events (change state media next) (change sink_state out last) status.SinkFault
+    sink_ran count next w going put each =
         ended SinkFails next w status.SinkFault going.entry_is going.counted going.by_words
-        (λ start is. let t = going.told start is in (t.records, t.run.reads, record { count = count; run = t.run })) (refl, put)
+        (λ start is. let t = going.told start is in (t.records, t.run.reads, record { count = count; run = t.run })) (refl, put) each
 
     -- no memory was left behind an event
     pub short_ran : (count : ℕ) (next : M) (w : MailView) (given : Status) → Going size state entry events count media next w → PutShort w.journal (change sink_state out last) given
-        → MailRan entry events (change state media next) (change sink_state out last) given
-    short_ran count next w given going put =
+        → EndsIn entry (Ok tt) (PutsFirst given) events w.journal (change state media next) (change sink_state out last) → MailRan entry events (change state media next) (change sink_state out last) given
+    short_ran count next w given going put each =
         ended WantsMemory next w given going.entry_is going.counted going.by_words
-        (λ start is. let t = going.told start is in (t.records, t.run.reads, inl record { count = count; run = t.run })) put
+        (λ start is. let t = going.told start is in (t.records, t.run.reads, inl record { count = count; run = t.run })) put (inl each)
 
     -- or in it
     pub cut_ran : (count : ℕ) (here next : M) (v w : MailView) (given : Status) (e : MailEvent) (full : OutOfMemory) → Going size state entry events count media here v → Noted state here next v w → slice_get events count ≡ Some e
         → ((start : Image) (records : List (List ℕ)) (done : List MailEvent) → HasRun start records done v (state here).image → RunsOn start records done e w (state next).image (Err full))
-        → PutShort w.journal (change sink_state out last) given → MailRan entry events (change state media next) (change sink_state out last) given
-    cut_ran count here next v w given e full going n is runs put =
+        → PutShort w.journal (change sink_state out last) given → EndsIn entry (Err (record {})) (PutsFirst given) events w.journal (change state media next) (change sink_state out last) → MailRan entry events (change state media next) (change sink_state out last) given
+    cut_ran count here next v w given e full going n is runs put each =
         ended WantsMemory next w given (entry_here count here next v w going n) (joined_counted count here next v w going n) (joined_words count here next v w going n)
         (λ start is_start.
         let t = going.told start is_start in
         let part = runs start t.records (take count events) t.run in
         (t.records, part.reads, inr record { count = count; event = e; event_is = is; run = part }))
-        put
+        put (inr each)

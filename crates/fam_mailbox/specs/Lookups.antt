@@ -1,6 +1,6 @@
 -- The file of a mailbox: what stands at its path, whether that is a box, and what is put where it is none. docs/MANUAL.md,
 -- "Mailboxes".
-use Rattle.std.specs.Prelude.{ℕ, ⊤, ◌≡◌, ◌<◌, ◌≤◌, ◌++◌, ◌*◌, List, codes, length, Some, None, Err}
+use Rattle.std.specs.Prelude.{ℕ, ⊤, ◌≡◌, ◌⊎◌, ◌<◌, ◌≤◌, ◌++◌, ◌*◌, List, codes, length, Some, None, Err}
 use Rattle.std.specs.FinMap as map
 use Rattle.fam_base.specs.Image.{Image, line_at}
 use Rattle.fam_base.specs.declared.entry.Entry.{Entry}
@@ -17,6 +17,7 @@ use Rattle.fam_format.specs.Tree.{replay}
 use Rattle.fam_format.specs.Units.{units_in}
 use Rattle.fam_journal.specs.declared.refusal.Refusal.TheVariants as why
 use Rattle.fam_mail.specs.Boxes.{box_of, capacity_of}
+use Rattle.fam_mail.specs.Checks.{IsReadLine}
 use Rattle.fam_mail.specs.declared.check.BoxFault.{BoxFault}
 use Rattle.fam_mail.specs.declared.check.BoxFault.TheVariants as check
 use Rattle.fam_mail.specs.declared.check.WrongBox.{WrongBox}
@@ -28,6 +29,9 @@ use Rattle.fam_outcomes.specs.declared.status.Status.TheVariants as status
 use Rattle.fam_outcomes.specs.Programs.{memory_line}
 use Rattle.fam_outcomes.specs.Texts.{fault_text, line, log_text, number, slot_text, super_text}
 use Rattle.fam_program.specs.Dups.{refused_line}
+use Rattle.fam_replay.specs.Sources.{IsAskedFor}
+use Rattle.fam_replay.specs.declared.fault.ReadFault.{ReadFault}
+use Rattle.fam_replay.specs.declared.fault.ReadFault.TheVariants as log_read
 use Rattle.fam_rules.specs.Place.{IsOnce, line_bytes}
 use Rattle.fam_rules.specs.Written.{file_line}
 use Rattle.fam_mailbox.specs.declared.fault.LookFault.{LookFault}
@@ -85,7 +89,19 @@ pub record HasWrongBox (path : List ℕ) (image : Image) (wrong : WrongBox) : Ty
   pub room : 128 ≤ entry.size
   pub wrong_is : box_of (file_line entry) (capacity_of entry.size) (line_at image) ≡ Err wrong
 
--- what is so of an image where a fault comes: no fault comes where another one stands before it
+-- a line of the box in the file at this path: the gate's, or that of a record below the gate behind records
+pub record IsBoxLine (path : List ℕ) (image : Image) (at : ℕ) : Type 0 where
+  pub entry : Entry
+  pub file : HasFile path image entry
+  pub room : 128 ≤ entry.size
+  pub line_is : IsReadLine (file_line entry) (capacity_of entry.size) (Some image) at
+
+-- a line that is asked for: of the log, as a reading goes through it, or of the box in the file at the path
+abbrev pub IsLookedAt : List ℕ → Image → ℕ → Type 0
+IsLookedAt path image at = IsAskedFor (line_at image) (line_bytes * length image) at ⊎ IsBoxLine path image at
+
+-- what is so of an image where a fault comes: no fault comes where another one stands before it, and the line of a media fault is
+-- one that is asked for
 abbrev pub IsSo : List ℕ → Image → LookFault → Type 0
 IsSo path image (fault.ImageSmall lines) = (lines ≡ length image) × (length image < least_lines)
 IsSo path image (fault.NoSuper word) = ReadsAs image (read.NoSuperblock (super.NoSuper word))
@@ -97,7 +113,7 @@ IsSo path image (fault.IsDirectory m) = HasDirectory path image m
 IsSo path image (fault.BoxSmall size) = HasSmallFile path image size
 IsSo path image (fault.BadBox gate capacity) = HasWrongBox path image (wrong.BadBox gate capacity)
 IsSo path image (fault.BadRecord i) = HasWrongBox path image (wrong.BadRecord i)
-IsSo path image (fault.MediaFault at) = ⊤
+IsSo path image (fault.MediaFault at) = IsLookedAt path image at.0
 IsSo path image fault.OutOfMemory = ⊤
 
 -- the media failed only where its count of faults rose, at one of its lines
@@ -143,6 +159,15 @@ IsNoFile entries path (fault.BadBox gate capacity) = ⊥
 IsNoFile entries path (fault.BadRecord i) = ⊥
 IsNoFile entries path (fault.MediaFault at) = ⊥
 IsNoFile entries path fault.OutOfMemory = ⊥
+
+-- a fault of the image's log
+abbrev pub look_of_read : ReadFault → LookFault
+look_of_read (log_read.NoSuper word) = fault.NoSuper word
+look_of_read (log_read.BadSuper field found wanted) = fault.BadSuper field found wanted
+look_of_read (log_read.BadLog field found wanted) = fault.BadLog field found wanted
+look_of_read (log_read.BadEntry seq reason) = fault.BadEntry seq reason
+look_of_read (log_read.MediaFault line) = fault.MediaFault line
+look_of_read log_read.OutOfMemory = fault.OutOfMemory
 
 -- the fault that a box is none for, or that the media failed
 abbrev pub look_of : BoxFault → LookFault

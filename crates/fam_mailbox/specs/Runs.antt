@@ -1,18 +1,19 @@
 -- How a run of a mailbox's events ends, and what is put of it.
-use Rattle.std.specs.Prelude.{ℕ, ◌≡◌, ◌⊎◌, List, take, slice_get, Option, Some, Ok}
+use Rattle.std.specs.Prelude.{ℕ, ⊤, ◌≡◌, ◌⊎◌, ◌≤◌, ◌++◌, List, take, slice_get, Option, Some, Result, Ok, Err}
 use Rattle.fam_base.specs.Image.{Image, line_at}
 use Rattle.fam_base.specs.declared.entry.Entry.{Entry}
+use Rattle.fam_base.specs.declared.line.OutOfMemory.{OutOfMemory}
 use Rattle.fam_mail.specs.Boxes.{box_of, capacity_of}
 use Rattle.fam_mail.specs.declared.event.MailEvent.{MailEvent}
 use Rattle.fam_mail.specs.declared.note.MailNote.{MailNote}
-use Rattle.fam_mail.specs.Happens.{AreByWords, HasCounted, HasRun, HasRunPart}
+use Rattle.fam_mail.specs.Happens.{AreByWords, HasCounted, HasRun, HasRunPart, RunsOn}
 use Rattle.fam_mail.specs.Legal.{Legal, state_of}
 use Rattle.fam_mail.specs.RunLaws.{IsLeft}
 use Rattle.fam_mail.specs.World.{MailView}
 use Rattle.fam_mail_script.specs.Statuses.{is_good}
 use Rattle.fam_mail_script.specs.Texts.{render}
 use Rattle.fam_media.specs.Outside.{IfModelled}
-use Rattle.fam_media.specs.States.{MediaChange, SinkChange}
+use Rattle.fam_media.specs.States.{MediaChange, SinkChange, SinkState}
 use Rattle.fam_outcomes.specs.declared.status.Status.{Status}
 use Rattle.fam_outcomes.specs.declared.status.Status.TheVariants as status
 use Rattle.fam_outcomes.specs.Statuses.{good_status}
@@ -61,6 +62,51 @@ pub record HasMailed (ending : MailEnding) (entry : Entry) (events : List MailEv
   pub journal_is : world.journal ≡ journal
   pub done : HasDone ending start records events world now
 
+-- The event that ended a run early.
+
+-- from an image of which the box reads as a list: the first events lead to a world with these notes before it, and then it was done,
+-- or a part of it where no memory was left
+pub record IsLastEvent (entry : Entry) (ended : Result (Unit {0}) OutOfMemory) (start : Image) (events : List MailEvent) (event : MailEvent) (before journal : List MailNote) (now : Option Image) : Type 0 where
+  pub records : List (List ℕ)
+  pub first : MailView
+  pub first_entry : first.entry ≡ entry
+  pub before_is : first.journal ≡ before
+  pub shown : Option Image
+  pub done : HasRun start records events first shown
+  pub world : MailView
+  pub world_entry : world.entry ≡ entry
+  pub journal_is : world.journal ≡ journal
+  pub runs : RunsOn start records events event world now ended
+
+-- the notes of all events before it were put, whole, and this of its own; nothing was run behind it
+pub record EndsIn (entry : Entry) (ended : Result (Unit {0}) OutOfMemory) (Puts : List MailNote → SinkChange → Type 0) (events : List MailEvent) (journal : List MailNote) (media : MediaChange) (s : SinkChange) : Type 0 where
+  pub count : ℕ
+  pub event : MailEvent
+  pub event_is : slice_get events count ≡ Some event
+  pub before : List MailNote
+  pub notes : List MailNote
+  pub joined : journal ≡ before ++ notes
+  pub mid : SinkState
+  pub later : s.old.faults ≤ mid.faults
+  pub whole : PutWhole (render before) (record { old = s.old; new = mid })
+  pub puts : Puts notes (record { old = mid; new = s.new })
+  pub told : IfModelled media.old.image (λ start. IsLastEvent entry ended start (take count events) event before journal media.new.image)
+
+-- of its notes a part was put
+abbrev pub PutsPart : List MailNote → SinkChange → Type 0
+PutsPart notes s = PutPart (render notes) s
+
+-- or the first ones, and that no memory is left
+abbrev pub PutsFirst : Status → List MailNote → SinkChange → Type 0
+PutsFirst given notes s = PutShort notes s given
+
+-- each event's notes are put when it is done, and nothing is run behind a put that failed, or where no memory was left
+abbrev pub PutsByEvent : MailEnding → Entry → List MailEvent → List MailNote → MediaChange → SinkChange → Status → Type 0
+PutsByEvent AllDone entry events journal media s given = ⊤
+PutsByEvent SinkFails entry events journal media s given = EndsIn entry (Ok tt) PutsPart events journal media s
+PutsByEvent WantsMemory entry events journal media s given =
+    EndsIn entry (Ok tt) (PutsFirst given) events journal media s ⊎ EndsIn entry (Err (record {})) (PutsFirst given) events journal media s
+
 -- events ran on the box in the file of an entry: one journal, of which the media's count rose by at least as many faults as it tells,
 -- and which is put
 pub record MailRan (entry : Entry) (events : List MailEvent) (media : MediaChange) (s : SinkChange) (given : Status) : Type 0 where
@@ -70,6 +116,7 @@ pub record MailRan (entry : Entry) (events : List MailEvent) (media : MediaChang
   pub by_words : AreByWords journal
   pub told : IfModelled media.old.image (λ start. HasMailed ending entry events journal start media.new.image)
   pub put : PutsMail ending journal s given
+  pub each : PutsByEvent ending entry events journal media s given
 
 -- what a run leaves: its journal is legal from the list that the box was read as, and the image reads as what the journal settles, or
 -- as that followed by the pending record; its other lines are as at first

@@ -1,12 +1,9 @@
 //! The file at a path of an image, and the box in it.
 
-ghost use Rattle.std.specs.Prelude.{◌≡◌, ◌≤◌, ℕ, IfErr, IfOk, List, Ok, Some, length};
+ghost use Rattle.std.specs.Prelude.{◌≡◌, ◌*◌, ◌<◌, ◌≤◌, ℕ, IfErr, IfOk, List, Ok, Some, length};
 ghost use Rattle.std.specs.FinMap as map;
 ghost use Rattle.fam_base.specs.Image.{Image, line_at};
-ghost use Rattle.fam_base.specs.declared.entry.Entry.{Entry as EntryValue};
 ghost use Rattle.fam_base.specs.declared.entry.Kind.TheVariants as kind;
-ghost use Rattle.fam_dup.specs.Ends.{IsCausedByFrom, NamesLine};
-ghost use Rattle.fam_dup.specs.Findings.{Finding, Names, class_of, from_or};
 ghost use Rattle.fam_format.specs.Layout.{least_lines};
 ghost use Rattle.fam_format.specs.Reading.{reading};
 ghost use Rattle.fam_format.specs.Tree.{replay};
@@ -14,32 +11,34 @@ ghost use Rattle.fam_mail.specs.Boxes.{IsBox, capacity_of};
 ghost use Rattle.fam_media.specs.Causes.{IsSteady};
 ghost use Rattle.fam_media.specs.Outside.{IfModelled};
 ghost use Rattle.fam_media.specs.States.{MediaChange, change};
+ghost use Rattle.fam_replay.specs.Sources.{FailsAt, IsAskedFor, IsReadCaused, Tells};
+ghost use Rattle.fam_rules.specs.Place.{line_bytes};
 ghost use Rattle.fam_rules.specs.Written.{file_line};
-ghost use Rattle.fam_mailbox.specs.Lookups.{HasFile, IsLookCaused, IsNoFile, IsPlaced, IsPlacedIn, IsSo, look_of};
+ghost use Rattle.fam_mailbox.specs.Lookups.{HasFile, IsLookCaused, IsNoFile, IsPlaced, IsPlacedIn, IsSo, look_of, look_of_read};
 
 use crate::fault::LookFault;
 use fam_base::{Entry, Kind, Path};
-use fam_dup::{DupFault, read_source};
 use fam_format::LEAST_LINES;
 use fam_mail::{BoxFault, WrongBox, check_box};
 use fam_media::Media;
 use fam_plan::Plan;
+use fam_replay::{ReadFault, read_source};
 use std::alloc::Global;
 
 /// The fewest bytes of a box: a gate, and one record.
 const LEAST_BOX: u64 = 128;
 
 /// A fault of the lines that tell an image's entries.
-fn entries_fault(fault: DupFault) -> LookFault
-    requires alone { (before : ℕ) × (now : ℕ) × IsCausedByFrom before now (class_of fault) }
-    ensures is { (path : List ℕ) (image : Image) → least_lines ≤ length image
-        → ((rest : List EntryValue → Finding) → Names (class_of fault) (from_or (reading image) rest)) → IsSo path image result }
-    ensures cause { (lines : ℕ) (media : MediaChange) → IsCausedByFrom media.old.faults media.new.faults (class_of fault)
-        → NamesLine lines 0 fault → IsLookCaused lines media result }
+fn entries_fault(fault: ReadFault) -> LookFault
+    ensures told { result ≡ look_of_read fault }
+    ensures is { (path : List ℕ) (image : Image) → least_lines ≤ length image → Tells fault (reading image)
+        → FailsAt (IsAskedFor (line_at image) (line_bytes * length image)) fault → IsSo path image result }
+    ensures cause { (lines : ℕ) (media : MediaChange) → IsReadCaused media.old.faults media.new.faults fault
+        → FailsAt (λ at. at < lines) fault → IsLookCaused lines media result }
 {
     match fault {
-        DupFault::NoSuper(word) => LookFault::NoSuper(word),
-        DupFault::BadSuper {
+        ReadFault::NoSuper(word) => LookFault::NoSuper(word),
+        ReadFault::BadSuper {
             field,
             found,
             wanted,
@@ -48,7 +47,7 @@ fn entries_fault(fault: DupFault) -> LookFault
             found,
             wanted,
         },
-        DupFault::BadLog {
+        ReadFault::BadLog {
             field,
             found,
             wanted,
@@ -57,14 +56,9 @@ fn entries_fault(fault: DupFault) -> LookFault
             found,
             wanted,
         },
-        DupFault::BadEntry { seq, reason } => LookFault::BadEntry { seq, reason },
-        DupFault::FromFault(line) => LookFault::MediaFault(line),
-        DupFault::OutOfMemory => LookFault::OutOfMemory,
-        DupFault::ImageSmall(_)
-        | DupFault::TooSmall { .. }
-        | DupFault::HasSuper(_)
-        | DupFault::Stopped { .. }
-        | DupFault::ToFault(_) => unreachable!(),
+        ReadFault::BadEntry { seq, reason } => LookFault::BadEntry { seq, reason },
+        ReadFault::MediaFault(line) => LookFault::MediaFault(line),
+        ReadFault::OutOfMemory => LookFault::OutOfMemory,
     }
 }
 
@@ -86,7 +80,7 @@ fn file_in(plan: &Plan, path: &Path) -> Result<Entry, LookFault>
     }
 }
 
-/// The entry of the file at a path of an image, whose log is read once.
+/// The entry of the file at a path of an image, whose log is read once, as a `read` reads it.
 fn find_file<M: Media>(alloc: Global, media: &mut M, path: &Path) -> Result<Entry, LookFault>
     ensures found { IfOk result (λ entry. IfModelled (M.state media.old).image (λ image. HasFile path.now image entry)) }
     ensures placed { IfOk result (IsPlaced (M.size media.old)) }

@@ -1,2 +1,3 @@
 pub mod MediaLemmas
+mod RunLemmas
 pub mod ShelfLemmas

@@ -1,5 +1,5 @@
 -- A media in memory, and what each call makes of it.
-use Rattle.std.specs.Prelude.{ℕ, List, [], replicate, map, Option, Some, None, is_some}
+use Rattle.std.specs.Prelude.{ℕ, ◌≡◌, Bool, List, [], replicate, map, Option, Some, None, is_some}
 use Rattle.fam_base.specs.Image.{Image, eight, with_line, with_masked}
 use Rattle.fam_base.specs.declared.line.Mask.{Mask}
 use Rattle.fam_media.specs.Plans.{one_more, planned, count_if}
@@ -40,3 +40,13 @@ after_words (Some mask) line words image = with_masked line words mask.0 image
 abbrev pub after_write : ℕ → List ℕ → MemMediaState → MemMediaState
 after_write line words m =
     record (after_call m) { image = after_words (next_mask m) line words m.image }
+
+-- a read of a line fails exactly where that was planned
+pub record IsRead (m : MemMediaState) (line : ℕ) (failed : Bool) (new : MemMediaState) : Type 0 where
+  pub fails : failed ≡ is_some (next_mask m)
+  pub after : new ≡ after_call m
+
+-- so does a write of such words
+pub record IsWritten (m : MemMediaState) (line : ℕ) (words : List ℕ) (failed : Bool) (new : MemMediaState) : Type 0 where
+  pub fails : failed ≡ is_some (next_mask m)
+  pub after : new ≡ after_write line words m

@@ -1,8 +1,9 @@
 -- Lines that are read or written one behind another.
-use Rattle.std.specs.Prelude.{ℕ, zero, suc, ◌≡◌, ◌+◌, ◌<◌, List, [], Option, slice_index_or}
+use Rattle.std.specs.Prelude.{ℕ, zero, suc, ◌≡◌, ◌+◌, ◌<◌, Bool, true, false, List, [], Option, Result, Ok, Err, slice_index_or}
 use Rattle.std.specs.Option.{option_map}
 use Rattle.fam_base.specs.Image.{Image, eight, line_at, with_line}
 use Rattle.fam_media.specs.Outside.{IsTorn}
+use Rattle.fam_media.specs.declared.media.RunFailed.{RunFailed}
 
 -- line k of a run
 abbrev pub line_in : List (List ℕ) → ℕ → List ℕ
@@ -25,3 +26,25 @@ run_written first lines k modelled = option_map (with_run first lines k) modelle
 -- before
 abbrev pub IsRunTorn : Option Image → Option Image → ℕ → List (List ℕ) → ℕ → Type 0
 IsRunTorn old new first lines k = IsTorn (run_written first lines k old) new (first + k) (line_in lines k)
+
+-- k calls one behind another, each of which is done. What call i does is told by its number and by whether it fails
+abbrev pub AreDone : {M : Type 0} → (M → ℕ → Bool → M → Type 0) → ℕ → M → M → Type 0
+AreDone call zero old new = new ≡ old
+AreDone {M} call (suc k) old new = (before : M) × AreDone call k old before × call before k false new
+
+-- k calls are done, and the one behind them fails
+abbrev pub IsFailedBehind : {M : Type 0} → (M → ℕ → Bool → M → Type 0) → ℕ → M → M → Type 0
+IsFailedBehind {M} call k old new = (before : M) × AreDone call k old before × call before k true new
+
+-- how a run of so many calls ends: each is done, or one fails behind as many as the answer names, and none is made behind it
+abbrev pub RunEnds : {M : Type 0} → (M → ℕ → Bool → M → Type 0) → ℕ → Result Unit RunFailed → M → M → Type 0
+RunEnds call count (Ok u) old new = AreDone call count old new
+RunEnds call count (Err failed) old new = IsFailedBehind call failed.done old new
+
+-- call k of a run of reads from a line on
+abbrev pub read_of : {M : Type 0} → (M → ℕ → Bool → M → Type 0) → ℕ → M → ℕ → Bool → M → Type 0
+read_of reads first old k failed new = reads old (first + k) failed new
+
+-- and of a run of writes of these lines
+abbrev pub write_of : {M : Type 0} → (M → ℕ → List ℕ → Bool → M → Type 0) → ℕ → List (List ℕ) → M → ℕ → Bool → M → Type 0
+write_of writes first lines old k failed new = writes old (first + k) (line_in lines k) failed new

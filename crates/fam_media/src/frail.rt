@@ -1,14 +1,15 @@
 //! A media of which chosen lines fail.
 
-ghost use Rattle.std.specs.Prelude.{◌≡◌, ◌<◌, ◌∷◌, true, false, Err, IfOk, OnOk, OnErr, is_err};
+ghost use Rattle.std.specs.Prelude.{◌≡◌, ◌+◌, ◌<◌, ◌≤◌, ◌∷◌, true, false, Err, IfErr, IfOk, OnOk, OnErr, is_err, length};
 ghost use Rattle.std.specs.Option.{option_map};
 ghost use Rattle.fam_base.specs.Image.{eight, line_at, with_line};
 ghost use Rattle.fam_media.specs.Causes.{HasCause};
-ghost use Rattle.fam_media.specs.Frail.{after_result, healed, is_poisoned, unharmed};
+ghost use Rattle.fam_media.specs.Frail.{after_result, frail_reads, frail_writes, healed, is_poisoned, unharmed};
 ghost use Rattle.fam_media.specs.Outside.{IfModelled, IsTorn};
 ghost use Rattle.fam_media.specs.Plans.{count_if};
+ghost use Rattle.fam_media.specs.Runs.{AreRead, IsRunTorn, RunEnds, read_of, run_written, write_of};
 
-use crate::media::{Failed, Media};
+use crate::media::{Failed, Media, RunFailed};
 use fam_base::{Line, LineNo, OutOfMemory};
 use std::alloc::Global;
 use std::marker::Model;
@@ -111,6 +112,12 @@ impl<M: Media> Media for Frail<M> {
 
     ghost state = { λ f. record { image = (M.state f.media).image; faults = f.faults } };
 
+    ghost reads = { λ f line failed new. frail_reads M.reads f line failed new };
+
+    ghost writes = { λ f line words failed new. frail_writes M.writes f line words failed new };
+
+    ghost exact = { true };
+
     fn lines(&self) -> u64 {
         self.media.lines()
     }
@@ -129,6 +136,8 @@ impl<M: Media> Media for Frail<M> {
         // Any other line fails only where the media within does.
         ensures inner { is_poisoned self.old line.0 ≡ false →
             HasCause (M.state self.old.media).faults (M.state self.new.media).faults result }
+        // It is the one call of the media within.
+        ensures call { frail_reads M.reads self.old line.0 (is_err result) self.new }
         ensures stays { self.new.poisoned ≡ self.old.poisoned }
         ensures count { self.new.faults ≡ count_if (is_err result) self.old.faults }
     {
@@ -154,6 +163,8 @@ impl<M: Media> Media for Frail<M> {
         // Any other line fails only where the media within does.
         ensures inner { is_poisoned self.old line.0 ≡ false →
             HasCause (M.state self.old.media).faults (M.state self.new.media).faults result }
+        // It is the one call of the media within.
+        ensures call { frail_writes M.writes self.old line.0 words.now (is_err result) self.new }
         ensures stays { self.new.poisoned ≡ self.old.poisoned }
         ensures count { self.new.faults ≡ count_if (is_err result) self.old.faults }
     {
@@ -162,6 +173,60 @@ impl<M: Media> Media for Frail<M> {
         }
         let given = self.media.write(line, words);
         self.counted(given)
+    }
+
+    fn read_run(&mut self, first: LineNo, lines: &mut [Line]) -> Result<(), RunFailed>
+        requires within { first.0 + length lines.old ≤ M.size self.old.media }
+
+        ensures words { OnOk result
+            (IfModelled (M.state self.old.media).image (λ image. AreRead image first.0 lines.new (length lines.old))) }
+        ensures count { length lines.new ≡ length lines.old }
+        ensures same { (M.state self.new.media).image ≡ (M.state self.old.media).image }
+        ensures before { IfErr result (λ failed. failed.done < length lines.old) }
+        ensures err_words { IfErr result
+            (λ failed. IfModelled (M.state self.old.media).image (λ image. AreRead image first.0 lines.new failed.done)) }
+        ensures size { M.size self.new.media ≡ M.size self.old.media }
+        ensures cause { HasCause self.old.faults self.new.faults result }
+        ensures counted { self.new.faults ≡ count_if (is_err result) self.old.faults }
+
+        // Each line is read by one call. Where one fails, so many were done before it, and none is made behind it.
+        ensures calls { RunEnds (read_of (frail_reads M.reads) first.0) (length lines.old) result self.old self.new }
+    {
+        // How many lines there are at most.
+        let _ = self.lines();
+        for k in 0..lines.len() {
+            match self.read(LineNo(first.0 + k as u64)) {
+                Ok(words) => lines[k] = words,
+                Err(_) => return Err(RunFailed { done: k }),
+            }
+        }
+        Ok(())
+    }
+
+    fn write_run(&mut self, first: LineNo, lines: &[Line]) -> Result<(), RunFailed>
+        requires within { first.0 + length lines.now ≤ M.size self.old.media }
+
+        ensures written { OnOk result ((M.state self.new.media).image
+            ≡ run_written first.0 lines.now (length lines.now) (M.state self.old.media).image) }
+        ensures before { IfErr result (λ failed. failed.done < length lines.now) }
+        ensures torn { IfErr result (λ failed.
+            IsRunTorn (M.state self.old.media).image (M.state self.new.media).image first.0 lines.now failed.done) }
+        ensures size { M.size self.new.media ≡ M.size self.old.media }
+        ensures cause { HasCause self.old.faults self.new.faults result }
+        ensures counted { self.new.faults ≡ count_if (is_err result) self.old.faults }
+
+        // Each line is written by one call. Where one fails, so many were done before it, and none is made behind it.
+        ensures calls { RunEnds (write_of (frail_writes M.writes) first.0 lines.now) (length lines.now) result self.old self.new }
+    {
+        // How many lines there are at most.
+        let _ = self.lines();
+        for k in 0..lines.len() {
+            match self.write(LineNo(first.0 + k as u64), &lines[k]) {
+                Ok(()) => {}
+                Err(_) => return Err(RunFailed { done: k }),
+            }
+        }
+        Ok(())
     }
 
     ghost normal = { λ f. M.normal f.media };

@@ -1,11 +1,12 @@
 //! A media: an image of lines that several hosts share.
 
-ghost use Rattle.std.specs.Prelude.{◌≡◌, ℕ, ◌+◌, ◌<◌, ◌≤◌, IfErr, IfOk, OnOk, OnErr, length};
+ghost use Rattle.std.specs.Prelude.{◌≡◌, ℕ, ◌+◌, ◌<◌, ◌≤◌, ⊤, Bool, IfErr, IfOk, List, OnOk, OnErr, false, is_err, length, true};
 ghost use Rattle.std.specs.Option.{option_map};
 ghost use Rattle.fam_base.specs.Image.{IsNormal, eight, line_at, with_line};
 ghost use Rattle.fam_media.specs.Causes.{HasCause};
 ghost use Rattle.fam_media.specs.Outside.{IfModelled, IsTorn};
-ghost use Rattle.fam_media.specs.Runs.{AreRead, IsRunTorn, run_written};
+ghost use Rattle.fam_media.specs.Plans.{count_if};
+ghost use Rattle.fam_media.specs.Runs.{AreRead, IsRunTorn, RunEnds, read_of, run_written, write_of};
 ghost use Rattle.fam_media.specs.States.{MediaState};
 
 use fam_base::{Line, LineNo};
@@ -31,6 +32,17 @@ pub trait Media {
     /// The image, where it is modelled, and how often a call failed.
     ghost state: { Self → MediaState };
 
+    /// What a read of a line does, by whether it fails, where a media says more of it than the clauses below. By default
+    /// nothing.
+    ghost reads: { Self → ℕ → Bool → Self → Type 0 } = { λ _ _ _ _. ⊤ };
+
+    /// The same of a write of such words.
+    ghost writes: { Self → ℕ → List ℕ → Bool → Self → Type 0 } = { λ _ _ _ _ _. ⊤ };
+
+    /// Whether a media tells its calls exactly: the count of faults rises by one at each call that fails, and at no other
+    /// one; and a run makes one call for each line, up to the one that fails. By default nothing is said of that.
+    ghost exact: { Bool } = { false };
+
     /// Returns how many lines there are. No call changes this.
     fn lines(&self) -> u64
         ensures count { result ≡ size self.now }
@@ -44,7 +56,9 @@ pub trait Media {
             (λ words. IfModelled (state self.old).image (λ lines. eight words ≡ line_at lines line.0)) }
         ensures same { (state self.new).image ≡ (state self.old).image }
         ensures size { size self.new ≡ size self.old }
-        ensures cause { HasCause (state self.old).faults (state self.new).faults result };
+        ensures cause { HasCause (state self.old).faults (state self.new).faults result }
+        ensures call { reads self.old line.0 (is_err result) self.new }
+        ensures counted { exact ≡ true → (state self.new).faults ≡ count_if (is_err result) (state self.old).faults };
 
     /// Writes a line, and no other one. Where the write fails each word of the line is old or new.
     fn write(&mut self, line: LineNo, words: &Line) -> Result<(), Failed>
@@ -54,7 +68,9 @@ pub trait Media {
             ((state self.new).image ≡ option_map (with_line line.0 words.now) (state self.old).image) }
         ensures torn { OnErr result (IsTorn (state self.old).image (state self.new).image line.0 words.now) }
         ensures size { size self.new ≡ size self.old }
-        ensures cause { HasCause (state self.old).faults (state self.new).faults result };
+        ensures cause { HasCause (state self.old).faults (state self.new).faults result }
+        ensures call { writes self.old line.0 words.now (is_err result) self.new }
+        ensures counted { exact ≡ true → (state self.new).faults ≡ count_if (is_err result) (state self.old).faults };
 
     /// Reads lines one behind another, as `read` does each of them. No line of the media changes. Where it fails at a
     /// line, those before it were read, and what the buffer has from there on is left open.
@@ -70,6 +86,8 @@ pub trait Media {
             (λ failed. IfModelled (state self.old).image (λ image. AreRead image first.0 lines.new failed.done)) }
         ensures size { size self.new ≡ size self.old }
         ensures cause { HasCause (state self.old).faults (state self.new).faults result }
+        ensures counted { exact ≡ true → (state self.new).faults ≡ count_if (is_err result) (state self.old).faults }
+        ensures calls { exact ≡ true → RunEnds (read_of reads first.0) (length lines.old) result self.old self.new }
     {
         // How many lines there are at most.
         let _ = self.lines();
@@ -94,6 +112,8 @@ pub trait Media {
             IsRunTorn (state self.old).image (state self.new).image first.0 lines.now failed.done) }
         ensures size { size self.new ≡ size self.old }
         ensures cause { HasCause (state self.old).faults (state self.new).faults result }
+        ensures counted { exact ≡ true → (state self.new).faults ≡ count_if (is_err result) (state self.old).faults }
+        ensures calls { exact ≡ true → RunEnds (write_of writes first.0 lines.now) (length lines.now) result self.old self.new }
     {
         // How many lines there are at most.
         let _ = self.lines();

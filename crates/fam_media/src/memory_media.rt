@@ -1,15 +1,17 @@
 //! A media in memory, of which chosen calls fail.
 
-ghost use Rattle.std.specs.Prelude.{◌≡◌, ◌<◌, ◌≤◌, ◌∷◌, Some, IfOk, OnOk, OnErr, OnSome, is_err, is_some, length, map};
+ghost use Rattle.std.specs.Prelude.{◌≡◌, ◌+◌, ◌<◌, ◌≤◌, ◌∷◌, Some, IfErr, IfOk, OnOk, OnErr, OnSome, is_err, is_some, length, map, true};
 ghost use Rattle.std.specs.Option.{option_map};
 ghost use Rattle.fam_base.specs.Image.{eight, line_at, with_line, with_masked};
 ghost use Rattle.fam_base.proofs.ImageLemmas.{normal-map_eight};
 ghost use Rattle.fam_media.specs.Modelled.{modelled_lines};
 ghost use Rattle.fam_media.specs.Causes.{HasCause, Rose};
 ghost use Rattle.fam_media.specs.Outside.{IfModelled, IsTorn};
-ghost use Rattle.fam_media.specs.MemoryMedia.{after_call, after_write, blank, fresh, next_mask, modelled_image};
+ghost use Rattle.fam_media.specs.MemoryMedia.{IsRead, IsWritten, after_call, after_write, blank, fresh, next_mask, modelled_image};
+ghost use Rattle.fam_media.specs.Plans.{count_if};
+ghost use Rattle.fam_media.specs.Runs.{AreRead, IsRunTorn, RunEnds, read_of, run_written, write_of};
 
-use crate::media::{Failed, MOST_LINES, Media};
+use crate::media::{Failed, MOST_LINES, Media, RunFailed};
 use crate::plan::find_planned;
 use fam_base::{Line, LineNo, Mask, OutOfMemory, masked_line};
 use std::alloc::Global;
@@ -136,6 +138,12 @@ impl Media for MemMedia {
 
     ghost state = { λ m. record { image = modelled_image m; faults = m.faults } };
 
+    ghost reads = { λ m line failed new. IsRead m line failed new };
+
+    ghost writes = { λ m line words failed new. IsWritten m line words failed new };
+
+    ghost exact = { true };
+
     fn lines(&self) -> u64 {
         self.lines.len() as u64
     }
@@ -183,6 +191,60 @@ impl Media for MemMedia {
                 Err(Failed)
             }
         }
+    }
+
+    fn read_run(&mut self, first: LineNo, lines: &mut [Line]) -> Result<(), RunFailed>
+        requires within { first.0 + length lines.old ≤ length self.old.image }
+
+        ensures words { OnOk result
+            (IfModelled (modelled_image self.old) (λ image. AreRead image first.0 lines.new (length lines.old))) }
+        ensures count { length lines.new ≡ length lines.old }
+        ensures same { modelled_image self.new ≡ modelled_image self.old }
+        ensures before { IfErr result (λ failed. failed.done < length lines.old) }
+        ensures err_words { IfErr result
+            (λ failed. IfModelled (modelled_image self.old) (λ image. AreRead image first.0 lines.new failed.done)) }
+        ensures size { length self.new.image ≡ length self.old.image }
+        ensures cause { HasCause self.old.faults self.new.faults result }
+        ensures counted { self.new.faults ≡ count_if (is_err result) self.old.faults }
+
+        // Each line is read by one call. Where one fails, so many were done before it, and none is made behind it.
+        ensures calls { RunEnds (read_of IsRead first.0) (length lines.old) result self.old self.new }
+    {
+        // How many lines there are at most.
+        let _ = self.lines();
+        for k in 0..lines.len() {
+            match self.read(LineNo(first.0 + k as u64)) {
+                Ok(words) => lines[k] = words,
+                Err(_) => return Err(RunFailed { done: k }),
+            }
+        }
+        Ok(())
+    }
+
+    fn write_run(&mut self, first: LineNo, lines: &[Line]) -> Result<(), RunFailed>
+        requires within { first.0 + length lines.now ≤ length self.old.image }
+
+        ensures written { OnOk result
+            (modelled_image self.new ≡ run_written first.0 lines.now (length lines.now) (modelled_image self.old)) }
+        ensures before { IfErr result (λ failed. failed.done < length lines.now) }
+        ensures torn { IfErr result (λ failed.
+            IsRunTorn (modelled_image self.old) (modelled_image self.new) first.0 lines.now failed.done) }
+        ensures size { length self.new.image ≡ length self.old.image }
+        ensures cause { HasCause self.old.faults self.new.faults result }
+        ensures counted { self.new.faults ≡ count_if (is_err result) self.old.faults }
+
+        // Each line is written by one call. Where one fails, so many were done before it, and none is made behind it.
+        ensures calls { RunEnds (write_of IsWritten first.0 lines.now) (length lines.now) result self.old self.new }
+    {
+        // How many lines there are at most.
+        let _ = self.lines();
+        for k in 0..lines.len() {
+            match self.write(LineNo(first.0 + k as u64), &lines[k]) {
+                Ok(()) => {}
+                Err(_) => return Err(RunFailed { done: k }),
+            }
+        }
+        Ok(())
     }
 
     ghost normal = { λ m. normal-map_eight m.image };

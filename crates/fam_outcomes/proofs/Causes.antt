@@ -9,10 +9,10 @@ use Rattle.fam_journal.specs.declared.refusal.Refusal.{Refusal}
 use Rattle.fam_journal.specs.declared.refusal.Refusal.TheVariants as why
 use Rattle.fam_outcomes.specs.declared.status.Status.{Status}
 use Rattle.fam_outcomes.specs.declared.status.Status.TheVariants as status
-use Rattle.fam_journal.specs.Ends.{AllDone, Ending, HasCounted, MkfsFails, EndsOutOfMemory, EndsOutOfMemoryBroken, SinkFails, SourceFails, faults_of, note_faults}
+use Rattle.fam_journal.specs.Ends.{AllDone, Ending, HasCounted, MkfsFails, SourceFails, faults_of, note_faults}
 use Rattle.fam_journal.specs.Follows.{Faulted, Short, SourceEnd}
-use Rattle.fam_journal.specs.Notes.{Answer, Replied, MediaFault, Note, Host, Made, Cut, Start, Mark, Found, Writes, Answered, Stop, Halt, Umount, Refused}
-use Rattle.fam_outcomes.specs.Programs.{BadLine, Command, CommandRuns, Early, EndsEarly, Grammar, IsEarly, LongScript, Makes, MakesParents, NoCommand, EarlyOutOfMemory, NoScript, OfScript, OneShot, Prints, Runs, Script, ScriptCaused, ScriptFails, Single, Storm, Storms, TopEnds, done_status, early_status, script_status, shot_status, storm_status}
+use Rattle.fam_journal.specs.Notes.{Answer, Replied, MediaFault, Note, Answered, Refused}
+use Rattle.fam_outcomes.specs.Programs.{Command, CommandRuns, Early, EndsEarly, Grammar, IsEarly, Makes, MakesParents, NoCommand, OfScript, OneShot, Runs, Script, ScriptCaused, ScriptFails, Single, Storm, Storms, TopEnds, done_status, early_status, script_status, shot_status, storm_status}
 use Rattle.fam_outcomes.specs.Runs.{EndsBroken, HasRisen, IsCaused, Outside, SourceCaused}
 use Rattle.fam_outcomes.specs.Statuses.{answer_status, cause_status, good_status, is_good, last_status, last_stops, note_status, parents_status, reply_status, sound_status}
 
@@ -50,58 +50,22 @@ sound_told true = tt
 sound_told false = tt
 
 reply_told : (given : Reply) → IsOrdinary (reply_status given)
-reply_told (reply.Appended seq) = tt
-reply_told (reply.NotAppended why) = tt
-reply_told (reply.Played m tree) = tt
-reply_told (reply.Mounted m) = tt
-reply_told (reply.Same m) = tt
-reply_told (reply.Differs m offset found wanted) = tt
-reply_told (reply.Length m size wanted) = tt
-reply_told (reply.Bytes m bytes) = tt
-reply_told (reply.NotFound m) = tt
-reply_told (reply.IsDirectory m) = tt
 reply_told (reply.Checks m checked) = sound_told _
 reply_told (reply.Reports report) = sound_told _
-reply_told (reply.NoSuperblock fault) = tt
-reply_told (reply.BadHeader fault) = tt
-reply_told (reply.BadSlot seq reason) = tt
+reply_told e = tt
 
 answer_told : (host : ℕ) (answer : Answer) → IsTold (answer_status answer) (note_faults (Answered host answer))
 answer_told host (Replied given) = inl (reply_told given)
 answer_told host (MediaFault at) = inr (refl, omega arith)
 
 cause_told : (name : List ℕ) (cause : Refusal) → IsTold (cause_status cause) (note_faults (Refused name cause))
-cause_told name why.NoHost = inl tt
-cause_told name (why.SameHost host) = inl tt
-cause_told name why.TooManyHosts = inl tt
-cause_told name (why.BadGeometry unit log) = inl tt
-cause_told name (why.TooSmall need have) = inl tt
-cause_told name (why.ImageSmall lines) = inl tt
-cause_told name (why.Busy host) = inl tt
-cause_told name (why.Dirty host) = inl tt
-cause_told name (why.HasSuper uuid) = inl tt
-cause_told name why.Idle = inl tt
-cause_told name why.Mounted = inl tt
-cause_told name why.NotMounted = inl tt
-cause_told name (why.NoLine at lines) = inl tt
-cause_told name (why.NoFile file) = inl tt
-cause_told name (why.CopyLimit sum) = inl tt
-cause_told name (why.BadListing at) = inl tt
 cause_told name (why.MediaFault at) = inr (refl, omega arith)
+cause_told name e = inl tt
 
 note_told : (note : Note) → IsTold (note_status note) (note_faults note)
-note_told (Host name uuid) = inl tt
-note_told (Made host p) = inl tt
-note_told (Cut host k) = inl tt
-note_told (Start host cmd) = inl tt
-note_told (Mark host) = inl tt
-note_told (Found host n) = inl tt
-note_told (Writes host seq entry) = inl tt
 note_told (Answered host answer) = answer_told host answer
-note_told (Stop host) = inl tt
-note_told (Halt host) = inl tt
-note_told (Umount host) = inl tt
 note_told (Refused name cause) = cause_told name cause
+note_told e = inl tt
 
 -- more faults are told where more is said
 told_more : (s : Status) (a b : ℕ) → a ≤ b → IsTold s a → IsTold s b
@@ -148,26 +112,16 @@ module _ (out : Outside) (events : List Event) (journal : List Note) where
   shot_fault : (shot : OneShot) (ending : Ending) → IsCaused ending events journal out → shot_status shot ending journal ≡ status.MediaFault → 1 ≤ faults_of journal
   shot_fault shot AllDone caused e = told_fault (done_status shot journal) (faults_of journal) (done_told shot journal) e
   shot_fault shot MkfsFails caused e = broken_faults events journal caused
-  shot_fault shot (SourceFails end) caused e = absurd cc
-  shot_fault shot EndsOutOfMemory caused e = absurd cc
-  shot_fault shot EndsOutOfMemoryBroken caused e = absurd cc
-  shot_fault shot SinkFails caused e = absurd cc
+  shot_fault shot c caused e = absurd cc
 
   script_fault : (ending : Ending) → IsCaused ending events journal out → script_status ending journal ≡ status.MediaFault → 1 ≤ faults_of journal
   script_fault AllDone caused e = told_fault (good_status (is_good journal)) (faults_of journal) (good_told (is_good journal) (faults_of journal)) e
   script_fault MkfsFails caused e = broken_faults events journal caused
-  script_fault (SourceFails end) caused e = absurd cc
-  script_fault EndsOutOfMemory caused e = absurd cc
-  script_fault EndsOutOfMemoryBroken caused e = absurd cc
-  script_fault SinkFails caused e = absurd cc
+  script_fault c caused e = absurd cc
 
   storm_fault : (ending : Ending) → IsCaused ending events journal out → storm_status ending journal ≡ status.MediaFault → 1 ≤ faults_of journal
-  storm_fault AllDone caused e = absurd cc
   storm_fault MkfsFails caused e = broken_faults events journal caused
-  storm_fault (SourceFails end) caused e = absurd cc
-  storm_fault EndsOutOfMemory caused e = absurd cc
-  storm_fault EndsOutOfMemoryBroken caused e = absurd cc
-  storm_fault SinkFails caused e = absurd cc
+  storm_fault c caused e = absurd cc
 
 -- Sources.
 
@@ -181,39 +135,24 @@ by_end out (Short size got) x = inr x.0
 module _ (out : Outside) (events : List Event) (journal : List Note) where
   shot_source : (shot : OneShot) (ending : Ending) → IsCaused ending events journal out → shot_status shot ending journal ≡ status.SourceFault → SourceRose out
   shot_source shot AllDone caused e = absurd (told_source (done_status shot journal) (faults_of journal) (done_told shot journal) e)
-  shot_source shot MkfsFails caused e = absurd cc
   shot_source shot (SourceFails end) caused e = by_end out end caused
-  shot_source shot EndsOutOfMemory caused e = absurd cc
-  shot_source shot EndsOutOfMemoryBroken caused e = absurd cc
-  shot_source shot SinkFails caused e = absurd cc
+  shot_source shot c caused e = absurd cc
 
   script_source : (ending : Ending) → IsCaused ending events journal out → script_status ending journal ≡ status.SourceFault → SourceRose out
   script_source AllDone caused e = absurd (told_source (good_status (is_good journal)) (faults_of journal) (good_told (is_good journal) (faults_of journal)) e)
-  script_source MkfsFails caused e = absurd cc
   script_source (SourceFails end) caused e = by_end out end caused
-  script_source EndsOutOfMemory caused e = absurd cc
-  script_source EndsOutOfMemoryBroken caused e = absurd cc
-  script_source SinkFails caused e = absurd cc
+  script_source c caused e = absurd cc
 
   storm_source : (ending : Ending) → IsCaused ending events journal out → storm_status ending journal ≡ status.SourceFault → SourceRose out
-  storm_source AllDone caused e = absurd cc
-  storm_source MkfsFails caused e = absurd cc
   storm_source (SourceFails end) caused e = by_end out end caused
-  storm_source EndsOutOfMemory caused e = absurd cc
-  storm_source EndsOutOfMemoryBroken caused e = absurd cc
-  storm_source SinkFails caused e = absurd cc
+  storm_source c caused e = absurd cc
 
 -- The top call.
 
 module _ (grammar : Grammar) (storms : Storms) (out : Outside) (given : Status) (text : List ℕ) (own : Status) where
   early_fault : (early : Early) → early_status early ≡ status.MediaFault → ⊥
   early_fault NoCommand e = absurd cc
-  early_fault (NoScript name) e = absurd cc
-  early_fault (LongScript size) e = absurd cc
-  early_fault (ScriptFails end) e = absurd cc
-  early_fault (BadLine at column) e = absurd cc
-  early_fault (Prints script) e = absurd cc
-  early_fault EarlyOutOfMemory e = absurd cc
+  early_fault c e = absurd cc
 
   runs_fault : (command : Option Command) → CommandRuns grammar storms command out given text own → own ≡ status.MediaFault → HasRisen out.media.old.faults out.media.new.faults
   runs_fault None x e = absurd x
@@ -237,13 +176,8 @@ module _ (grammar : Grammar) (storms : Storms) (out : Outside) (given : Status) 
   script_end end (Some (Storm seed size prints)) x = absurd x
 
   early_source : (command : Option Command) (early : Early) → IsEarly grammar storms command out early → early_status early ≡ status.SourceFault → SourceRose out
-  early_source command NoCommand x e = absurd cc
-  early_source command (NoScript name) x e = absurd cc
-  early_source command (LongScript size) x e = absurd cc
   early_source command (ScriptFails end) x e = script_end end command x
-  early_source command (BadLine at column) x e = absurd cc
-  early_source command (Prints script) x e = absurd cc
-  early_source command EarlyOutOfMemory x e = absurd cc
+  early_source command c x e = absurd cc
 
   shows_fault : (command : Option Command) → EndsEarly grammar storms command out text own ⊎ CommandRuns grammar storms command out given text own → own ≡ status.MediaFault → HasRisen out.media.old.faults out.media.new.faults
   shows_fault command (inl x) e = absurd (early_fault x.early (sym x.status_is ∙ e))

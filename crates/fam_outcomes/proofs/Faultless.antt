@@ -30,20 +30,10 @@ use Rattle.fam_journal.proofs.Runs.Unique.{clean_prefix, clean_rest}
 module _ (files : Files) where
   event_ends : (e : Event) (old new : Session) (notes : List Note) → IsFaultless notes → DoesEvent files e old notes new → RunEnds e notes
   unfolding refusal_of
-  event_ends (event.Host name uuid) old new notes clean x = tt
-  event_ends (event.Mkfs name fs unit log format force halt) old new notes clean x = tt
-  event_ends (event.Begin name what) old new notes clean x = tt
   event_ends (event.Run name what) old new notes clean (inl x) = inl (run_ends files name what old new notes x clean)
   event_ends (event.Run name what) old new notes clean (inr (inl x)) = inr (x.cause, x.notes_are)
   event_ends (event.Run name what) old new notes clean (inr (inr x)) = inr (x.cause, x.does.0)
-  event_ends (event.Step name count) old new notes clean x = tt
-  event_ends (event.Finish name) old new notes clean x = tt
-  event_ends (event.Stop name) old new notes clean x = tt
-  event_ends (event.Halt name) old new notes clean x = tt
-  event_ends (event.Umount name) old new notes clean x = tt
-  event_ends (event.Evict name line) old new notes clean x = tt
-  event_ends (event.Leak name line mask) old new notes clean x = tt
-  event_ends (event.Fetch name line mask) old new notes clean x = tt
+  event_ends e old new notes clean x = tt
 
   pub all_end : (events : List Event) (old : Session) (journal : List Note) (new : Session) → IsFaultless journal → (follows : Follows files events old journal new) → RunsEnd files events old journal new follows
   all_end [] old journal new clean x = tt
@@ -150,12 +140,8 @@ module _ (out : Outside) (none : NoneRose out) where
 
     early_storm : (seed size : ℕ) (early : Early) → IsEarly grammar storms (Some (Storm seed size false)) out early → IsStormRun (early_status early)
     early_storm seed size NoCommand x = absurd cc
-    early_storm seed size (NoScript own) x = absurd x
-    early_storm seed size (LongScript n) x = absurd x
-    early_storm seed size (ScriptFails end) x = absurd x
-    early_storm seed size (BadLine at column) x = absurd x
-    early_storm seed size (Prints script) x = absurd x
     early_storm seed size EarlyOutOfMemory x = inr refl
+    early_storm seed size e x = absurd x
 
     shows_storm : (seed size : ℕ) (text : List ℕ) (own : Status) → EndsEarly grammar storms (Some (Storm seed size false)) out text own ⊎ CommandRuns grammar storms (Some (Storm seed size false)) out given text own → IsStormRun own
     shows_storm seed size text own (inl x) = subst IsStormRun (sym x.status_is) (early_storm seed size x.early x.is)

@@ -5,9 +5,7 @@ use Rattle.std.specs.Prelude.{⊤, slice_get, not, ◌==◌, ◌&&◌, nat_lt, n
 use Rattle.std.specs.FinMap as finmap
 use Rattle.std.proofs.lemmas.List.{append_assoc, length-append, map_push}
 use Rattle.std.proofs.lemmas.Option.{same_Some, slice_get_within}
-use Rattle.fam_machine.specs.MkfsRequest.{mkfs_request}
 use Rattle.fam_format.specs.Stop.{or_else}
-use Rattle.fam_format.specs.Params.{need}
 use Rattle.fam_machine.specs.declared.op.Op.{Op}
 use Rattle.fam_machine.specs.Caches.{dirty_count}
 use Rattle.fam_commands.specs.Table as row
@@ -31,7 +29,7 @@ use Rattle.fam_journal.specs.Members.{changed_at, index_from, index_of}
 use Rattle.fam_machine.specs.Mkfs.{EarlyRefusal, early_refusal}
 use Rattle.fam_machine.specs.Mkfs as early
 use Rattle.fam_journal.specs.Names.{AreNamed, IsNamed, NameDeclared, NamesCause, declared_after}
-use Rattle.fam_journal.specs.Notes.{Note, Host, Made, Cut, Start, Mark, Found, Writes, Answered, Stop, Halt, Umount, Refused}
+use Rattle.fam_journal.specs.Notes.{Note, Host, Start, Mark, Writes, Stop, Refused}
 use Rattle.fam_journal.specs.Past.{HostPast, Past, hosts_after, past_after, past_behind}
 use Rattle.fam_outcomes.specs.Texts.{names_after, names_behind, note_line, render, render_behind}
 
@@ -57,17 +55,10 @@ changed_names (suc h) f same (x ∷ xs) = ap (λ (ns : List (List ℕ)). x.name 
 
 names_one : (x : Past) (note : Note) → names_after (map (λ (y : HostPast). y.name) x.hosts) note ≡ map (λ (y : HostPast). y.name) (hosts_after x note)
 names_one x (Host name uuid) = sym (map_push (λ (y : HostPast). y.name) x.hosts (Rattle.fam_journal.specs.Past.new_host name uuid))
-names_one x (Made h p) = refl
-names_one x (Cut h k) = refl
 names_one x (Start h cmd) = sym (changed_names h _ (λ y. refl) x.hosts)
 names_one x (Mark h) = sym (changed_names h _ (λ y. refl) x.hosts)
-names_one x (Found h n) = refl
 names_one x (Writes h seq e) = sym (changed_names h _ (λ y. refl) x.hosts)
-names_one x (Answered h answer) = refl
-names_one x (Stop h) = refl
-names_one x (Halt h) = refl
-names_one x (Umount h) = refl
-names_one x (Refused name cause) = refl
+names_one x e = refl
 
 pub names_of_past : (x : Past) (notes : List Note) → names_behind (map (λ (y : HostPast). y.name) x.hosts) notes ≡ map (λ (y : HostPast). y.name) (past_behind x notes).hosts
 names_of_past x [] = refl
@@ -180,17 +171,11 @@ declared_behind n (note ∷ notes) = declared_behind (declared_after n note) not
 -- a task's note names its host
 noted_named : (n h : ℕ) (note : row.RowNote) → h < n → NameDeclared n (notes_of h note)
 noted_named n h row.Quiet below = tt
-noted_named n h row.Mark below = (below, tt)
-noted_named n h (row.Found count) below = (below, tt)
-noted_named n h (row.Writing seq e) below = (below, tt)
-noted_named n h (row.Answer reply) below = (below, tt)
+noted_named n h e below = (below, tt)
 
 noted_count : (n h : ℕ) (note : row.RowNote) → declared_behind n (notes_of h note) ≡ n
 noted_count n h row.Quiet = refl
-noted_count n h row.Mark = refl
-noted_count n h (row.Found count) = refl
-noted_count n h (row.Writing seq e) = refl
-noted_count n h (row.Answer reply) = refl
+noted_count n h e = refl
 
 pub named_both : (n : ℕ) (a b : List Note) → NameDeclared n a → NameDeclared (declared_behind n a) b → NameDeclared n (a ++ b)
 named_both n [] b first second = second
@@ -202,51 +187,19 @@ count_both n (note ∷ a) b = count_both (declared_after n note) a b
 
 -- More hosts.
 cause_more : (n k : ℕ) → n ≤ k → (cause : Refusal) → NamesCause n cause → NamesCause k cause
-cause_more n k le why.NoHost is = tt
 cause_more n k le (why.SameHost host) is = omega (arith, le, is)
-cause_more n k le why.TooManyHosts is = tt
-cause_more n k le (why.BadGeometry unit log) is = tt
-cause_more n k le (why.TooSmall need have) is = tt
-cause_more n k le (why.ImageSmall lines) is = tt
 cause_more n k le (why.Busy host) is = omega (arith, le, is)
 cause_more n k le (why.Dirty host) is = omega (arith, le, is)
-cause_more n k le (why.HasSuper uuid) is = tt
-cause_more n k le why.Idle is = tt
-cause_more n k le why.Mounted is = tt
-cause_more n k le why.NotMounted is = tt
-cause_more n k le (why.NoLine at lines) is = tt
-cause_more n k le (why.NoFile name) is = tt
-cause_more n k le (why.CopyLimit sum) is = tt
-cause_more n k le (why.BadListing at) is = tt
-cause_more n k le (why.MediaFault at) is = tt
+cause_more n k le e is = tt
 
 note_more : (n k : ℕ) → n ≤ k → (note : Note) → IsNamed n note → IsNamed k note
 note_more n k le (Host name uuid) is = tt
-note_more n k le (Made host p) is = omega (arith, le, is)
-note_more n k le (Cut host ops) is = omega (arith, le, is)
-note_more n k le (Start host cmd) is = omega (arith, le, is)
-note_more n k le (Mark host) is = omega (arith, le, is)
-note_more n k le (Found host count) is = omega (arith, le, is)
-note_more n k le (Writes host seq entry) is = omega (arith, le, is)
-note_more n k le (Answered host answer) is = omega (arith, le, is)
-note_more n k le (Stop host) is = omega (arith, le, is)
-note_more n k le (Halt host) is = omega (arith, le, is)
-note_more n k le (Umount host) is = omega (arith, le, is)
 note_more n k le (Refused name cause) is = cause_more n k le cause is
+note_more n k le e is = omega (arith, le, is)
 
 after_more : (n : ℕ) (note : Note) → n ≤ declared_after n note
 after_more n (Host name uuid) = omega arith
-after_more n (Made host p) = omega arith
-after_more n (Cut host k) = omega arith
-after_more n (Start host cmd) = omega arith
-after_more n (Mark host) = omega arith
-after_more n (Found host count) = omega arith
-after_more n (Writes host seq entry) = omega arith
-after_more n (Answered host answer) = omega arith
-after_more n (Stop host) = omega arith
-after_more n (Halt host) = omega arith
-after_more n (Umount host) = omega arith
-after_more n (Refused name cause) = omega arith
+after_more n e = omega arith
 
 -- notes that name some of these hosts, with more of them declared
 named_more : (n k : ℕ) → n ≤ k → (notes : List Note) → AreNamed n notes → NameDeclared k notes
@@ -256,17 +209,7 @@ named_more n k le (note ∷ notes) are = (note_more n k le note are.0, named_mor
 -- there are as many names
 after_names : (names : List (List ℕ)) (note : Note) → length (names_after names note) ≡ declared_after (length names) note
 after_names names (Host name uuid) = length-append names (name ∷ [])
-after_names names (Made host p) = refl
-after_names names (Cut host k) = refl
-after_names names (Start host cmd) = refl
-after_names names (Mark host) = refl
-after_names names (Found host count) = refl
-after_names names (Writes host seq entry) = refl
-after_names names (Answered host answer) = refl
-after_names names (Stop host) = refl
-after_names names (Halt host) = refl
-after_names names (Umount host) = refl
-after_names names (Refused name cause) = refl
+after_names names e = refl
 
 behind_names : (names : List (List ℕ)) (notes : List Note) → length (names_behind names notes) ≡ declared_behind (length names) notes
 behind_names names [] = refl
@@ -348,15 +291,12 @@ act_named : (c : Call) (h : ℕ) (host : HostState) (old : Machines) (notes : Li
 act_named (call.Declares name uuid) h host old notes new below x = absurd x
 act_named (call.Makes name request) h host old notes new below (inl x) = making_named request.halt h _ request.force host old notes new below x
 act_named (call.Makes name request) h host old notes new below (inr x) = named_as old new _ notes _ x.notes_are x.left (named_same old _ _ (length-changed_at h _ old.hosts) (tt, tt) refl)
-act_named (call.Begins name cmd) h host old notes new below x = named_as old new _ notes _ x.0 x.1 (named_same old _ _ (length-changed_at h _ old.hosts) (below, tt) refl)
 act_named (call.Steps name) h host old notes new below x = operation_named h old notes new x
 act_named (call.Finishes name) h host old notes new below x = operates_named h x.count old notes new x.does
-act_named (call.Stops name) h host old notes new below x = named_as old new _ notes _ x.0 x.1 (named_same old _ _ (length-changed_at h _ old.hosts) (below, tt) refl)
-act_named (call.Halts name) h host old notes new below x = named_as old new _ notes _ x.0 x.1 (named_same old _ _ (length-changed_at h _ old.hosts) (below, tt) refl)
-act_named (call.Umounts name) h host old notes new below x = named_as old new _ notes _ x.0 x.1 (named_same old _ _ (length-changed_at h _ old.hosts) (below, tt) refl)
 act_named (call.Moves name line move) h host old notes new below (inl x) = named_as old new _ notes _ x.notes_are x.left (named_same old _ _ (length-changed_at h _ old.hosts) tt refl)
 act_named (call.Moves name line move) h host old notes new below (inr x) = named_as old new _ notes _ x.notes_are x.left (named_same old _ _ refl (tt, tt) refl)
 act_named (call.Refuses name cause) h host old notes new below x = absurd x
+act_named e h host old notes new below x = named_as old new _ notes _ x.0 x.1 (named_same old _ _ (length-changed_at h _ old.hosts) (below, tt) refl)
 
 -- which causes may be given to a refusal
 abbrev pub CallNames : Machines → Call → Type 0
@@ -446,8 +386,6 @@ module _ (files : Files) where
   not_step_named name old new notes x = one_refusal name x.cause old.machines new.machines notes (step_named name old.machines x.cause x.first) x.notes_are (ap (λ (s : Session). s.machines) x.same)
 
   event_named : (e : Event) (old new : Session) (notes : List Note) → DoesEvent files e old notes new → Named old.machines notes new.machines
-  event_named (event.Host name uuid) old new notes x = does_named old.machines notes new.machines (call.Declares name uuid) tt x.0
-  event_named (event.Mkfs name fs unit log format force halt) old new notes x = does_named old.machines notes new.machines (call.Makes name (mkfs_request fs unit log format force halt)) tt x.0
   event_named (event.Begin name what) old new notes (inl x) = begun_named name what old new notes x
   event_named (event.Begin name what) old new notes (inr x) = refused_named name what old new notes x
   event_named (event.Run name what) old new notes (inl x) =
@@ -455,13 +393,7 @@ module _ (files : Files) where
   event_named (event.Run name what) old new notes (inr x) = refused_named name what old new notes x
   event_named (event.Step name count) old new notes (inl x) = operates_named x.host count old.machines notes new.machines x.does
   event_named (event.Step name count) old new notes (inr x) = not_step_named name old new notes x
-  event_named (event.Finish name) old new notes x = does_named old.machines notes new.machines (call.Finishes name) tt x.0
-  event_named (event.Stop name) old new notes x = does_named old.machines notes new.machines (call.Stops name) tt x.0
-  event_named (event.Halt name) old new notes x = does_named old.machines notes new.machines (call.Halts name) tt x.0
-  event_named (event.Umount name) old new notes x = does_named old.machines notes new.machines (call.Umounts name) tt x.0
-  event_named (event.Evict name line) old new notes x = does_named old.machines notes new.machines (call.Moves name line.0 _) tt x.0
-  event_named (event.Leak name line mask) old new notes x = does_named old.machines notes new.machines (call.Moves name line.0 _) tt x.0
-  event_named (event.Fetch name line mask) old new notes x = does_named old.machines notes new.machines (call.Moves name line.0 _) tt x.0
+  event_named e old new notes x = does_named old.machines notes new.machines _ tt x.0
 
   -- each note of a journal names a host that is declared before it
   pub follows_named : (events : List Event) (old new : Session) (notes : List Note) → Follows files events old notes new → Named old.machines notes new.machines

@@ -1,6 +1,6 @@
 //! Units that two entries share, by scans over the units of both.
 
-ghost use Rattle.std.specs.Prelude.{◌≡◌, ◌==◌, ◌≤◌, ℕ, IfOk, find, map, option_map};
+ghost use Rattle.std.specs.Prelude.{◌≡◌, ◌==◌, ◌≤◌, IfOk, find, map, option_map};
 ghost use Rattle.std.specs.List.{list_any};
 ghost use Rattle.fam_format.specs.Units.{units_in};
 ghost use Rattle.fam_rules.specs.Reports.{has_unit_twice, overlap_of, overlaps, share_unit};

@@ -1,12 +1,10 @@
 //! The report of fsck, each number of which is found by scans over whole lists.
 
 ghost use Rattle.std.specs.Prelude.{◌≡◌, ◌≤◌, [], IfOk, count_by, map};
-ghost use Rattle.std.specs.List.{range_with_len};
 ghost use Rattle.fam_base.specs.declared.entry.Entry.{Entry};
 ghost use Rattle.fam_format.specs.Layout.{device_units, geometry};
 ghost use Rattle.fam_format.specs.Params.{SoundParams};
 ghost use Rattle.fam_plain.specs.Survey.{survey_from};
-ghost use Rattle.fam_plain.specs.Told.{survey_of};
 ghost use Rattle.fam_rules.specs.Reports.{is_directory, is_file, no_survey, report_by, used_count};
 
 use crate::overlaps::least_overlap;

@@ -4,7 +4,6 @@ ghost use Rattle.std.specs.Prelude.{◌≡◌, ◌+◌, ◌-◌, ◌<◌, ◌≤
 ghost use Rattle.fam_format.specs.Layout.{geometry};
 ghost use Rattle.fam_format.specs.Params.{SoundParams};
 ghost use Rattle.fam_format.specs.Tree as tree;
-ghost use Rattle.fam_format.specs.Tree.{replay};
 ghost use Rattle.fam_plain.specs.Survey.{survey_from};
 ghost use Rattle.fam_plain.specs.Told.{survey_of};
 ghost use Rattle.fam_rules.specs.Reports.{below_gate, first_bad, no_survey, past_gate, survey_slot};

@@ -13,7 +13,7 @@ ghost use Rattle.fam_plan.specs.Wishes.{wish_in};
 use crate::plan::Plan;
 use crate::wish::Wish;
 use fam_base::{Cmd, EXTENT_LIMIT, Entry, Kind, Params, Path, Stripe};
-use fam_format::shape_of;
+use fam_format::{FIRST_FORMAT, shape_of};
 use fam_rules::Refused;
 use uuid::Uuid;
 
@@ -35,13 +35,13 @@ fn check_master(params: &Params, me: &Uuid) -> Result<(), Refused>
     }
 }
 
-/// Whether a slot of the log's format has room for a path.
+/// Whether a slot of the log's format has room for a path: the first one has room for few, others for every path.
 fn check_length(params: &Params, path: &Path) -> Result<(), Refused>
     ensures { MatchResult result (λ _. length_refusal params.now path.now ≡ None)
         (λ refused. length_refusal params.now path.now ≡ Some refused) }
 {
     let limit = shape_of(params.format).path_limit;
-    if path.bytes().len() <= limit {
+    if params.format != FIRST_FORMAT || path.bytes().len() <= limit {
         Ok(())
     } else {
         Err(Refused::LongPath(limit as u64))

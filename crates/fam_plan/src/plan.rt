@@ -1,13 +1,13 @@
 //! The entries of a log with their tree and their units.
 
-ghost use Rattle.std.specs.Prelude.{◌≡◌, ◌<◌, ◌≤◌, ◌||◌, ◌++◌, ◌-◌, ◌∷◌, [], ℕ, None, IfOk, OnOk, IfErr, OnErr, length, take, slice_get};
+ghost use Rattle.std.specs.Prelude.{◌≡◌, ◌<◌, ◌≤◌, ◌||◌, ◌++◌, ◌-◌, ◌∷◌, [], None, IfOk, OnOk, IfErr, OnErr, length, slice_get};
 ghost use Rattle.fam_format.specs.Params.{SoundParams};
 ghost use Rattle.fam_format.specs.Slot.{Proper};
 ghost use Rattle.fam_format.specs.Stop.{or_else};
 ghost use Rattle.fam_format.specs.Tree.{replay, join_fault, overlap_fault};
 ghost use Rattle.fam_format.specs.Units.{units_in, list_units, first_overlap};
 ghost use Rattle.fam_rules.specs.Place.{IsOnce};
-ghost use Rattle.fam_alloc.specs.Taken.{is_taken, holds, LieWithin};
+ghost use Rattle.fam_alloc.specs.Taken.{is_taken, LieWithin};
 ghost use Rattle.fam_tree.specs.Faults as tree;
 ghost use Rattle.fam_plan.specs.Faults.{reason_of};
 ghost use Rattle.fam_plan.specs.State.{IsHistory};

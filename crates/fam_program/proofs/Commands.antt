@@ -6,5 +6,6 @@ pub mod MemoryLeft
 pub mod ImageLeft
 pub mod TopEnds
 pub mod Shadows
+pub mod OfLogplay
 pub mod ShownTrees
 pub mod Dups

@@ -1,12 +1,12 @@
 -- What is put of a file system that is copied onto another image, and what both images hold behind that. docs/MANUAL.md,
 -- "Copies".
-use Rattle.std.specs.Prelude.{ℕ, ⊤, ◌≡◌, ◌⊎◌, ◌++◌, ◌≤◌, Bool, true, false, List, [], codes, Option, Some, None, Result, Ok, Err, IfErr}
+use Rattle.std.specs.Prelude.{ℕ, ⊤, Bool, ◌≡◌, ◌⊎◌, ◌++◌, ◌≤◌, true, false, List, [], codes, Option, Some, None, Result, Ok, Err, IfErr}
 use Rattle.fam_base.specs.declared.entry.Params.{Params}
 use Rattle.fam_base.specs.Image.{Image}
 use Rattle.fam_dup.specs.declared.fault.DupFault.{DupFault}
 use Rattle.fam_dup.specs.declared.fault.DupFault.TheVariants as fault
 use Rattle.fam_dup.specs.declared.fault.DupRefusal.{DupRefusal}
-use Rattle.fam_dup.specs.Ends.{Becomes, DupEnds, IsCaused, NamesLine}
+use Rattle.fam_dup.specs.Ends.{Becomes, DupEnds, IsAskedIn, IsCaused, NamesLine, from_counted, to_counted}
 use Rattle.fam_dup.specs.Findings.{Copies, FailsFrom, FailsTo, FaultClass, FaultInLog, FaultInSlot, FaultInSuper, Finding, FullTo, Refuses, SmallFrom, SmallTo, Stops, WantsMemory, class_of, refused_of}
 use Rattle.fam_format.specs.declared.faults.SuperFault.TheVariants as super
 use Rattle.fam_format.specs.declared.faults.LogFault.TheVariants as log
@@ -37,17 +37,21 @@ copy_asked me request = record { me = me; request = request }
 abbrev pub copy_params : CopyAsked → ℕ → Params
 copy_params copy lines = asked copy.request copy.me lines
 
--- what both images and the sink tell before and behind a call, and how many lines FROM and TO have
+-- what both images and the sink tell before and behind a call, how many lines FROM and TO have, and whether each counts exactly:
+-- a fault for each of its calls that fails, and no other
 pub record CopyOutside : Type 0 where
   pub from_lines : ℕ
   pub lines : ℕ
+  pub from_exact : Bool
+  pub to_exact : Bool
   pub from : MediaChange
   pub to : MediaChange
   pub sink : SinkChange
 
 -- from its parts
-abbrev pub copy_outside : ℕ → ℕ → MediaChange → MediaChange → SinkChange → CopyOutside
-copy_outside from_lines lines from to sink = record { from_lines = from_lines; lines = lines; from = from; to = to; sink = sink }
+abbrev pub copy_outside : ℕ → ℕ → Bool → Bool → MediaChange → MediaChange → SinkChange → CopyOutside
+copy_outside from_lines lines from_exact to_exact from to sink =
+    record { from_lines = from_lines; lines = lines; from_exact = from_exact; to_exact = to_exact; from = from; to = to; sink = sink }
 
 -- where both images are modelled, this is so of FROM, of TO before, and of TO behind
 abbrev pub OfImages : CopyOutside → (Image → Image → Image → Type 0) → Type 0
@@ -147,6 +151,11 @@ pub record CopyEndsEarly (wanted : Option CopyAsked) (out : CopyOutside) (given 
   pub to : out.to.new ≡ out.to.old
   pub put : Put (early_copy_status early) (early_copy_text early) out.sink given
 
+-- the count of an image's faults behind a copy that ended so
+abbrev pub counted_behind : (FaultClass → ℕ → ℕ) → Result ℕ DupFault → ℕ → ℕ
+counted_behind counted (Ok count) faults = faults
+counted_behind counted (Err fault) faults = counted (class_of fault) faults
+
 -- a copy was tried: how it ended, what that leaves, and what is put of it
 pub record HasCopied (copy : CopyAsked) (out : CopyOutside) (given : Status) : Type 0 where
   pub good : is_geometry copy.request.unit copy.request.log ≡ true
@@ -155,6 +164,11 @@ pub record HasCopied (copy : CopyAsked) (out : CopyOutside) (given : Status) : T
   pub caused : IfErr ended (λ fault. IsCaused out.from.old.faults out.from.new.faults out.to.old.faults out.to.new.faults fault)
   -- the line of a media fault is one of its image
   pub named : IfErr ended (λ fault. NamesLine out.from_lines out.lines fault)
+  -- and one that was asked for at that step
+  pub asked : IfErr ended (λ fault. IfModelled out.from.old.image (λ source. IfModelled out.to.old.image (λ old. IsAskedIn source old out.to.new.image (copy_params copy out.lines) copy.request.force fault)))
+  -- an image that counts exactly has failed once where the fault tells it, and never else
+  pub counted_from : out.from_exact ≡ true → out.from.new.faults ≡ counted_behind from_counted ended out.from.old.faults
+  pub counted_to : out.to_exact ≡ true → out.to.new.faults ≡ counted_behind to_counted ended out.to.old.faults
   pub put : PutDup ended out.sink given
 
 -- so of a copy that is asked for

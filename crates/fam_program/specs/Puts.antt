@@ -1,5 +1,5 @@
 -- What is put behind what was put before.
-use Rattle.std.specs.Prelude.{ℕ, ◌≡◌, ◌⊎◌, ◌++◌, List, Option, option_map, take}
+use Rattle.std.specs.Prelude.{ℕ, ◌≡◌, ◌⊎◌, ◌++◌, List, option_map, take}
 use Rattle.fam_media.specs.Causes.{Rose}
 use Rattle.fam_media.specs.Outside.{IsPartlyPut, with_piece}
 use Rattle.fam_media.specs.States.{SinkChange}

@@ -1,6 +1,5 @@
 -- How a run has ended, whatever is put of it.
-use Rattle.std.specs.Prelude.{ℕ, List, [], Option}
-use Rattle.fam_base.specs.Image.{Image}
+use Rattle.std.specs.Prelude.{ℕ, List, []}
 use Rattle.fam_media.specs.Outside.{IfModelled}
 use Rattle.fam_media.specs.States.{change, MediaState, ShelfChange, SinkChange}
 use Rattle.fam_journal.specs.declared.event.Event.{Event}

@@ -2,13 +2,15 @@
 use Rattle.std.specs.Prelude.{ℕ, ◌≡◌, ◌⊎◌, ◌++◌, List, [], ◌∷◌, codes, Option, Some, None, option_map, Result, Ok, Err, IfErr}
 use Rattle.std.specs.FinMap as map
 use Rattle.fam_base.specs.declared.cmd.Cmd.TheVariants as cmd
-use Rattle.fam_media.specs.States.{ShelfState, ShelfChange}
+use Rattle.fam_media.specs.Outside.{with_piece}
+use Rattle.fam_media.specs.States.{ShelfState, ShelfChange, SinkChange, SinkState}
 use Rattle.fam_format.specs.Tree.{Tree}
 use Rattle.fam_grammar.specs.Scripts.{script_events}
 use Rattle.fam_rules.specs.Reply as reply
 use Rattle.fam_rules.specs.Reply.{Reply}
 use Rattle.fam_shadow.specs.declared.fault.ShadowFault.{ShadowFault}
 use Rattle.fam_shadow.specs.declared.fault.ShadowFault.TheVariants as fault
+use Rattle.fam_shadow.specs.Calls.{CallsMade}
 use Rattle.fam_shadow.specs.Nodes.{ShadeChange}
 use Rattle.fam_shadow.specs.Shadows.{Becomes, FaultCaused, ShadowEnds}
 use Rattle.fam_storm.specs.Storm.{storm}
@@ -18,9 +20,10 @@ use Rattle.fam_outcomes.specs.declared.status.Status.{Status}
 use Rattle.fam_outcomes.specs.declared.status.Status.TheVariants as status
 use Rattle.fam_journal.specs.Ends.{AllDone}
 use Rattle.fam_journal.specs.Notes.{Answer, Replied, MediaFault, Note, Refused}
-use Rattle.fam_outcomes.specs.Programs.{EndsEarly, IsWholeRun, OneShot, Runs, ShotRuns, Single, memory_line}
+use Rattle.fam_outcomes.specs.Programs.{EndsEarly, IsWholeRun, OneShot, Runs, ShotRuns, Single, TopEnds, memory_line}
 use Rattle.fam_outcomes.specs.Runs.{IsPut, NoneFalls, Outside}
-use Rattle.fam_outcomes.specs.Texts.{line, number}
+use Rattle.fam_outcomes.specs.Statuses.{last_status}
+use Rattle.fam_outcomes.specs.Texts.{line, number, shown}
 use Rattle.fam_program.specs.Runs.{HasEnded}
 use Rattle.fam_journal.specs.NoteClasses.{NoteClass, note_class, Declared, Formatted, Going, Answering, Refusing}
 
@@ -32,9 +35,9 @@ empty_shelf = record { files = Some map.empty; faults = 0; shorts = 0 }
 abbrev pub no_files : ShelfChange
 no_files = record { old = empty_shelf; new = empty_shelf }
 
--- it is as it was
+-- it is as it was, and no call was made of it
 abbrev pub IsUntouched : ShadeChange → Type 0
-IsUntouched shade = shade.new.nodes ≡ shade.old.nodes
+IsUntouched shade = shade.new ≡ shade.old
 
 -- the command that shows the tree
 abbrev pub logplay : OneShot
@@ -115,6 +118,7 @@ pub record HasShadowed (me : List ℕ) (out : Outside) (shade : ShadeChange) (te
   pub written : Result (Unit {0}) ShadowFault
   pub becomes : Becomes shade.old.nodes shade.new.nodes (ShadowEnds tree written)
   pub caused : IfErr written (FaultCaused tree shade.old.faults shade.new.faults)
+  pub calls : CallsMade tree shade written
   pub says : ShadowSays m written text own
 
 -- text and status are logplay's, which showed no tree
@@ -140,3 +144,33 @@ pub record ShadowTop (asked : Option (List ℕ)) (out : Outside) (shade : ShadeC
   pub shows : ShadowEarly asked out shade text own ⊎ ShadowRuns asked out shade text own
   pub later : NoneFalls out
   pub put : IsPut own given text out
+
+-- Of logplay alone.
+
+-- a sink that takes a text whole
+abbrev pub takes_whole : List ℕ → SinkState → SinkChange
+takes_whole text old = record { old = old; new = record { bytes = option_map (with_piece text) old.bytes; faults = old.faults } }
+
+-- the same, but for what is put
+abbrev pub with_sink : SinkChange → Outside → Outside
+with_sink sink out = record { lines = out.lines; media = out.media; shelf = out.shelf; sink = sink }
+
+-- logplay by itself, on the same media, puts the text of a journal; and it is the tree shown there that was written
+pub record ShowsTree (me : List ℕ) (out : Outside) (shade : ShadeChange) (given : Status) : Type 0 where
+  pub journal : List Note
+  pub ends : TopEnds script_events storm (Some (Single me logplay)) (with_sink (takes_whole (shown journal) out.sink.old) out) (last_status journal)
+  pub puts : ends.text ≡ shown journal
+  pub m : ℕ
+  pub tree : Tree
+  pub shows : shown_tree journal ≡ Some (m, tree)
+  pub written : Result (Unit {0}) ShadowFault
+  pub becomes : Becomes shade.old.nodes shade.new.nodes (ShadowEnds tree written)
+  pub calls : CallsMade tree shade written
+  pub text : List ℕ
+  pub own : Status
+  pub says : ShadowSays m written text own
+  pub put : IsPut own given text out
+
+-- or it ends as logplay by itself does, and the folder is as it was
+abbrev pub IsOfLogplay : List ℕ → Outside → ShadeChange → Status → Type 0
+IsOfLogplay me out shade given = ShowsTree me out shade given ⊎ (TopEnds script_events storm (Some (Single me logplay)) out given × IsUntouched shade)

@@ -200,7 +200,7 @@ pub fn copy_file_system<M: Media, N: Media, K: Sink>(
     out: &mut K,
 ) -> Status
     requires { IsTrue (is_format request.format) }
-    ensures ends { DupTop (Some (copy_asked me request)) (copy_outside (M.size from.old) (N.size to.old) (change M.state from.old from.new)
+    ensures ends { DupTop (Some (copy_asked me request)) (copy_outside (M.size from.old) (N.size to.old) M.exact N.exact (change M.state from.old from.new)
         (change N.state to.old to.new) (change K.state out.old out.new)) result }
     ensures steady_from { IsSteady M.size M.state from.old from.new }
     ensures steady_to { IsSteady N.size N.state to.old to.new }

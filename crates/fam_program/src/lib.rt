@@ -7,6 +7,7 @@
 
 mod dups;
 mod fault;
+mod laws;
 mod line_by_line;
 mod lines;
 mod no_files;
@@ -23,6 +24,7 @@ mod unprinted;
 
 pub use dups::{copy_file_system, put_made};
 pub use fault::{PutFault, ScriptFault};
+pub use laws::a_shadow_is_of_a_logplay;
 pub use puts::{put_line, put_memory, put_usage};
 pub use read::read_script;
 pub use script::{is_image, run_script};

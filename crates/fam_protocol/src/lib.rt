@@ -1,10 +1,12 @@
 //! The protocol of publishing and replaying, over any number of hosts whose caches needn't agree.
 #![tactic(auto)]
 
+mod command;
 mod findings;
 mod hosted;
 mod run;
 
+pub use command::is_command;
 pub use findings::{
     a_damaged_gate_is_found, a_damaged_image_names_its_fault, a_loaded_gate_is_current,
     an_answer_is_of_a_settled_prefix, loaded_bytes_are_those_put_there,

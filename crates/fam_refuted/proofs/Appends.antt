@@ -6,7 +6,7 @@ use Rattle.std.proofs.lemmas.Bool.{eq-eqb, ne_eqb}
 use Rattle.std.proofs.lemmas.Bool.Decides.{nat_tests}
 use Rattle.std.proofs.lemmas.List.{length-map, take_all}
 use Rattle.fam_base.specs.declared.cmd.Cmd.{Cmd}
-use Rattle.fam_base.specs.declared.cmd.Cmd.TheVariants.{Logplay, Mount, Mkdir, Creat, Cp, Verify, Read, Check, Fsck}
+use Rattle.fam_base.specs.declared.cmd.Cmd.TheVariants.{Mkdir, Creat, Cp}
 use Rattle.fam_base.specs.Image.{line_at}
 use Rattle.fam_format.specs.Layout.{geometry, slot_line}
 use Rattle.fam_format.specs.Slot.{spelling}
@@ -274,12 +274,7 @@ module _ (c : Scene) where
     has_read (Mkdir path attr) w is = read_all
     has_read (Creat path size attr stripe fill) w is = read_all
     has_read (Cp path attr stripe bytes) w is = read_all
-    has_read Logplay w is = absurd (cc)
-    has_read Mount w is = absurd (cc)
-    has_read (Verify path against) w is = absurd (cc)
-    has_read (Read path offset count) w is = absurd (cc)
-    has_read (Check listing) w is = absurd (cc)
-    has_read Fsck w is = absurd (cc)
+    has_read other w is = absurd (cc)
 
     -- the command appends
     has_wish : (o : Option Wish) → wish_of c.cmd ≡ o → (w : Wish) × (wish_of c.cmd ≡ Some w) × (decide_wish c.params c.params.master c.entries w ≡ Ok c.entry)
@@ -354,12 +349,7 @@ module _ (c : Scene) where
     decides (Mkdir path attr) w word is = ap (λ (w : Wish). append_turn (reading_task (Mkdir path attr)) (decide_wish c.params c.params.master c.entries w)) (let some : wish_of (Mkdir path attr) ≡ Some w = is in cc)
     decides (Creat path size attr stripe fill) w word is = ap (λ (w : Wish). append_turn (reading_task (Creat path size attr stripe fill)) (decide_wish c.params c.params.master c.entries w)) (let some : wish_of (Creat path size attr stripe fill) ≡ Some w = is in cc)
     decides (Cp path attr stripe bytes) w word is = ap (λ (w : Wish). append_turn (reading_task (Cp path attr stripe bytes)) (decide_wish c.params c.params.master c.entries w)) (let some : wish_of (Cp path attr stripe bytes) ≡ Some w = is in cc)
-    decides Logplay w word is = absurd (cc)
-    decides Mount w word is = absurd (cc)
-    decides (Verify path against) w word is = absurd (cc)
-    decides (Read path offset count) w word is = absurd (cc)
-    decides (Check listing) w word is = absurd (cc)
-    decides Fsck w word is = absurd (cc)
+    decides other w word is = absurd (cc)
 
     -- for the new entry
     decides_entry : turn_given (reading_task c.cmd) 0 ≡ Writes (next c) c.entry (writing (first_store c.entry.size))

@@ -94,11 +94,7 @@ made_by Digest x = x
 
 abbrev pub word_by : Op → Here → ℕ
 word_by (Load line k) x = slice_index (current x.words x.cell) k
-word_by (Store line k value) x = 0
-word_by (WriteBack line) x = 0
-word_by (Invalidate line) x = 0
-word_by Fence x = 0
-word_by Digest x = 0
+word_by other x = 0
 
 -- what a step leaves: a line that moves by itself is fetched where it is absent, and sent where it is dirty
 abbrev pub left : Step → Here → Here
@@ -120,12 +116,8 @@ give_all (step ∷ more) x = with_first (gives step x) (give_all more (left step
 
 -- an operation at one line, or at none
 abbrev pub is_here : Op → Bool
-is_here (Load line k) = true
-is_here (Store line k value) = true
-is_here (WriteBack line) = true
-is_here (Invalidate line) = true
 is_here Fence = false
-is_here Digest = true
+is_here other = true
 
 -- a step at one line
 abbrev pub is_step_here : Step → Bool
@@ -181,11 +173,7 @@ module _ (h l : ℕ) (x : Here) (s : SharedState) (shows : Shows s h l x) where
 -- an operation at another line gives a word where it does
 given_there : (l : ℕ) (op : Op) (word : ℕ) → given_by (at_line l op) word ≡ given_by op word
 given_there l (Load line k) word = refl
-given_there l (Store line k value) word = refl
-given_there l (WriteBack line) word = refl
-given_there l (Invalidate line) word = refl
-given_there l Fence word = refl
-given_there l Digest word = refl
+given_there l other word = refl
 
 -- Steps at one line.
 

@@ -5,6 +5,7 @@
 mod refused;
 
 pub use refused::{
-    a_gate_before_its_slot_tears_the_entry, an_early_drop_reads_an_old_slot, each_scene_begins,
-    without_a_drop_an_old_gate_is_read, without_a_drop_an_old_slot_is_read,
+    a_gate_before_its_slot_tears_the_entry, an_answer_before_its_fence_is_missed,
+    an_early_drop_reads_an_old_slot, each_scene_begins, without_a_drop_an_old_gate_is_read,
+    without_a_drop_an_old_slot_is_read,
 };

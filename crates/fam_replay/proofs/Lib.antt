@@ -1,3 +1,5 @@
 pub mod Found
 mod Lines
 pub mod Replicas
+mod Slots
+pub mod Sources

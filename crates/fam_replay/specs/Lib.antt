@@ -1,2 +1,3 @@
 pub mod Replica
 pub mod Replay
+pub mod Sources

@@ -1,7 +1,7 @@
 //! A reading of a log's slots, one after another. Its entries take memory, so they are first kept with the first slot
 //! that is read. What an earlier reading kept is taken over then.
 
-ghost use Rattle.std.specs.Prelude.{◌≡◌, ◌≤◌, ◌<◌, ℕ, [], false, true, None, Ok, Some, IfOk, IfSome, IsErr, IsSome, OnOk, OnErr, OnSome, length};
+ghost use Rattle.std.specs.Prelude.{◌≡◌, ◌≤◌, ◌<◌, ℕ, [], false, true, None, Ok, Some, IfOk, IfSome, IsErr, IsSome, OnOk, OnErr, length};
 ghost use Rattle.std.specs.FinMap as map;
 ghost use Rattle.fam_base.specs.Commands.{IsSoundCmd};
 ghost use Rattle.fam_base.specs.declared.entry.Params.{Params};

@@ -1,7 +1,7 @@
 //! What is kept of the log that was read: a slot that has the words which an earlier reading found is neither read nor
 //! judged again.
 
-ghost use Rattle.std.specs.Prelude.{◌≡◌, ◌+◌, [], ◌<◌, ◌≤◌, ℕ, true, false, None, Some, Ok, IfOk, IfSome, IsSome, OnOk, OnErr, length, max, take};
+ghost use Rattle.std.specs.Prelude.{◌≡◌, ◌+◌, [], ◌<◌, ◌≤◌, true, false, None, Some, Ok, IfOk, IfSome, IsSome, OnOk, OnErr, length, max, take};
 ghost use Rattle.std.specs.FinMap as map;
 ghost use Rattle.fam_base.specs.Commands.{IsSoundCmd};
 ghost use Rattle.fam_format.specs.Params.{SoundParams};

@@ -1,10 +1,10 @@
 -- The entry that is decided is proper and joins the list.
-use Rattle.std.proofs.Common.{◌≡◌, ℕ, ◌*◌, ◌%◌, ◌^◌, ◌<◌, ◌≤◌, ◌==◌, ◌&&◌, Bool, true, nat_le, nat_lt, List, [], ◌∷◌, length, map, Option, Some, None, Result, Ok, Err, refl, sym, ap, subst, ◌∙◌, inl, inr, arith, ◌/◌}
+use Rattle.std.proofs.Common.{◌≡◌, ℕ, ◌*◌, ◌%◌, ◌^◌, ◌<◌, ◌≤◌, ◌==◌, ◌&&◌, ◌||◌, IsTrue, Bool, true, nat_le, nat_lt, List, [], ◌∷◌, length, map, Option, Some, None, Result, Ok, Err, refl, sym, ap, subst, ◌∙◌, inl, inr, arith, ◌/◌}
 use Rattle.std.specs.FinMap as finmap
 use Rattle.std.specs.Int.{div_ceil}
 use Rattle.std.specs.List.{list_all, sum_by}
 use Rattle.std.specs.Option.{option_map}
-use Rattle.std.proofs.lemmas.Bool.{cases_Bool, cases_eq, eq-eqb, ne_eqb, leb-false, lt-ltb}
+use Rattle.std.proofs.lemmas.Bool.{cases_Bool, cases_eq, eq-eqb, eqb-true, ne_eqb, leb-false, lt-ltb}
 use Rattle.std.proofs.lemmas.List.{length-map}
 use Rattle.std.proofs.lemmas.List.Elements.{All-map}
 use Rattle.std.proofs.lemmas.List.Sums.{list_all-from_AllPass, sum_by-cons}
@@ -16,10 +16,11 @@ use Rattle.fam_base.specs.declared.entry.Kind.TheVariants.{File, Directory}
 use Rattle.fam_base.specs.declared.entry.MapKind.TheVariants.{Empty, Simple, Striped}
 use Rattle.fam_base.specs.declared.extents.Extent.{Extent}
 use Rattle.fam_base.specs.ExtentLists.{extent_limit}
-use Rattle.fam_base.specs.Paths.{parent_of}
+use Rattle.fam_base.specs.Paths.{is_path, parent_of, path_limit}
+use Rattle.fam_base.proofs.PathLemmas.{parts_of_path}
 use Rattle.fam_base.specs.Units.{strip_bytes}
-use Rattle.fam_format.specs.Layout.{device_units}
-use Rattle.fam_format.specs.Params.{SoundParams}
+use Rattle.fam_format.specs.Layout.{device_units, geometry, shape_of}
+use Rattle.fam_format.specs.Params.{SoundParams, first_number, second_number}
 use Rattle.fam_format.specs.Slot.{Proper, is_map, fits_map, has_extents, adds_up, is_striped, is_placed}
 use Rattle.fam_format.specs.Stop.{stop}
 use Rattle.fam_format.specs.Tree.{replay}
@@ -250,11 +251,23 @@ decided p me list w e sound wish h =
       entry = stands.entry;
     }
 
+-- a slot of either format has room for a path that isn't refused
+slot_has_room : (p : Params) (path : List ℕ) → SoundParams p → IsTrue (is_path path) → FitsSlot p path → length path ≤ (geometry p).path_limit
+unfolding shape_of
+slot_has_room p path sound is short = elim (cases_Bool (p.format == first_number)) [
+  | inl first ↦ short (eqb-true p.format first_number first)
+  | inr other ↦
+      let second : (p.format == second_number) ≡ true = subst (λ (b : Bool). (b || (p.format == second_number)) ≡ true) other sound.format in
+      let limit : (geometry p).path_limit ≡ path_limit = rw second refl in
+      let fits : length path ≤ path_limit = (parts_of_path path is).fits in
+      omega (arith, limit, fits)
+]
+
 -- the entry in its room is proper
-proper_in : (p : Params) (w : Wish) (r : Room) → IsSoundWish w → FitsSlot p w.path → is_map p (entry_for w r) ≡ true → Proper p (entry_for w r)
-proper_in p w r wish short map = record {
+proper_in : (p : Params) (w : Wish) (r : Room) → SoundParams p → IsSoundWish w → FitsSlot p w.path → is_map p (entry_for w r) ≡ true → Proper p (entry_for w r)
+proper_in p w r sound wish short map = record {
   path = wish.path;
-  short = short;
+  short = slot_has_room p w.path sound wish.path short;
   mode = wish.attr.mode;
   uid = wish.attr.uid;
   gid = wish.attr.gid;
@@ -274,6 +287,6 @@ may_append p me list w e sound wish h =
     subst (MayAppend p me list) d.entry (record {
       master = d.master;
       left = d.left;
-      proper = proper_in p w d.room wish d.short d.suits.map;
+      proper = proper_in p w d.room sound wish d.short d.suits.map;
       joins = joins_back p list (entry_for w d.room) (record { absent = d.absent; parent = d.parent; units = d.suits.units });
     })

@@ -209,7 +209,7 @@ module _ (p : Params) (me : List ℕ) (list : List Entry) (w : Wish) where
   early_outcome : EarlyCases p me w.path → Outcome p me list w
   early_outcome (may_ask same short passed) = stripe_outcome same short (stripe_cases p w.stripe)
   early_outcome (another other refusal) = refused (NotMaster me p.master) (refl, refl, other)
-  early_outcome (too_long same long refusal) = refused (LongPath (geometry p).path_limit) (record { master = same; limit_is = refl; long = long })
+  early_outcome (too_long first same long refusal) = refused (LongPath (geometry p).path_limit) (record { format = first; master = same; limit_is = refl; long = long })
 
   -- so each wish has its outcome
   outcome : Outcome p me list w

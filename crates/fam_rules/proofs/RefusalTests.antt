@@ -13,6 +13,7 @@ use Rattle.fam_base.specs.declared.entry.Kind.TheVariants.{File, Directory}
 use Rattle.fam_base.specs.ExtentLists.{extent_limit}
 use Rattle.fam_base.specs.PathOrder.{path_eq}
 use Rattle.fam_format.specs.Layout.{geometry}
+use Rattle.fam_format.specs.Params.{first_number}
 use Rattle.fam_format.specs.ReadingLaws.{HasParent}
 use Rattle.fam_format.specs.Tree.{Tree}
 use Rattle.fam_rules.specs.declared.answers.Refused.{Refused}
@@ -64,18 +65,21 @@ some_master p me other = elim (cases_Bool (path_eq me p.master)) [
 
 -- a path that isn't refused fits a slot
 pub length_none : (p : Params) (path : List ℕ) → length_refusal p path ≡ None → FitsSlot p path
-length_none p path h = elim (cases_Bool (nat_le (length path) (geometry p).path_limit)) [
+length_none p path h is = elim (cases_Bool (nat_le (length path) (geometry p).path_limit)) [
   | inl pass ↦ leb-true (length path) (geometry p).path_limit pass
-  | inr fail ↦ absurd (let e : length_refusal p path ≡ Some (LongPath (geometry p).path_limit) = rw fail refl in cc)
+  | inr fail ↦ absurd (let e : length_refusal p path ≡ Some (LongPath (geometry p).path_limit) = rw (eq-eqb p.format first_number is, fail) refl in cc)
 ]
 
 -- one that fits isn't refused
 pub none_length : (p : Params) (path : List ℕ) → FitsSlot p path → length_refusal p path ≡ None
-none_length p path fits = rw (le-leb (length path) (geometry p).path_limit fits) refl
+none_length p path fits = elim (cases_Bool (p.format == first_number)) [
+  | inl first ↦ rw (first, le-leb (length path) (geometry p).path_limit (fits (eqb-true p.format first_number first))) refl
+  | inr other ↦ rw other refl
+]
 
 -- a longer one is
-pub some_length : (p : Params) (path : List ℕ) → (geometry p).path_limit < length path → length_refusal p path ≡ Some (LongPath (geometry p).path_limit)
-some_length p path long = rw (lt-leb (length path) (geometry p).path_limit long) refl
+pub some_length : (p : Params) (path : List ℕ) → p.format ≡ first_number → (geometry p).path_limit < length path → length_refusal p path ≡ Some (LongPath (geometry p).path_limit)
+some_length p path first long = rw (eq-eqb p.format first_number first, lt-leb (length path) (geometry p).path_limit long) refl
 
 -- where the first of two refusals doesn't come, neither does
 neither : (one other : Option Refused) → first_refusal one other ≡ None → (one ≡ None) × (other ≡ None)
@@ -97,27 +101,34 @@ pub early_master : (p : Params) (me path : List ℕ) → me ≢ p.master → ear
 early_master p me path other = ap (λ (o : Option Refused). first_refusal o (length_refusal p path)) (some_master p me other)
 
 -- and the master with a path that is too long
-pub early_long : (p : Params) (me path : List ℕ) → me ≡ p.master → (geometry p).path_limit < length path → early_refusal p me path ≡ Some (LongPath (geometry p).path_limit)
-early_long p me path same long = ap (λ (o : Option Refused). first_refusal o (length_refusal p path)) (none_master p me same) ∙ some_length p path long
+pub early_long : (p : Params) (me path : List ℕ) → p.format ≡ first_number → me ≡ p.master → (geometry p).path_limit < length path → early_refusal p me path ≡ Some (LongPath (geometry p).path_limit)
+early_long p me path first same long = ap (λ (o : Option Refused). first_refusal o (length_refusal p path)) (none_master p me same) ∙ some_length p path first long
 
 -- with the limit that it has
 pub early_limit : (p : Params) (me : List ℕ) (w : Wish) (limit : ℕ) → IsTooLong p me w limit → early_refusal p me w.path ≡ Some (LongPath limit)
-early_limit p me w limit is = early_long p me w.path is.master (omega (arith, is.long, is.limit_is)) ∙ ap (λ (n : ℕ). Some (LongPath n)) (sym is.limit_is)
+early_limit p me w limit is = early_long p me w.path is.format is.master (omega (arith, is.long, is.limit_is)) ∙ ap (λ (n : ℕ). Some (LongPath n)) (sym is.limit_is)
 
 -- the master asks with a path that fits, or another host asks, or the path is too long
 pub data EarlyCases (p : Params) (me path : List ℕ) : Type 0 where
   may_ask : me ≡ p.master → FitsSlot p path → early_refusal p me path ≡ None → EarlyCases p me path
   another : me ≢ p.master → early_refusal p me path ≡ Some (NotMaster me p.master) → EarlyCases p me path
-  too_long : me ≡ p.master → (geometry p).path_limit < length path → early_refusal p me path ≡ Some (LongPath (geometry p).path_limit) → EarlyCases p me path
+  too_long : p.format ≡ first_number → me ≡ p.master → (geometry p).path_limit < length path → early_refusal p me path ≡ Some (LongPath (geometry p).path_limit) → EarlyCases p me path
 
 -- one of these it is
 pub early_cases : (p : Params) (me path : List ℕ) → EarlyCases p me path
 early_cases p me path = elim (cases_Bool (path_eq me p.master)) [
   | inl pass ↦
       let same : me ≡ p.master = (pointwise_decides Decides-eqb me p.master).0 pass in
-      elim (cases_lt (geometry p).path_limit (length path)) [
-        | inl long ↦ too_long same long (early_long p me path same long)
-        | inr fits ↦ may_ask same fits (none_early p me path same fits)
+      elim (cases_Bool (p.format == first_number)) [
+        | inl is ↦
+            let first : p.format ≡ first_number = eqb-true p.format first_number is in
+            elim (cases_lt (geometry p).path_limit (length path)) [
+              | inl long ↦ too_long first same long (early_long p me path first same long)
+              | inr fits ↦ may_ask same (λ e. fits) (none_early p me path same (λ e. fits))
+            ]
+        | inr other ↦
+            let fits : FitsSlot p path = λ e. absurd (false≢true (sym other ∙ eq-eqb p.format first_number e)) in
+            may_ask same fits (none_early p me path same fits)
       ]
   | inr fail ↦
       let other : me ≢ p.master = λ same. false≢true (sym fail ∙ (pointwise_decides Decides-eqb me p.master).1 same) in

@@ -162,9 +162,8 @@ longer_path : early_refusal (record (params_of 4194304) { format = 2 }) (uuid_of
 unfolding shape_of
 longer_path = refl
 
--- and one more doesn't
-longest_path : early_refusal (record (params_of 4194304) { format = 2 }) (uuid_of 1) (replicate 513 101) ≡ Some (LongPath 512)
-unfolding shape_of
+-- and more aren't refused here: a path has no more
+longest_path : early_refusal (record (params_of 4194304) { format = 2 }) (uuid_of 1) (replicate 513 101) ≡ None
 longest_path = refl
 
 -- more strips than buckets, also for no bytes

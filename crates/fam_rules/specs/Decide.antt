@@ -1,5 +1,5 @@
 -- Which entry a command appends, or why it appends none. docs/MODEL.md, "Decide".
-use Rattle.std.specs.Prelude.{ℕ, ◌-◌, ◌*◌, ◌/◌, ◌%◌, ◌^◌, ◌==◌, ◌&&◌, Bool, nat_le, if◌then◌else◌, min, List, [], ◌∷◌, length, map, Option, Some, None, option_map, Result, Ok, Err}
+use Rattle.std.specs.Prelude.{ℕ, ◌-◌, ◌*◌, ◌/◌, ◌%◌, ◌^◌, ◌==◌, ◌&&◌, Bool, true, nat_le, if◌then◌else◌, min, List, [], ◌∷◌, length, map, Option, Some, None, option_map, Result, Ok, Err}
 use Rattle.std.specs.FinMap as finmap
 use Rattle.std.specs.Int.{div_ceil}
 use Rattle.fam_base.specs.declared.cmd.Attr.{Attr}
@@ -18,6 +18,7 @@ use Rattle.fam_base.specs.Paths.{parent_of}
 use Rattle.fam_base.specs.PathOrder.{path_eq}
 use Rattle.fam_base.specs.Units.{strip_bytes}
 use Rattle.fam_format.specs.Layout.{device_units, geometry}
+use Rattle.fam_format.specs.Params.{first_number}
 use Rattle.fam_format.specs.Stop.{stop}
 use Rattle.fam_format.specs.Tree.{Tree, replay}
 use Rattle.fam_format.specs.Units.{is_used}
@@ -49,9 +50,13 @@ wish_of Fsck = None
 abbrev pub master_refusal : Params → List ℕ → Option Refused
 master_refusal p me = if path_eq me p.master then None else Some (NotMaster me p.master)
 
+-- a slot has room for the path: in the first format up to a limit, and else for every path, which has 512 bytes at most
+abbrev pub path_fits : Params → List ℕ → Bool
+path_fits p path = if p.format == first_number then nat_le (length path) (geometry p).path_limit else true
+
 -- the path is longer than a slot has room for
 abbrev pub length_refusal : Params → List ℕ → Option Refused
-length_refusal p path = if nat_le (length path) (geometry p).path_limit then None else Some (LongPath (geometry p).path_limit)
+length_refusal p path = if path_fits p path then None else Some (LongPath (geometry p).path_limit)
 
 -- the first of two refusals
 abbrev pub first_refusal : Option Refused → Option Refused → Option Refused

@@ -12,6 +12,7 @@ use Rattle.fam_base.specs.Commands.{mode_limit}
 use Rattle.fam_base.specs.ExtentLists.{extent_limit}
 use Rattle.fam_base.specs.Paths.{is_path, parent_of}
 use Rattle.fam_format.specs.Layout.{device_units, geometry}
+use Rattle.fam_format.specs.Params.{first_number}
 use Rattle.fam_format.specs.ReadingLaws.{HasParent}
 use Rattle.fam_format.specs.Slot.{Proper}
 use Rattle.fam_format.specs.Tree.{replay, join_fault}
@@ -72,12 +73,13 @@ abbrev pub HasGoodStripe : Params → Option Stripe → Type 0
 HasGoodStripe p None = ⊤
 HasGoodStripe p (Some s) = IsGoodStripe p s
 
--- a slot has room for the path
+-- a slot has room for the path: in the first format up to a limit, and else for every path, which has 512 bytes at most
 abbrev pub FitsSlot : Params → List ℕ → Type 0
-FitsSlot p path = length path ≤ (geometry p).path_limit
+FitsSlot p path = p.format ≡ first_number → length path ≤ (geometry p).path_limit
 
--- the master asks, with a path for which a slot has no room
+-- the master of a file system of the first format asks, with a path for which a slot has no room
 pub record IsTooLong (p : Params) (me : List ℕ) (w : Wish) (limit : ℕ) : Type 0 where
+  pub format : p.format ≡ first_number
   pub master : me ≡ p.master
   pub limit_is : limit ≡ (geometry p).path_limit
   pub long : limit < length w.path

@@ -6,7 +6,7 @@ use Rattle.std.specs.FinMap as finmap
 use Rattle.std.proofs.lemmas.Grind.{div_ceil_times}
 use Rattle.std.proofs.lemmas.Option.{same_Some}
 use Rattle.fam_base.specs.declared.cmd.Cmd.{Cmd}
-use Rattle.fam_base.specs.declared.cmd.Cmd.TheVariants.{Logplay, Mount, Mkdir, Creat, Cp, Verify, Read, Check, Fsck}
+use Rattle.fam_base.specs.declared.cmd.Cmd.TheVariants.{Mkdir, Creat, Cp, Verify, Read, Check, Fsck}
 use Rattle.fam_base.specs.declared.cmd.Content.{Content}
 use Rattle.fam_base.specs.declared.cmd.Content.TheVariants as content
 use Rattle.fam_base.specs.declared.entry.Entry.{Entry}
@@ -160,13 +160,7 @@ file_keeps (Verify path against) t j k looks small = compare_keeps t against j k
 file_keeps (Read path offset count) t j k looks small =
     either (reading part.File j k t) t (nat_lt (j + 1) (wanted_lines t.cmd (size_of t.entry))) _ _
     (next_line t _ j k refl refl refl refl small) tt
-file_keeps Logplay t j k looks small = absurd looks
-file_keeps Mount t j k looks small = absurd looks
-file_keeps (Mkdir path attr) t j k looks small = absurd looks
-file_keeps (Creat path size attr stripe fill) t j k looks small = absurd looks
-file_keeps (Cp path attr stripe bytes) t j k looks small = absurd looks
-file_keeps (Check listing) t j k looks small = absurd looks
-file_keeps Fsck t j k looks small = absurd looks
+file_keeps other t j k looks small = absurd looks
 
 line_keeps : (p : Part) (t : Task) (j k : ℕ) → IsLine p j t → k < 8 → Keeps (reading p j k t) t (line_turn t p j)
 line_keeps part.Superblock t j k is small =
@@ -182,9 +176,7 @@ line_keeps part.File t j k is small = file_keeps t.cmd t j k is.looks small
 
 next_word : (p : Part) (t : Task) (j k word : ℕ) → k < 8 → reading p j (k + 1) (record (with_word t word) { phase = at.Word p j (k + 1) }) < reading p j k t
 next_word part.Superblock t j k word small = omega arith
-next_word part.Header t j k word small = omega arith
-next_word (part.Slot i) t j k word small = omega arith
-next_word part.File t j k word small = omega arith
+next_word other t j k word small = omega arith
 
 same_super : (t : Task) (word : ℕ) → HasSuper t → HasSuper (with_word t word)
 same_super t word has = record { sound = has.sound; device = has.device; slots = has.slots }
@@ -209,17 +201,12 @@ same_line part.File t j word is = record {
 
 same_reading : (p : Part) (t : Task) (j k word : ℕ) → reading p j k (with_word t word) ≡ reading p j k t
 same_reading part.Superblock t j k word = refl
-same_reading part.Header t j k word = refl
-same_reading (part.Slot i) t j k word = refl
-same_reading part.File t j k word = refl
+same_reading other t j k word = refl
 
 -- the task with one word more goes on as the task does
 before_word : (n : ℕ) (t : Task) (word : ℕ) (turn : Turn) → Keeps n (with_word t word) turn → Keeps n t turn
-before_word n t word (Goes next) k = record { lines = k.lines; falls = k.falls }
-before_word n t word (Marks next) k = record { lines = k.lines; falls = k.falls }
-before_word n t word (Finds m next) k = record { lines = k.lines; falls = k.falls }
-before_word n t word (Writes seq e next) k = record { lines = k.lines; falls = k.falls }
 before_word n t word (Ends reply) k = tt
+before_word n t word other k = record { lines = k.lines; falls = k.falls }
 
 word_keeps : (p : Part) (t : Task) (j k word : ℕ) → IsLine p j t → k < 8 → Keeps (reading p j k t) t (word_turn (with_word t word) p j k)
 word_keeps p t j k word is small =
@@ -231,9 +218,7 @@ word_keeps p t j k word is small =
 
 first_word : (p : Part) (t : Task) (j : ℕ) → Keeps (reading p j 0 t + 1) t (Goes (record t { phase = at.Word p j 0 }))
 first_word part.Superblock t j = record { lines = refl; falls = λ _. omega arith }
-first_word part.Header t j = record { lines = refl; falls = λ _. omega arith }
-first_word (part.Slot i) t j = record { lines = refl; falls = λ _. omega arith }
-first_word part.File t j = record { lines = refl; falls = λ _. omega arith }
+first_word other t j = record { lines = refl; falls = λ _. omega arith }
 
 -- Gate and slots.
 
@@ -285,15 +270,8 @@ survey_keeps : (t : Task) (i : ℕ) → Keeps (from_slot t (i + 1)) t (survey_tu
 survey_keeps t i = record { lines = refl; falls = slot_falls _ (i + 1) (from_slot t (i + 1)) _ (λ _. omega arith) (omega arith) }
 
 check_keeps : (cmd : Cmd) (t : Task) (i : ℕ) → Keeps (from_slot t (i + 1)) t (check_turn cmd t i)
-check_keeps Logplay t i = slot_keeps t i (entry_of t.params t.words i)
-check_keeps Mount t i = slot_keeps t i (entry_of t.params t.words i)
-check_keeps (Mkdir path attr) t i = slot_keeps t i (entry_of t.params t.words i)
-check_keeps (Creat path size attr stripe fill) t i = slot_keeps t i (entry_of t.params t.words i)
-check_keeps (Cp path attr stripe bytes) t i = slot_keeps t i (entry_of t.params t.words i)
-check_keeps (Verify path against) t i = slot_keeps t i (entry_of t.params t.words i)
-check_keeps (Read path offset count) t i = slot_keeps t i (entry_of t.params t.words i)
-check_keeps (Check listing) t i = slot_keeps t i (entry_of t.params t.words i)
 check_keeps Fsck t i = survey_keeps t i
+check_keeps other t i = slot_keeps t i (entry_of t.params t.words i)
 
 -- The decision, and lines that are written.
 
@@ -357,15 +335,12 @@ found_keeps t None turn keeps = tt
 found_keeps t (Some e) turn keeps = kind_keeps t e.kind (turn e) (keeps e)
 
 decide_keeps : (cmd : Cmd) (t : Task) → t.cmd ≡ cmd → Keeps behind_decision t (decide_turn cmd t)
-decide_keeps Logplay t is = tt
-decide_keeps Mount t is = tt
 decide_keeps (Mkdir path attr) t is = wish_keeps t _ (wish_of t.cmd) (ap wish_of is)
 decide_keeps (Creat path size attr stripe fill) t is = wish_keeps t _ (wish_of t.cmd) (ap wish_of is)
 decide_keeps (Cp path attr stripe bytes) t is = wish_keeps t _ (wish_of t.cmd) (ap wish_of is)
 decide_keeps (Verify path against) t is = found_keeps t (finmap.get (replay t.entries) path) (λ e. verify_turn t e against) (λ e. content_keeps t e against)
 decide_keeps (Read path offset count) t is = found_keeps t (finmap.get (replay t.entries) path) (λ e. bytes_turn t e offset) (λ e. bytes_keeps t e offset)
-decide_keeps (Check listing) t is = tt
-decide_keeps Fsck t is = tt
+decide_keeps other t is = tt
 
 data_falls : (t next : Task) (j k : ℕ) (b : Bool) → next.params ≡ t.params → next.entry ≡ t.entry → k < 8 → left_at (cond b (at.StoreData j (k + 1)) (at.SendData j)) next < left_at (at.StoreData j k) t
 data_falls t next j k true params entry small = omega (arith, ap (λ (p : Params). (geometry p).lines) params, ap (λ (e : Option Entry). lines_of (size_of e)) entry)
@@ -390,11 +365,9 @@ send_falls t j false h = omega arith
 -- All phases.
 
 keeps_at : (phase : Phase) (t : Task) (word : ℕ) → IsSoundAt phase t → Keeps (left_at phase t) t (turn_at phase t word)
-keeps_at at.DropMagic t word stands = record { lines = refl; falls = λ _. omega arith }
 keeps_at at.Magic t word stands = magic_keeps t (magic_fault word)
 keeps_at (at.Drop p j) t word stands = first_word p t j
 keeps_at (at.Word p j k) t word stands = word_keeps p t j k word stands.0.line stands.1
-keeps_at at.DropGate t word stands = record { lines = refl; falls = λ _. omega arith }
 keeps_at at.Gate t word stands = gate_keeps t word (gate_fault word t.params)
 keeps_at (at.Check i) t word stands = check_keeps t.cmd t i
 keeps_at at.Decide t word stands = decide_keeps t.cmd t refl
@@ -404,10 +377,8 @@ keeps_at (at.SendData j) t word stands =
 keeps_at (at.StoreSlot j k) t word stands = record { lines = refl; falls = λ _. store_falls t _ j k (nat_lt k 7) refl stands.2 }
 keeps_at (at.SendSlot j) t word stands =
     record { lines = refl; falls = send_falls (record t { phase = slot_or_fence t j }) j (nat_lt (j + 1) (geometry t.params).lines) }
-keeps_at at.StoreGate t word stands = record { lines = refl; falls = λ _. omega arith }
-keeps_at at.FenceSlot t word stands = record { lines = refl; falls = λ _. omega arith }
-keeps_at at.SendGate t word stands = record { lines = refl; falls = λ _. omega arith }
 keeps_at at.FenceGate t word stands = tt
+keeps_at other t word stands = record { lines = refl; falls = λ _. omega arith }
 
 kept_by : (n : ℕ) (t next : Task) (turn : Turn) → Keeps n t turn → task_after turn ≡ Some next → Kept n t next
 kept_by n t next (Goes other) k is = subst (λ (x : Task). Kept n t x) (same_Some other next is) k

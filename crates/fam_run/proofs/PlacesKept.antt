@@ -51,12 +51,8 @@ pub record Takes (op : Op) (cache after : CacheState) : Type 0 where
   pub held : IsHeldBy op after.lines
 
 held_by : (op : Op) (modelled : Option Image) (old new : Cache) → LeavesCache op modelled old new → IsHeldBy op new
-held_by (Load line k) modelled old new leaves = tt
 held_by (Store line k value) modelled old new leaves = held_after_store modelled line.0 k value old new leaves
-held_by (WriteBack line) modelled old new leaves = tt
-held_by Fence modelled old new leaves = tt
-held_by (Invalidate line) modelled old new leaves = tt
-held_by Digest modelled old new leaves = tt
+held_by other modelled old new leaves = tt
 
 pub takes : (op : Op) (modelled : Option Image) (cache after : CacheState) → cache.spare ≤ after.spare + 1 → (BringsNone op cache.lines → cache.spare ≤ after.spare) → LeavesCache op modelled cache.lines after.lines → Takes op cache after
 takes op modelled cache after one none leaves = record {
@@ -116,14 +112,6 @@ module _ (t : Task) (cache after : CacheState) where
       ]
 
   kept_at : (p : Phase) (word : ℕ) → IsSoundAt p t → Takes (op_at t p) cache after → IsReadyAt p t cache → HasPlacesAt p t cache → KeptBy (turn_at p t word) after
-  kept_at at.DropMagic word sound place ready has = absurd has
-  kept_at at.Magic word sound place ready has = absurd has
-  kept_at (at.Drop part j) word sound place ready has = absurd has
-  kept_at (at.Word part j k) word sound place ready has = absurd has
-  kept_at at.DropGate word sound place ready has = absurd has
-  kept_at at.Gate word sound place ready has = absurd has
-  kept_at (at.Check i) word sound place ready has = absurd has
-  kept_at at.Decide word sound place ready has = absurd has
   kept_at (at.StoreData j k) word sound place ready has =
       let kept : cache.spare ≤ after.spare = place.none (file_held j k has ready) in
       data_next (nat_lt k 7) j k (omega (arith, has.0, kept)) place.held
@@ -139,6 +127,7 @@ module _ (t : Task) (cache after : CacheState) where
   kept_at at.FenceSlot word sound place ready has = (let kept : cache.spare ≤ after.spare = place.none tt in omega (arith, has, kept))
   kept_at at.SendGate word sound place ready has = tt
   kept_at at.FenceGate word sound place ready has = tt
+  kept_at other word sound place ready has = absurd has
 
 -- Of the operation that comes next.
 
@@ -150,14 +139,6 @@ kept t next op word turn modelled cache after is sound one none leaves tells on 
 
 -- one that looks at what was read is none of an append behind its first store
 digest_at : (p : Phase) (t : Task) (cache : CacheState) → op_at t p ≡ Digest → HasPlacesAt p t cache → ⊥
-digest_at at.DropMagic t cache is has = has
-digest_at at.Magic t cache is has = has
-digest_at (at.Drop part j) t cache is has = has
-digest_at (at.Word part j k) t cache is has = has
-digest_at at.DropGate t cache is has = has
-digest_at at.Gate t cache is has = has
-digest_at (at.Check i) t cache is has = has
-digest_at at.Decide t cache is has = has
 digest_at (at.StoreData j k) t cache is has = absurd cc
 digest_at (at.SendData j) t cache is has = absurd cc
 digest_at (at.StoreSlot i k) t cache is has = absurd cc
@@ -166,6 +147,7 @@ digest_at at.StoreGate t cache is has = absurd cc
 digest_at at.FenceSlot t cache is has = absurd cc
 digest_at at.SendGate t cache is has = absurd cc
 digest_at at.FenceGate t cache is has = absurd cc
+digest_at other t cache is has = has
 
 pub digest_none : (t : Task) (cache : CacheState) → op_of t ≡ Digest → ¬ (HasPlaces t cache)
 digest_none t cache is has = digest_at t.phase t cache is has
@@ -176,39 +158,17 @@ digest_places t cache next after (Ok turn) is = λ on has. absurd (digest_none t
 digest_places t cache next after (Err (fault.MediaFault line)) is = tt
 digest_places t cache next after (Err fault.OutOfMemory) is = digest_none t cache is
 
--- a task in a phase that has none
-pub none_in : (p : Phase) (t : Task) (cache : CacheState) → t.phase ≡ p → ¬ (HasPlacesAt p t cache) → ¬ (HasPlaces t cache)
-none_in p t cache is none has = none (subst (λ (q : Phase). HasPlacesAt q t cache) is has)
-
 -- Operations on copies alone.
 
 held_of : (op : Op) (now after : Cache) → IsCached op now → after ≡ cached_after op now → IsHeldBy op after
-held_of (Load line k) now after of is = tt
 held_of (Store line k value) now after of is =
     let cell : Cell = Dirty false (slice_set (words_of (cell_at now line.0)) k value) in
     subst (λ (c : Cache). IsHeld (cell_at c line.0)) (sym is) (subst IsHeld {x = cell} (sym (cell_at-with_cell_same line.0 cell now)) refl)
-held_of (WriteBack line) now after of is = tt
-held_of Fence now after of is = tt
-held_of (Invalidate line) now after of is = tt
-held_of Digest now after of is = tt
+held_of other now after of is = tt
 
 ready_of : (p : Phase) (t : Task) (cache : CacheState) → IsCached (op_at t p) cache.lines → IsReadyAt p t cache
-ready_of at.DropMagic t cache of = tt
-ready_of at.Magic t cache of = tt
-ready_of (at.Drop part j) t cache of = tt
-ready_of (at.Word part j k) t cache of = tt
-ready_of at.DropGate t cache of = tt
-ready_of at.Gate t cache of = tt
-ready_of (at.Check i) t cache of = tt
-ready_of at.Decide t cache of = tt
 ready_of (at.StoreData j k) t cache of = λ _. of
-ready_of (at.SendData j) t cache of = tt
-ready_of (at.StoreSlot i k) t cache of = tt
-ready_of (at.SendSlot i) t cache of = tt
-ready_of at.StoreGate t cache of = tt
-ready_of at.FenceSlot t cache of = tt
-ready_of at.SendGate t cache of = tt
-ready_of at.FenceGate t cache of = tt
+ready_of other t cache of = tt
 
 -- a cache of these lines, with so many places
 abbrev pub with_places : Cache → ℕ → CacheState
@@ -232,14 +192,6 @@ run_kept t next held after spare (run.more {mid = mid} {now = now} before sound 
 
 -- more places are no fewer
 more_places : (p : Phase) (t : Task) (lines : Cache) (spare now : ℕ) → spare ≤ now → HasPlacesAt p t (with_places lines spare) → HasPlacesAt p t (with_places lines now)
-more_places at.DropMagic t lines spare now le has = has
-more_places at.Magic t lines spare now le has = has
-more_places (at.Drop part j) t lines spare now le has = has
-more_places (at.Word part j k) t lines spare now le has = has
-more_places at.DropGate t lines spare now le has = has
-more_places at.Gate t lines spare now le has = has
-more_places (at.Check i) t lines spare now le has = has
-more_places at.Decide t lines spare now le has = has
 more_places (at.StoreData j k) t lines spare now le has = (omega (arith, has.0), has.1)
 more_places (at.SendData j) t lines spare now le has = omega (arith, has)
 more_places (at.StoreSlot i k) t lines spare now le has = record {
@@ -252,28 +204,15 @@ more_places at.StoreGate t lines spare now le has = omega (arith, has)
 more_places at.FenceSlot t lines spare now le has = omega (arith, has)
 more_places at.SendGate t lines spare now le has = tt
 more_places at.FenceGate t lines spare now le has = tt
+more_places other t lines spare now le has = has
 
 pub held_kept : (t next : Task) (cache after : CacheState) {n : ℕ} → CachedRun t cache.lines next after.lines n → cache.spare ≤ after.spare → HasPlaces t cache → HasPlaces next after
 held_kept t next cache after run le has =
     more_places next.phase next after.lines cache.spare after.spare le (run_kept t next cache.lines after.lines cache.spare run has)
 
 sent_ready : (p : Phase) (t : Task) (cache : CacheState) {line : LineNo} → op_at t p ≡ Invalidate line → IsReadyAt p t cache
-sent_ready at.DropMagic t cache is = tt
-sent_ready at.Magic t cache is = tt
-sent_ready (at.Drop part j) t cache is = tt
-sent_ready (at.Word part j k) t cache is = tt
-sent_ready at.DropGate t cache is = tt
-sent_ready at.Gate t cache is = tt
-sent_ready (at.Check i) t cache is = tt
-sent_ready at.Decide t cache is = tt
 sent_ready (at.StoreData j k) t cache is = absurd cc
-sent_ready (at.SendData j) t cache is = tt
-sent_ready (at.StoreSlot i k) t cache is = tt
-sent_ready (at.SendSlot i) t cache is = tt
-sent_ready at.StoreGate t cache is = tt
-sent_ready at.FenceSlot t cache is = tt
-sent_ready at.SendGate t cache is = tt
-sent_ready at.FenceGate t cache is = tt
+sent_ready other t cache is = tt
 
 -- A line of the file that is stored whole. Its stores are as those into a copy, which takes no place.
 
@@ -315,14 +254,6 @@ IsGoing (turns.Writes seq e t) = ⊥
 IsGoing (turns.Ends reply) = ⊤
 
 going_at : (p : Phase) (t : Task) (word : ℕ) (cache : CacheState) → HasPlacesAt p t cache → IsGoing (turn_at p t word)
-going_at at.DropMagic t word cache has = absurd has
-going_at at.Magic t word cache has = absurd has
-going_at (at.Drop part j) t word cache has = absurd has
-going_at (at.Word part j k) t word cache has = absurd has
-going_at at.DropGate t word cache has = absurd has
-going_at at.Gate t word cache has = absurd has
-going_at (at.Check i) t word cache has = absurd has
-going_at at.Decide t word cache has = absurd has
 going_at (at.StoreData j k) t word cache has = tt
 going_at (at.SendData j) t word cache has = tt
 going_at (at.StoreSlot i k) t word cache has = tt
@@ -331,6 +262,7 @@ going_at at.StoreGate t word cache has = tt
 going_at at.FenceSlot t word cache has = tt
 going_at at.SendGate t word cache has = tt
 going_at at.FenceGate t word cache has = tt
+going_at other t word cache has = absurd has
 
 says_go : (wanted : turns.Turn) (turn : Turn) (next : Task) → IsGoing wanted → ended turn ≡ None → Tells wanted turn next → turn ≡ Go
 says_go (turns.Goes t) turn next going on tells = tells.0

@@ -5,7 +5,7 @@ use Rattle.std.specs.Prelude.{⊤, ◌==◌, nat_lt, nat_le, if◌then◌else◌
 use Rattle.std.specs.FinMap as finmap
 use Rattle.std.proofs.lemmas.Option.{same_Some}
 use Rattle.fam_base.specs.declared.cmd.Cmd.{Cmd}
-use Rattle.fam_base.specs.declared.cmd.Cmd.TheVariants.{Logplay, Mount, Mkdir, Creat, Cp, Verify, Read, Check, Fsck}
+use Rattle.fam_base.specs.declared.cmd.Cmd.TheVariants.{Mkdir, Creat, Cp, Verify, Read, Check}
 use Rattle.fam_base.specs.declared.cmd.Content.{Content}
 use Rattle.fam_base.specs.declared.cmd.Content.TheVariants as content
 use Rattle.fam_base.specs.declared.entry.Params.{Params}
@@ -59,51 +59,23 @@ IsFree at.FenceGate = ⊥
 
 free_before : (p : Phase) → IsFree p → IsBeforeWrites p
 free_before at.DropMagic free = tt
-free_before at.Magic free = absurd free
 free_before (at.Drop part j) free = tt
-free_before (at.Word part j k) free = absurd free
 free_before at.DropGate free = tt
-free_before at.Gate free = absurd free
 free_before (at.Check i) free = tt
 free_before at.Decide free = tt
-free_before (at.StoreData j k) free = absurd free
-free_before (at.SendData j) free = absurd free
-free_before (at.StoreSlot j k) free = absurd free
-free_before (at.SendSlot j) free = absurd free
-free_before at.StoreGate free = absurd free
-free_before at.FenceSlot free = absurd free
-free_before at.SendGate free = absurd free
-free_before at.FenceGate free = absurd free
+free_before other free = absurd free
 
 -- it wants nothing of a copy
 free_wants : (p : Phase) (t : Task) (real shown : Cache) → IsFree p → WantsSame (op_at t p) real shown
 free_wants at.DropMagic t real shown free = tt
-free_wants at.Magic t real shown free = absurd free
 free_wants (at.Drop part j) t real shown free = tt
-free_wants (at.Word part j k) t real shown free = absurd free
 free_wants at.DropGate t real shown free = tt
-free_wants at.Gate t real shown free = absurd free
 free_wants (at.Check i) t real shown free = tt
 free_wants at.Decide t real shown free = tt
-free_wants (at.StoreData j k) t real shown free = absurd free
-free_wants (at.SendData j) t real shown free = absurd free
-free_wants (at.StoreSlot j k) t real shown free = absurd free
-free_wants (at.SendSlot j) t real shown free = absurd free
-free_wants at.StoreGate t real shown free = absurd free
-free_wants at.FenceSlot t real shown free = absurd free
-free_wants at.SendGate t real shown free = absurd free
-free_wants at.FenceGate t real shown free = absurd free
+free_wants other t real shown free = absurd free
 
 -- an operation of a reader is at one line, or at none
 pub reads_one : (p : Phase) (t : Task) → IsBeforeWrites p → IsOneLine (op_at t p)
-reads_one at.DropMagic t before = tt
-reads_one at.Magic t before = tt
-reads_one (at.Drop part j) t before = tt
-reads_one (at.Word part j k) t before = tt
-reads_one at.DropGate t before = tt
-reads_one at.Gate t before = tt
-reads_one (at.Check i) t before = tt
-reads_one at.Decide t before = tt
 reads_one (at.StoreData j k) t before = absurd before
 reads_one (at.SendData j) t before = absurd before
 reads_one (at.StoreSlot j k) t before = absurd before
@@ -112,6 +84,7 @@ reads_one at.StoreGate t before = absurd before
 reads_one at.FenceSlot t before = absurd before
 reads_one at.SendGate t before = absurd before
 reads_one at.FenceGate t before = absurd before
+reads_one other t before = tt
 
 -- Behind an operation of which both caches have the same, as this says, the task goes on with a command.
 module _ (Same : Cache → Cache → Type 0) where
@@ -181,10 +154,7 @@ module _ (Same : Cache → Cache → Type 0) where
 
     check_leads : (c : Class) (i : ℕ) → Leads t.cmd (check_turn_in c t i)
     check_leads Surveys i = free_on t.cmd _ refl (slot_free t (i + 1))
-    check_leads Replays i = slot_leads i (entry_of t.params t.words i)
-    check_leads Appends i = slot_leads i (entry_of t.params t.words i)
-    check_leads (Compares path against) i = slot_leads i (entry_of t.params t.words i)
-    check_leads (Reads path offset count) i = slot_leads i (entry_of t.params t.words i)
+    check_leads other i = slot_leads i (entry_of t.params t.words i)
 
     lines_lead : (e : Entry) → Leads t.cmd (verify_lines t e)
     lines_lead e = either (e.size == 0) _ _ tt (free_on t.cmd _ refl tt)
@@ -206,15 +176,12 @@ module _ (Same : Cache → Cache → Type 0) where
     found_leads (Some e) turn leads = kind_leads e.kind (turn e) (leads e)
 
     decide_leads : (c : Cmd) → wish_of c ≡ None → Leads t.cmd (decide_turn c t)
-    decide_leads Logplay none = tt
-    decide_leads Mount none = tt
-    decide_leads (Check listing) none = tt
-    decide_leads Fsck none = tt
     decide_leads (Verify path against) none = found_leads (finmap.get (replay t.entries) path) (λ e. verify_turn t e against) (λ e. verify_leads e against)
     decide_leads (Read path offset count) none = found_leads (finmap.get (replay t.entries) path) (λ e. bytes_turn t e offset) (λ e. bytes_lead e offset)
     decide_leads (Mkdir path attr) none = absurd cc
     decide_leads (Creat path size attr stripe fill) none = absurd cc
     decide_leads (Cp path attr stripe bytes) none = absurd cc
+    decide_leads other none = tt
 
     line_leads : (part : Part) (j : ℕ) (turn : Turn) → Leads t.cmd turn → Leads t.cmd (line_or t part j turn)
     line_leads part j turn leads = either (nat_lt (j + 1) (part_count t part)) _ _ (free_on t.cmd _ refl tt) leads
@@ -244,21 +211,15 @@ module _ (Same : Cache → Cache → Type 0) where
 
 drop_word : (t : Task) (part : Part) (j : ℕ) (real shown : Cache) → HasSame (op_at t (at.Drop part j)) real shown → WantsSame (op_of (record t { phase = at.Word part j 0 })) real shown
 drop_word t Superblock j real shown same = same
-drop_word t Header j real shown same = same
-drop_word t (Slot i) j real shown same = same
-drop_word t File j real shown same = same
+drop_word t other j real shown same = same
 
 word_word : (t : Task) (word : ℕ) (part : Part) (j k : ℕ) (real shown : Cache) → HasSame (op_at t (at.Word part j k)) real shown → WantsSame (op_of (record (with_word t word) { phase = at.Word part j (k + 1) })) real shown
 word_word t word Superblock j k real shown same = same
-word_word t word Header j k real shown same = same
-word_word t word (Slot i) j k real shown same = same
-word_word t word File j k real shown same = same
+word_word t word other j k real shown same = same
 
 word_again : (t : Task) (word : ℕ) (part : Part) (j k : ℕ) (real shown : Cache) → HasSame (op_at t (at.Word part j k)) real shown → WantsSame (op_at (with_word t word) (at.Word part j k)) real shown
 word_again t word Superblock j k real shown same = same
-word_again t word Header j k real shown same = same
-word_again t word (Slot i) j k real shown same = same
-word_again t word File j k real shown same = same
+word_again t word other j k real shown same = same
 
 turn_leads : (p : Phase) (t : Task) (word : ℕ) → IsBeforeWrites p → wish_of t.cmd ≡ None → t.phase ≡ p → Leads (HasSame (op_at t p)) t.cmd (turn_at p t word)
 turn_leads at.DropMagic t word before none is = record { cmd_is = refl; before = tt; wants = λ real shown same. same }
@@ -276,14 +237,7 @@ turn_leads at.DropGate t word before none is = record { cmd_is = refl; before = 
 turn_leads at.Gate t word before none is = gate_leads (HasSame (op_at t at.Gate)) t word (gate_fault word t.params)
 turn_leads (at.Check i) t word before none is = check_leads (HasSame (op_at t (at.Check i))) t (class_of t.cmd) i
 turn_leads at.Decide t word before none is = decide_leads (HasSame (op_at t at.Decide)) t t.cmd none
-turn_leads (at.StoreData j k) t word before none is = absurd before
-turn_leads (at.SendData j) t word before none is = absurd before
-turn_leads (at.StoreSlot j k) t word before none is = absurd before
-turn_leads (at.SendSlot j) t word before none is = absurd before
-turn_leads at.StoreGate t word before none is = absurd before
-turn_leads at.FenceSlot t word before none is = absurd before
-turn_leads at.SendGate t word before none is = absurd before
-turn_leads at.FenceGate t word before none is = absurd before
+turn_leads other t word before none is = absurd before
 
 leads_next : (Same : Cache → Cache → Type 0) (cmd : Cmd) (turn : Turn) (next : Task) → Leads Same cmd turn → task_after turn ≡ Some next → ReadsOn Same cmd next
 leads_next Same cmd (Goes t) next leads is = subst (ReadsOn Same cmd) (same_Some t next is) leads

@@ -7,7 +7,7 @@ use Rattle.fam_cache.specs.Operations.{word_of}
 use Rattle.fam_commands.specs.Stands.{task_after}
 use Rattle.fam_commands.specs.Task.{Task, op_of}
 use Rattle.fam_commands.specs.Turns as turns
-use Rattle.fam_commands.specs.Turns.{Goes, Marks, Finds, Writes, Ends, turn_of}
+use Rattle.fam_commands.specs.Turns.{Ends, turn_of}
 use Rattle.fam_tasks.specs.declared.answer.Turn.{Turn}
 use Rattle.fam_tasks.specs.declared.answer.Turn.TheVariants.{Go, Note, Done}
 use Rattle.fam_tasks.specs.Sound.{IsSound}
@@ -22,19 +22,13 @@ no_reply (Done given) reply on replies = absurd cc
 
 -- the definition's turn goes on as the call's does
 pub goes_on : (wanted : turns.Turn) (turn : Turn) (new : Task) → ended turn ≡ None → Tells wanted turn new → task_after wanted ≡ Some new
-goes_on (Goes t) turn new on tells = ap Some (sym tells.1)
-goes_on (Marks t) turn new on tells = ap Some (sym tells.1)
-goes_on (Finds n t) turn new on tells = ap Some (sym tells.1)
-goes_on (Writes seq e t) turn new on tells = ap Some (sym tells.1)
 goes_on (Ends reply) turn new on tells = absurd (no_reply turn reply on tells)
+goes_on other turn new on tells = ap Some (sym tells.1)
 
 -- no task answers that the media failed
 pub no_fault : (wanted : turns.Turn) (turn : Turn) (new : Task) → Tells wanted turn new → IsNoFault turn
-no_fault (Goes t) turn new tells = λ line is. absurd (let on = tells.0 in cc)
-no_fault (Marks t) turn new tells = λ line is. absurd (let on = tells.0 in cc)
-no_fault (Finds n t) turn new tells = λ line is. absurd (let on = tells.0 in cc)
-no_fault (Writes seq e t) turn new tells = λ line is. absurd (let on = tells.0 in cc)
 no_fault (Ends reply) turn new tells = λ line is. absurd (let none = subst (λ (x : Turn). Replies x reply) is tells in cc)
+no_fault other turn new tells = λ line is. absurd (let on = tells.0 in cc)
 
 -- a task that goes on comes nearer to its end
 pub kept_on : (held : Cache) (task new : Task) (turn : Turn) → ended turn ≡ None → IsSound task → GoesOn task held turn new → Kept (left task) task new

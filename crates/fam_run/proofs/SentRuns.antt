@@ -23,7 +23,7 @@ use Rattle.fam_tasks.specs.Sound.{IsSound}
 use Rattle.fam_tasks.specs.Tells.{Tells}
 use Rattle.fam_run.specs.Led.{HasDone}
 use Rattle.fam_run.specs.Places.{KeepsPlaces}
-use Rattle.fam_run.specs.Runs.{HasRun, HasRunOff, SendsOne, Sent, StoresNext, StoresRun}
+use Rattle.fam_run.specs.Runs.{HasRun, HasRunOff, Sent, StoresNext, StoresRun}
 use Rattle.fam_run.specs.Runs as run
 use Rattle.fam_run.specs.TaskChange.{TaskChange}
 use Rattle.fam_run.proofs.PlacesKept.{put_kept}

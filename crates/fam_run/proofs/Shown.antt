@@ -1,5 +1,5 @@
 -- What a task that only reads does on a cache that lacks copies which its host has forgotten, it does on one that has all.
-use Rattle.std.proofs.Common.{◌≡◌, ℕ, Option, Some, None, Result, Ok, Err, inl, inr, refl, sym, ap, subst, ◌∙◌}
+use Rattle.std.proofs.Common.{◌≡◌, ℕ, Option, Some, None, Result, Ok, Err, inl, refl, sym, ap, subst, ◌∙◌}
 use Rattle.std.specs.Prelude.{false, slice_index, slice_set, unwrap_or}
 use Rattle.fam_base.specs.Image.{Image}
 use Rattle.fam_base.specs.declared.line.LineNo.{LineNo}
@@ -28,7 +28,7 @@ use Rattle.fam_run.specs.Led as led
 use Rattle.fam_run.specs.Led.{HasBrokenOff, HasDone, Led}
 use Rattle.fam_run.specs.Operation.{ended}
 use Rattle.fam_run.specs.Runs as sends
-use Rattle.fam_run.specs.Runs.{HasAdvanced, HasRun, HasRunOff, SendsOne, Sent, later}
+use Rattle.fam_run.specs.Runs.{HasAdvanced, SendsOne, Sent, later}
 use Rattle.fam_run.specs.Shows.{OnlyReads, Shows}
 use Rattle.fam_run.specs.TaskChange.{TaskChange}
 use Rattle.fam_run.proofs.Readers.{reads_on, reads_one, still_reads}
@@ -43,10 +43,7 @@ pub record OnBoth (next : Task) (real shown : Cache) : Type 0 where
 wants_own : (op : Op) (held : Cache) → WantsSame op held held
 wants_own (Load line k) held = refl
 wants_own (Store line k value) held = refl
-wants_own (WriteBack line) held = tt
-wants_own Fence held = tt
-wants_own (Invalidate line) held = tt
-wants_own Digest held = tt
+wants_own other held = tt
 
 pub on_own : (t : Task) (held : Cache) → OnlyReads t → OnBoth t held held
 on_own t held reads = record { reads = reads; shows = record { shed = shed_none held; same = wants_own (op_of t) held } }
@@ -125,12 +122,8 @@ shown_done a turn shown x on =
 
 -- an operation at one line that fails leaves the cache
 all_left : (op : Op) → IsOneLine op → (held : Cache) → LeavesFailed op held held
-all_left (Load line k) one held = refl
-all_left (Store line k value) one held = refl
-all_left (WriteBack line) one held = refl
 all_left Fence one held = absurd one
-all_left (Invalidate line) one held = refl
-all_left Digest one held = refl
+all_left other one held = refl
 
 record ShownOff (a : TaskChange) (line : LineNo) (shown : Cache) : Type 0 where
   after : Cache

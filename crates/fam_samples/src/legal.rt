@@ -1,6 +1,6 @@
 //! Which notes are allowed: for each row one that is, and some that aren't.
 
-ghost use Rattle.std.specs.Prelude.{◌≡◌, ◌++◌, ℕ, [], ◌∷◌, Some, None, codes};
+ghost use Rattle.std.specs.Prelude.{◌≡◌, ◌++◌, [], ◌∷◌};
 ghost use Rattle.fam_base.specs.declared.cmd.Cmd.TheVariants.{Fsck, Logplay, Mount, Verify};
 ghost use Rattle.fam_base.specs.declared.cmd.Content.TheVariants.{Zero};
 ghost use Rattle.fam_base.specs.declared.entry.Kind.TheVariants.{Directory, File};
@@ -8,8 +8,8 @@ ghost use Rattle.fam_format.specs.declared.faults.LogFault.{LogFault};
 ghost use Rattle.fam_format.specs.declared.faults.Reason.TheVariants.{BadPath, Map};
 ghost use Rattle.fam_format.specs.declared.faults.SuperFault.TheVariants.{NoSuper};
 ghost use Rattle.fam_journal.specs.Legal.{Allowed, cleared_report};
-ghost use Rattle.fam_journal.specs.Notes.{Answered, Found, Mark, MediaFault, Note, Replied, Start, Writes};
-ghost use Rattle.fam_journal.specs.Past.{BadHeader, BadSlot, FewLines, NoSuperblock, Past};
+ghost use Rattle.fam_journal.specs.Notes.{Answered, Found, Mark, MediaFault, Replied, Start, Writes};
+ghost use Rattle.fam_journal.specs.Past.{BadHeader, BadSlot, NoSuperblock};
 ghost use Rattle.fam_samples.specs.Scene.{behind, client, cut_off, damaged, done, folder, found, long, made, made_second, master, mkdir, no_tree, report_of_log, tree_of, writing, x, y};
 ghost use Rattle.fam_rules.specs.Reply as reply;
 ghost use Rattle.fam_rules.specs.Reply.{Appended, Mounted, NotAppended, NotFound, Played, Reports};
@@ -55,14 +55,14 @@ pub fn answers_of_appends()
     ensures other_uuid { Allowed (behind (made ++ Start 0 (mkdir x) ∷ [])) (Answered 0 (Replied (NotAppended (cause.NotMaster client master)))) → ⊥ }
     ensures no_superblock { Allowed (damaged (NoSuperblock (NoSuper 7)) 0) (Answered 1 (Replied (NotAppended (cause.NotMaster client master)))) → ⊥ }
 
-    // Too long a path: the master's, for which a slot has no room, whatever is found.
+    // Too long a path: the master's, for which a slot of the first format has no room, whatever is found.
     ensures long { Allowed (behind (made ++ Start 0 (mkdir (long 169)) ∷ [])) (Answered 0 (Replied (NotAppended (cause.LongPath 168)))) }
     ensures fits { Allowed (behind (made ++ Start 0 (mkdir (long 168)) ∷ [])) (Answered 0 (Replied (NotAppended (cause.LongPath 168)))) → ⊥ }
     ensures other_limit { Allowed (behind (made ++ Start 0 (mkdir (long 169)) ∷ [])) (Answered 0 (Replied (NotAppended (cause.LongPath 167)))) → ⊥ }
     ensures long_of_client { Allowed (behind (made ++ Start 1 (mkdir (long 169)) ∷ [])) (Answered 1 (Replied (NotAppended (cause.LongPath 168)))) → ⊥ }
     ensures long_read { Allowed (behind (made ++ Start 0 Logplay ∷ [])) (Answered 0 (Replied (NotAppended (cause.LongPath 168)))) → ⊥ }
     ensures long_nowhere { Allowed (damaged (NoSuperblock (NoSuper 7)) 0) (Answered 0 (Replied (NotAppended (cause.LongPath 168)))) → ⊥ }
-    ensures long_second { Allowed (behind (made_second ++ Start 0 (mkdir (long 513)) ∷ [])) (Answered 0 (Replied (NotAppended (cause.LongPath 512)))) }
+    ensures long_second { Allowed (behind (made_second ++ Start 0 (mkdir (long 513)) ∷ [])) (Answered 0 (Replied (NotAppended (cause.LongPath 512)))) → ⊥ }
     ensures fits_second { Allowed (behind (made_second ++ Start 0 (mkdir (long 169)) ∷ [])) (Answered 0 (Replied (NotAppended (cause.LongPath 168)))) → ⊥ }
 
     // Another refusal: the one that is decided on the history, with nothing pending.

@@ -1,6 +1,6 @@
 //! What calls and events do on the machine of all hosts: for each row a case, and what isn't one.
 
-ghost use Rattle.std.specs.Prelude.{◌≡◌, nat_lt, ℕ, false, List, [], ◌∷◌, Some, None, codes, length, option_map};
+ghost use Rattle.std.specs.Prelude.{◌≡◌, nat_lt, false, [], ◌∷◌, Some, None, codes, length, option_map};
 ghost use Rattle.fam_base.specs.Image.{Image};
 ghost use Rattle.fam_base.specs.declared.cmd.Cmd.TheVariants.{Logplay, Mount};
 ghost use Rattle.fam_machine.specs.MkfsRequest.{mkfs_request};

@@ -1,6 +1,6 @@
 //! What notes settle: one clause or more for each note.
 
-ghost use Rattle.std.specs.Prelude.{◌≡◌, ◌++◌, ℕ, [], ◌∷◌, Some, None, codes, slice_get, option_map};
+ghost use Rattle.std.specs.Prelude.{◌≡◌, ◌++◌, [], ◌∷◌, Some, None, codes, slice_get, option_map};
 ghost use Rattle.fam_base.specs.declared.cmd.Cmd.TheVariants.{Logplay};
 ghost use Rattle.fam_format.specs.declared.faults.Reason.TheVariants.{BadPath};
 ghost use Rattle.fam_format.specs.declared.faults.SuperFault.TheVariants.{NoSuper};

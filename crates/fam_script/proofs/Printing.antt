@@ -3,7 +3,7 @@ use Rattle.std.proofs.Common.{◌≡◌, ℕ, ◌+◌, ◌<◌, List, [], ◌∷
 use Rattle.std.proofs.lemmas.List.{at_drop_more}
 use Rattle.fam_crc.specs.Crc.{crc32}
 use Rattle.fam_journal.specs.Names.{IsNamed, NameDeclared, declared_after}
-use Rattle.fam_journal.specs.Notes.{Note, Host, Made, Cut, Start, Mark, Found, Writes, Answered, Stop, Halt, Umount, Refused}
+use Rattle.fam_journal.specs.Notes.{Note, Host}
 use Rattle.fam_outcomes.specs.Texts.{names_after, names_behind, note_line, note_text, render, render_behind, shown, shown_last}
 use Rattle.fam_notes.specs.declared.note.Note.{Note as Kept}
 use Rattle.fam_notes.specs.Notes.{note_view, notes_view}
@@ -11,17 +11,7 @@ use Rattle.fam_notes.specs.Notes.{note_view, notes_view}
 -- a note declares as many hosts as it adds names
 length_names : (names : List (List ℕ)) (note : Note) → length (names_after names note) ≡ declared_after (length names) note
 length_names names (Host name uuid) = length-append names (name ∷ [])
-length_names names (Made host p) = refl
-length_names names (Cut host k) = refl
-length_names names (Start host cmd) = refl
-length_names names (Mark host) = refl
-length_names names (Found host n) = refl
-length_names names (Writes host seq entry) = refl
-length_names names (Answered host answer) = refl
-length_names names (Stop host) = refl
-length_names names (Halt host) = refl
-length_names names (Umount host) = refl
-length_names names (Refused name cause) = refl
+length_names names other = refl
 
 -- The note at a place, and those behind it.
 

@@ -68,7 +68,6 @@ reports_told log.Unread state = same state
 
 replied_told : (r : Reply) (state : State) → summary (past.replied r state) ≡ later (replied r) (summary state)
 replied_told (reply.Appended seq) state = acknowledges_told seq state
-replied_told (reply.NotAppended refused) state = same state
 replied_told (reply.Played m tree) state = shows_told m state
 replied_told (reply.Mounted m) state = shows_told m state
 replied_told (reply.Same m) state = shows_told m state
@@ -79,9 +78,7 @@ replied_told (reply.NotFound m) state = shows_told m state
 replied_told (reply.IsDirectory m) state = shows_told m state
 replied_told (reply.Checks m checked) state = shows_told m state
 replied_told (reply.Reports report) state = reports_told report.log state
-replied_told (reply.NoSuperblock fault) state = same state
-replied_told (reply.BadHeader fault) state = same state
-replied_told (reply.BadSlot seq reason) state = same state
+replied_told other state = same state
 
 ended_told : (answer : Answer) (state : State) → summary (past.ended answer state) ≡ later (answered answer) (summary state)
 ended_told (Replied given) state = replied_told given state
@@ -134,18 +131,12 @@ made (Some s) h p = refl
 
 -- behind one note
 after_told : (old : Past) (note : Note) → summary (state_after old note) ≡ settled_after note (summary old.state)
-after_told old (Host name uuid) = same old.state ∙ as_later (λ s. s) (summary old.state) ∙ unmade (Host name uuid) refl (summary old.state)
 after_told old (Made h p) = sym (made (summary old.state) h p)
 after_told old (Cut h k) = cut_told k old.state ∙ unmade (Cut h k) refl (summary old.state)
-after_told old (Start h cmd) = same old.state ∙ as_later (λ s. s) (summary old.state) ∙ unmade (Start h cmd) refl (summary old.state)
-after_told old (Mark h) = same old.state ∙ as_later (λ s. s) (summary old.state) ∙ unmade (Mark h) refl (summary old.state)
 after_told old (Found h n) = finds_told n old.state ∙ as_later (finds n) (summary old.state) ∙ unmade (Found h n) refl (summary old.state)
 after_told old (Writes h seq e) = pends_told _ old.state ∙ as_later (λ s. record { length = s.length; pending = true }) (summary old.state) ∙ unmade (Writes h seq e) refl (summary old.state)
 after_told old (Answered h answer) = ended_told answer old.state ∙ as_later (answered answer) (summary old.state) ∙ unmade (Answered h answer) refl (summary old.state)
-after_told old (Stop h) = same old.state ∙ as_later (λ s. s) (summary old.state) ∙ unmade (Stop h) refl (summary old.state)
-after_told old (Halt h) = same old.state ∙ as_later (λ s. s) (summary old.state) ∙ unmade (Halt h) refl (summary old.state)
-after_told old (Umount h) = same old.state ∙ as_later (λ s. s) (summary old.state) ∙ unmade (Umount h) refl (summary old.state)
-after_told old (Refused name cause) = same old.state ∙ as_later (λ s. s) (summary old.state) ∙ unmade (Refused name cause) refl (summary old.state)
+after_told old other = same old.state ∙ as_later (λ s. s) (summary old.state) ∙ unmade other refl (summary old.state)
 
 -- behind some notes
 behind_told : (old : Past) (notes : List Note) → summary (past_behind old notes).state ≡ settled_behind (summary old.state) notes

@@ -1,7 +1,6 @@
 //! The texts of answers. fam_outcomes' `specs/Texts.antt` has their forms.
 
 ghost use Rattle.std.specs.Prelude.{◌≡◌, ◌<◌, ◌++◌, IfOk, codes, string_bytes};
-ghost use Rattle.fam_base.specs.Escapes.{hex_digit};
 ghost use Rattle.fam_format.specs.declared.faults.SuperFault.TheVariants as super_fault;
 ghost use Rattle.fam_format.specs.declared.faults.LogFault.TheVariants as log_fault;
 ghost use Rattle.fam_outcomes.specs.Texts as text;

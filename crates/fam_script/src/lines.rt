@@ -1,6 +1,6 @@
 //! Lines of text, and names in them.
 
-ghost use Rattle.std.specs.Prelude.{◌≡◌, ◌++◌, [], ◌∷◌, ℕ, List, IfOk, OnOk, string_bytes};
+ghost use Rattle.std.specs.Prelude.{◌≡◌, ◌++◌, [], ◌∷◌, ℕ, List, IfOk, string_bytes};
 ghost use Rattle.fam_base.specs.Escapes.{escaped};
 ghost use Rattle.fam_outcomes.specs.Texts as text;
 

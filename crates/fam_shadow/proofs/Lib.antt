@@ -5,3 +5,4 @@ pub mod Puts
 pub mod Later
 pub mod Ends
 pub mod Faults
+pub mod Calls

@@ -6,9 +6,10 @@ use Rattle.fam_base.specs.declared.entry.Entry.{Entry}
 use Rattle.fam_base.specs.Paths.{is_path}
 use Rattle.fam_media.specs.Outside.{IfModelled}
 use Rattle.fam_shadow.specs.declared.node.Node.{Node}
-use Rattle.fam_shadow.specs.Nodes.{Nodes}
+use Rattle.fam_shadow.specs.Nodes.{IsOneMore, Nodes, ShadeState}
 use Rattle.fam_shadow.specs.Shadows.{first_clash, is_clash, name_of, named_nodes, node_of}
 use Rattle.fam_shadow.specs.Passes.{AreDistinct, AreSeen, first_met}
+use Rattle.fam_shadow.proofs.Calls.{one_behind}
 use Rattle.fam_shadow.proofs.Maps.{own_node, own_node-here, shadow_at}
 
 -- one more was seen
@@ -17,17 +18,21 @@ or_more None true own rest = refl
 or_more None false own rest = refl
 or_more (Some x) b own rest = refl
 
-module _ (entries : List Entry) (held : Option Nodes) where
+module _ (entries : List Entry) (old now next : ShadeState) where
   module _ (e : Entry) (rest : List Entry) (seen met : Option (List ℕ)) where
-    pub more_seen : AreSeen entries (e ∷ rest) held seen → is_path e.path ≡ true → IfModelled held (λ held. met ≡ first_met (e ∷ []) held) → AreSeen entries rest held (option_or seen met)
-    more_seen before path is = record {
+    pub more_seen : AreSeen entries (e ∷ rest) old now seen → is_path e.path ≡ true → IfModelled now.nodes (λ held. met ≡ first_met (e ∷ []) held) → next.nodes ≡ now.nodes → IsOneMore now.calls next.calls → next.faults ≡ now.faults
+        → AreSeen entries rest old next (option_or seen met)
+    more_seen before path is same call steady = record {
       done = before.done ++ e ∷ [];
       parts = before.parts ∙ sym (append_assoc before.done (e ∷ []) rest);
       proper = λ h. before.proper (path, h);
       first = λ nodes told.
-          ap (λ (m : Option (List ℕ)). option_or (option_or seen m) (first_met rest nodes)) (is nodes told)
+          ap (λ (m : Option (List ℕ)). option_or (option_or seen m) (first_met rest nodes)) (is nodes (before.same ∙ told))
           ∙ or_more seen (is_clash (Some (node_of e)) (map.get nodes (name_of e))) (name_of e) (first_met rest nodes)
           ∙ before.first nodes told;
+      same = same ∙ before.same;
+      calls = one_behind before.done e old.calls now.calls next.calls before.calls call;
+      faults = steady ∙ before.faults;
     }
 
 module _ (entries : List Entry) (distinct : AreDistinct entries) (held : Nodes) where

@@ -7,9 +7,10 @@ use Rattle.fam_base.specs.declared.entry.Entry.{Entry}
 use Rattle.fam_media.specs.Outside.{IfModelled}
 use Rattle.fam_shadow.specs.declared.node.Node.{Node}
 use Rattle.fam_shadow.specs.declared.node.Node.TheVariants.{Directory, File}
-use Rattle.fam_shadow.specs.Nodes.{Nodes, with_node}
+use Rattle.fam_shadow.specs.Nodes.{IsOneMore, Nodes, ShadeState, with_node}
 use Rattle.fam_shadow.specs.Shadows.{MayHold, is_clash, name_of, node_of}
 use Rattle.fam_shadow.specs.Passes.{AreCut, AreDistinct, ArePut, IsCutAt, IsNew, first_met, with_entries, with_entry}
+use Rattle.fam_shadow.proofs.Calls.{one_behind}
 use Rattle.fam_shadow.proofs.OwnNames.{new_before}
 use Rattle.fam_shadow.proofs.Maps.{at_any, at_entries, is_name, own_node, own_node-append, own_node-here, same_name, unmet}
 
@@ -29,18 +30,20 @@ no_clash (x ∷ done) e rest held none = no_clash done e rest held (by_test (is_
     by_test true h = absurd (cc (h))
     by_test false h = h
 
-module _ (entries : List Entry) (old : Option Nodes) where
-  module _ (e : Entry) (rest : List Entry) (now : Option Nodes) (before : ArePut entries (e ∷ rest) old now) where
-    pub more_put : (next : Option Nodes) → next ≡ option_map (with_node (name_of e) (node_of e)) now → ArePut entries rest old next
-    more_put next is = record {
+module _ (entries : List Entry) (old : ShadeState) where
+  module _ (e : Entry) (rest : List Entry) (now : ShadeState) (before : ArePut entries (e ∷ rest) old now) where
+    pub more_put : (next : ShadeState) → next.nodes ≡ option_map (with_node (name_of e) (node_of e)) now.nodes → IsOneMore now.calls next.calls → next.faults ≡ now.faults → ArePut entries rest old next
+    more_put next is call steady = record {
       done = before.done ++ e ∷ [];
       parts = before.parts ∙ sym (append_assoc before.done (e ∷ []) rest);
-      is = is ∙ ap (option_map (with_node (name_of e) (node_of e))) before.is ∙ one_more before.done e old;
+      is = is ∙ ap (option_map (with_node (name_of e) (node_of e))) before.is ∙ one_more before.done e old.nodes;
+      calls = one_behind before.done e old.calls now.calls next.calls before.calls call;
+      faults = steady ∙ before.faults;
     }
 
     -- the next entry is as free of clashes as it was at first
-    pub clear_at : AreDistinct entries → IfModelled old (λ held. first_met entries held ≡ None) → IfModelled now (λ held. is_clash (Some (node_of e)) (map.get held (name_of e)) ≡ false)
-    clear_at distinct clear held told = by_old old (sym told ∙ before.is) clear
+    pub clear_at : AreDistinct entries → IfModelled old.nodes (λ held. first_met entries held ≡ None) → IfModelled now.nodes (λ held. is_clash (Some (node_of e)) (map.get held (name_of e)) ≡ false)
+    clear_at distinct clear held told = by_old old.nodes (sym told ∙ before.is) clear
       where
         by_old : (o : Option Nodes) → Some held ≡ option_map (with_entries before.done) o → IfModelled o (λ held. first_met entries held ≡ None) → is_clash (Some (node_of e)) (map.get held (name_of e)) ≡ false
         by_old None is none = absurd (cc (is))

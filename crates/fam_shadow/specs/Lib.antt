@@ -1,4 +1,5 @@
 pub mod Nodes
 pub mod Shadows
 pub mod Passes
+pub mod Calls
 pub mod MemoryShade

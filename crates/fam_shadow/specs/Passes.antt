@@ -9,13 +9,14 @@ use Rattle.fam_base.specs.declared.entry.Kind.TheVariants as kind
 use Rattle.fam_base.specs.Paths.{is_path}
 use Rattle.fam_media.specs.Causes.{Rose}
 use Rattle.fam_media.specs.Outside.{IfModelled}
+use Rattle.fam_media.specs.Plans.{one_more}
 use Rattle.fam_shadow.specs.declared.fault.ShadowFault.{ShadowFault}
 use Rattle.fam_shadow.specs.declared.fault.ShadowFault.TheVariants as fault
 use Rattle.fam_shadow.specs.declared.node.Node.{Node}
 use Rattle.fam_shadow.specs.declared.node.Node.TheVariants.{Directory, File}
 use Rattle.fam_shadow.specs.declared.shade.Look.{Look}
 use Rattle.fam_shadow.specs.declared.shade.Look.TheVariants as look
-use Rattle.fam_shadow.specs.Nodes.{IsTornPut, Nodes, with_node}
+use Rattle.fam_shadow.specs.Nodes.{IsOneMore, IsTornPut, Nodes, ShadeState, with_node}
 use Rattle.fam_shadow.specs.Shadows.{IsNamed, is_clash, name_of, node_of}
 
 -- each entry's path is one
@@ -53,18 +54,27 @@ with_entry held e = with_node (name_of e) (node_of e) held
 abbrev pub with_entries : List Entry → Nodes → Nodes
 with_entries entries held = fold with_entry held entries
 
+-- the count of calls, one more for each of these entries
+abbrev pub calls_behind : List Entry → Option ℕ → Option ℕ
+calls_behind entries calls = fold (λ (count : Option ℕ) (e : Entry). option_map one_more count) calls entries
+
 -- these entries were looked at, and the rest is to come: the first clash of all is the one that was seen, or the first of the rest
-pub record AreSeen (entries rest : List Entry) (held : Option Nodes) (seen : Option (List ℕ)) : Type 0 where
+pub record AreSeen (entries rest : List Entry) (old now : ShadeState) (seen : Option (List ℕ)) : Type 0 where
   pub done : List Entry
   pub parts : entries ≡ done ++ rest
   pub proper : AreProper rest → AreProper entries
-  pub first : IfModelled held (λ held. option_or seen (first_met rest held) ≡ first_met entries held)
+  pub first : IfModelled old.nodes (λ held. option_or seen (first_met rest held) ≡ first_met entries held)
+  pub same : now.nodes ≡ old.nodes
+  pub calls : now.calls ≡ calls_behind done old.calls
+  pub faults : now.faults ≡ old.faults
 
 -- these entries were put, and the rest is to come
-pub record ArePut (entries rest : List Entry) (old now : Option Nodes) : Type 0 where
+pub record ArePut (entries rest : List Entry) (old now : ShadeState) : Type 0 where
   pub done : List Entry
   pub parts : entries ≡ done ++ rest
-  pub is : now ≡ option_map (with_entries done) old
+  pub is : now.nodes ≡ option_map (with_entries done) old.nodes
+  pub calls : now.calls ≡ calls_behind done old.calls
+  pub faults : now.faults ≡ old.faults
 
 -- nothing was done of an entry, or a part
 abbrev pub IsCutAt : Node → List ℕ → Option Nodes → Option Nodes → Type 0
@@ -92,3 +102,9 @@ EntryFault e before now given = FaultAt (λ name. name ≡ name_of e) before now
 -- at one of these entries
 abbrev pub PassFault : List Entry → ℕ → ℕ → ShadowFault → Type 0
 PassFault entries before now given = FaultAt (IsNamed entries) before now given
+
+-- the call at an entry ended a pass: it failed, or no memory was left, and then no call did
+abbrev pub CallStops : ShadeState → ShadeState → ShadowFault → Type 0
+CallStops before now (fault.Clash name) = ⊥
+CallStops before now (fault.ShadeFault name) = IsOneMore before.calls now.calls
+CallStops before now fault.OutOfMemory = now.faults ≡ before.faults

@@ -12,7 +12,7 @@ ghost use Rattle.fam_shadow.specs.declared.node.Node.TheVariants as node;
 ghost use Rattle.fam_shadow.specs.MemoryShade as spec;
 ghost use Rattle.fam_shadow.specs.MemoryShade.{after_call, after_make_dir, after_put, bytes_in, empty_shade};
 ghost use Rattle.fam_shadow.specs.Nodes as nodes;
-ghost use Rattle.fam_shadow.specs.Nodes.{IsCounted, IsTornPut, look_at, with_node};
+ghost use Rattle.fam_shadow.specs.Nodes.{IsCall, IsCounted, IsOneMore, IsTornPut, look_at, with_node};
 
 use crate::node::Node;
 use crate::shade::{Look, Shade, ShadeStop};
@@ -184,12 +184,14 @@ impl MemShade {
 }
 
 impl Shade for MemShade {
-    ghost state = { λ s. record { nodes = Some s.nodes; faults = s.faults } };
+    ghost state = { λ s. record { nodes = Some s.nodes; faults = s.faults; calls = Some s.calls } };
 
     fn look(&mut self, name: &str) -> Result<Look, Failed>
         ensures value { IfOk result (λ look. IfModelled (Some self.old.nodes) (λ nodes. look ≡ look_at nodes name.now)) }
         ensures same { Some self.new.nodes ≡ Some self.old.nodes }
         ensures cause { HasCause self.old.faults self.new.faults result }
+        ensures done { OnOk result (self.new.faults ≡ self.old.faults) }
+        ensures call { IsOneMore (Some self.old.calls) (Some self.new.calls) }
 
         // It fails exactly where that was planned.
         ensures fails { is_err result ≡ is_some (spec.next_kept self.old) }
@@ -209,6 +211,7 @@ impl Shade for MemShade {
         ensures made { OnOk result (Some self.new.nodes ≡ option_map (with_node name.now node.Directory) (Some self.old.nodes)) }
         ensures err { OnErr result (Some self.new.nodes ≡ Some self.old.nodes) }
         ensures cause { IsCounted self.old.faults self.new.faults result }
+        ensures call { IsCall (Some self.old.calls) (Some self.new.calls) result }
 
         // It fails exactly where that was planned, and finds memory or changes nothing.
         ensures fails { IsErrOf result ShadeStop.Failed → is_some (spec.next_kept self.old) ≡ true }
@@ -234,6 +237,7 @@ impl Shade for MemShade {
         ensures torn { IsErrOf result ShadeStop.Failed → IsTornPut (Some self.old.nodes) (Some self.new.nodes) name.now bytes.now }
         ensures memory { IsErrOf result ShadeStop.OutOfMemory → Some self.new.nodes ≡ Some self.old.nodes }
         ensures cause { IsCounted self.old.faults self.new.faults result }
+        ensures call { IsCall (Some self.old.calls) (Some self.new.calls) result }
 
         // It fails exactly where that was planned, and finds memory or changes nothing.
         ensures fails { IsErrOf result ShadeStop.Failed → is_some (spec.next_kept self.old) ≡ true }

@@ -1,6 +1,6 @@
 //! Names and descriptions of entries.
 
-ghost use Rattle.std.specs.Prelude.{◌≡◌, ◌++◌, ◌∷◌, IfOk, OnOk, [], codes, true};
+ghost use Rattle.std.specs.Prelude.{◌≡◌, ◌++◌, ◌∷◌, IfOk, [], true};
 ghost use Rattle.fam_base.specs.Paths.{is_path};
 ghost use Rattle.fam_shadow.specs.Shadows as spec;
 

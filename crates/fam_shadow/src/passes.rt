@@ -1,16 +1,17 @@
 //! Writing the shadow of a tree: a pass of looks, and one of puts.
 
-ghost use Rattle.std.specs.Prelude.{◌≡◌, ◌≤◌, ◌∷◌, [], IfErr, IfOk, OnErr, OnOk, None, Some, IsErrOf, false, true};
+ghost use Rattle.std.specs.Prelude.{◌≡◌, ◌≤◌, ◌∷◌, [], IfErr, IfOk, OnErr, OnOk, None, Some, false, true};
 ghost use Rattle.std.specs.Option.{option_map};
 ghost use Rattle.std.specs.FinMap as map;
 ghost use Rattle.fam_base.specs.Paths.{is_path};
-ghost use Rattle.fam_media.specs.Causes.{Rose};
 ghost use Rattle.fam_media.specs.Outside.{IfModelled};
-ghost use Rattle.fam_shadow.specs.Nodes.{IsCounted, with_node};
+ghost use Rattle.fam_media.specs.States.{change};
+ghost use Rattle.fam_shadow.specs.Calls.{CallsMade, LooksStop, PutsStop, WereMade};
+ghost use Rattle.fam_shadow.specs.Nodes.{IsCall, IsCounted, IsOneMore, with_node};
 ghost use Rattle.fam_shadow.specs.Shadows as spec;
 ghost use Rattle.fam_shadow.specs.Shadows.{Becomes, FaultCaused, ShadowEnds, is_clash, node_of};
 ghost use Rattle.fam_shadow.specs.Passes as pass;
-ghost use Rattle.fam_shadow.specs.Passes.{AreCut, AreDistinct, EntryFault, IsCutAt, PassFault, first_met, with_entries};
+ghost use Rattle.fam_shadow.specs.Passes.{AreCut, AreDistinct, CallStops, EntryFault, IsCutAt, PassFault, first_met, with_entries};
 
 use crate::fault::ShadowFault;
 use crate::names::{description, name_of};
@@ -40,6 +41,9 @@ fn clash_at<D: Shade>(
     ensures same { (D.state shade.new).nodes ≡ (D.state shade.old).nodes }
     ensures fault { IfErr result (EntryFault entry.now (D.state shade.old).faults (D.state shade.new).faults) }
     ensures later { (D.state shade.old).faults ≤ (D.state shade.new).faults }
+    ensures steady { OnOk result ((D.state shade.new).faults ≡ (D.state shade.old).faults) }
+    ensures call { OnOk result (IsOneMore (D.state shade.old).calls (D.state shade.new).calls) }
+    ensures stop { IfErr result (CallStops (D.state shade.old) (D.state shade.new)) }
 {
     let name = name_of(alloc, entry)?;
     let Ok(look) = shade.look(name.text()) else {
@@ -62,6 +66,8 @@ fn first_clash<D: Shade>(
     ensures same { (D.state shade.new).nodes ≡ (D.state shade.old).nodes }
     ensures fault { IfErr result (PassFault (map.values tree.now) (D.state shade.old).faults (D.state shade.new).faults) }
     ensures later { (D.state shade.old).faults ≤ (D.state shade.new).faults }
+    ensures calls { OnOk result (WereMade (map.values tree.now) (D.state shade.old) (D.state shade.new)) }
+    ensures stop { IfErr result (LooksStop (map.values tree.now) (D.state shade.old) (D.state shade.new)) }
 {
     let mut first = None;
     for entry in tree.iter() {
@@ -83,6 +89,7 @@ fn put_node<D: Shade>(
     ensures put { OnOk result ((D.state shade.new).nodes ≡ option_map (with_node name.now (node_of entry.now)) (D.state shade.old).nodes) }
     ensures cut { OnErr result (IsCutAt (node_of entry.now) name.now (D.state shade.old).nodes (D.state shade.new).nodes) }
     ensures cause { IsCounted (D.state shade.old).faults (D.state shade.new).faults result }
+    ensures call { IsCall (D.state shade.old).calls (D.state shade.new).calls result }
 {
     match entry.kind {
         Kind::Directory => shade.make_dir(name.text()),
@@ -102,6 +109,9 @@ fn put_entry<D: Shade>(alloc: Global, entry: &Entry, shade: &mut D) -> Result<()
     ensures cut { OnErr result (IsCutAt (node_of entry.now) (spec.name_of entry.now) (D.state shade.old).nodes (D.state shade.new).nodes) }
     ensures fault { IfErr result (EntryFault entry.now (D.state shade.old).faults (D.state shade.new).faults) }
     ensures later { (D.state shade.old).faults ≤ (D.state shade.new).faults }
+    ensures steady { OnOk result ((D.state shade.new).faults ≡ (D.state shade.old).faults) }
+    ensures call { OnOk result (IsOneMore (D.state shade.old).calls (D.state shade.new).calls) }
+    ensures stop { IfErr result (CallStops (D.state shade.old) (D.state shade.new)) }
 {
     let name = name_of(alloc, entry)?;
     match put_node(alloc, entry, &name, shade) {
@@ -119,6 +129,8 @@ fn put_all<D: Shade>(alloc: Global, tree: &Tree, shade: &mut D) -> Result<(), Sh
     ensures cut { OnErr result (AreCut (map.values tree.now) (D.state shade.old).nodes (D.state shade.new).nodes) }
     ensures fault { IfErr result (PassFault (map.values tree.now) (D.state shade.old).faults (D.state shade.new).faults) }
     ensures later { (D.state shade.old).faults ≤ (D.state shade.new).faults }
+    ensures calls { OnOk result (WereMade (map.values tree.now) (D.state shade.old) (D.state shade.new)) }
+    ensures stop { IfErr result (PutsStop (map.values tree.now) (D.state shade.old) (D.state shade.new)) }
 {
     for entry in tree.iter() {
         put_entry(alloc, &entry, shade)?;
@@ -130,12 +142,14 @@ fn put_all<D: Shade>(alloc: Global, tree: &Tree, shade: &mut D) -> Result<(), Sh
 /// looked at, in byte order of the paths, before the first one is made, and then they are made in that order.
 ///
 /// `Clash` names the first name at which a file stands where a directory is to be, or a directory where a file is to
-/// be; nothing is changed then. `ShadeFault` names the name at which the shade failed. Behind a fault, and where no
-/// memory was left, each name of the shadow holds what it held, its node, or a prefix of its bytes, and a later run ends
+/// be; nothing is changed then. `ShadeFault` names the name at which the shade failed, and that call was the last one.
+/// No call failed in a run with another end. Behind a fault, and where no memory was left, each name of the shadow holds
+/// what it held, its node, or a prefix of its bytes: the names before it were made, and none behind it. A later run ends
 /// as this one would have. No other name is touched.
 pub fn shadow<D: Shade>(alloc: Global, tree: &Tree, shade: &mut D) -> Result<(), ShadowFault>
     ensures ends { Becomes (D.state shade.old).nodes (D.state shade.new).nodes (ShadowEnds tree.now result) }
     ensures cause { IfErr result (FaultCaused tree.now (D.state shade.old).faults (D.state shade.new).faults) }
+    ensures calls { CallsMade tree.now (change D.state shade.old shade.new) result }
     ensures later { (D.state shade.old).faults ≤ (D.state shade.new).faults }
 {
     if let Some(name) = first_clash(alloc, tree, shade)? {

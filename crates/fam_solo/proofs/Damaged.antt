@@ -52,14 +52,7 @@ behind_known at.DropGate image have t s behind a = a.2.super
 behind_known at.Gate image have t s behind a = a.2.super
 behind_known (at.Check i) image have t s behind a = a.0.header.super
 behind_known at.Decide image have t s behind a = a.header.super
-behind_known (at.StoreData j k) image have t s behind a = absurd a
-behind_known (at.SendData j) image have t s behind a = absurd a
-behind_known (at.StoreSlot j k) image have t s behind a = absurd a
-behind_known (at.SendSlot j) image have t s behind a = absurd a
-behind_known at.StoreGate image have t s behind a = absurd a
-behind_known at.FenceSlot image have t s behind a = absurd a
-behind_known at.SendGate image have t s behind a = absurd a
-behind_known at.FenceGate image have t s behind a = absurd a
+behind_known e image have t s behind a = absurd a
 
 damaged_by : (image : Lines) (r : Reading) → ((p : Params) (entries : List Entry) → r ≢ Sound p entries) → settled_by image r ≡ Damaged image
 damaged_by image (NoSuperblock fault) bad = refl

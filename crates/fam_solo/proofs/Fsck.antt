@@ -69,14 +69,7 @@ module _ (image : Image) (me : List ℕ) (m : Machine) (normal : map eight m.ima
   says at.Gate a = gate_says (line_at image) (line_bytes * length image) (only (Some me) None) 0 (shared (then at.Gate)) t bare mine lines (unwrap_or (given (op_at t at.Gate) m) 0) a.0 a.1 a.2 (loads gate_line 0 a.3)
   says (at.Check i) a = slot_says (line_at image) (line_bytes * length image) (only (Some me) None) 0 (shared (then (at.Check i))) t bare mine lines i a.0 a.1 (a.2 ∙ slot_words_are (line_at image) t i)
   says at.Decide a = decide_says (line_at image) (line_bytes * length image) (only (Some me) None) 0 (shared (then at.Decide)) t bare mine lines a
-  says (at.StoreData j k) a = absurd a
-  says (at.SendData j) a = absurd a
-  says (at.StoreSlot j k) a = absurd a
-  says (at.SendSlot j) a = absurd a
-  says at.StoreGate a = absurd a
-  says at.FenceSlot a = absurd a
-  says at.SendGate a = absurd a
-  says at.FenceGate a = absurd a
+  says e a = absurd a
 
 module _ (kept : Option Kept) (me : List ℕ) (image : Image) (cache : Cache) (normal : map eight image ≡ image) (clean : IsClean cache) (joined : IsKept kept) where
   Holds : Task → Machine → Type 0

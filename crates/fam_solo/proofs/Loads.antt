@@ -5,7 +5,7 @@ use Rattle.std.specs.FinMap as finmap
 use Rattle.std.proofs.lemmas.Bool.{cases_order}
 use Rattle.std.proofs.lemmas.Option.{same_Some}
 use Rattle.fam_base.specs.declared.cmd.Cmd.{Cmd}
-use Rattle.fam_base.specs.declared.cmd.Cmd.TheVariants.{Logplay, Mount, Mkdir, Creat, Cp, Verify, Read, Check, Fsck}
+use Rattle.fam_base.specs.declared.cmd.Cmd.TheVariants.{Mkdir, Creat, Cp, Verify, Read, Check, Fsck}
 use Rattle.fam_base.specs.declared.cmd.Content.{Content}
 use Rattle.fam_base.specs.declared.cmd.Content.TheVariants as content
 use Rattle.fam_base.specs.declared.entry.Params.{Params}
@@ -49,19 +49,7 @@ abbrev pub loads_from : Phase → Task → Option ℕ
 loads_from at.Magic t = Some 0
 loads_from (at.Word part j k) t = Some (part_line t part j)
 loads_from at.Gate t = Some gate_line
-loads_from at.DropMagic t = None
-loads_from (at.Drop part j) t = None
-loads_from at.DropGate t = None
-loads_from (at.Check i) t = None
-loads_from at.Decide t = None
-loads_from (at.StoreData j k) t = None
-loads_from (at.SendData j) t = None
-loads_from (at.StoreSlot j k) t = None
-loads_from (at.SendSlot j) t = None
-loads_from at.StoreGate t = None
-loads_from at.FenceSlot t = None
-loads_from at.SendGate t = None
-loads_from at.FenceGate t = None
+loads_from e t = None
 
 abbrev pub reads_at : Phase → Task → Option ℕ
 reads_at at.DropMagic t = Some 0
@@ -70,16 +58,7 @@ reads_at (at.Drop part j) t = Some (part_line t part j)
 reads_at (at.Word part j k) t = Some (part_line t part j)
 reads_at at.DropGate t = Some gate_line
 reads_at at.Gate t = Some gate_line
-reads_at (at.Check i) t = None
-reads_at at.Decide t = None
-reads_at (at.StoreData j k) t = None
-reads_at (at.SendData j) t = None
-reads_at (at.StoreSlot j k) t = None
-reads_at (at.SendSlot j) t = None
-reads_at at.StoreGate t = None
-reads_at at.FenceSlot t = None
-reads_at at.SendGate t = None
-reads_at at.FenceGate t = None
+reads_at e t = None
 
 -- the next load, if it is one, is of the line at hand
 abbrev pub LoadsNext : Option ℕ → Task → Type 0
@@ -180,15 +159,12 @@ module _ (o : Option ℕ) where
   wish_loads t is (Some w) = append_loads t (decide_wish t.params t.me t.entries w)
 
   decide_loads : (t : Task) → t.phase ≡ at.Decide → (c : Cmd) → Loads o (decide_turn c t)
-  decide_loads t is Logplay = tt
-  decide_loads t is Mount = tt
-  decide_loads t is (Check listing) = tt
-  decide_loads t is Fsck = tt
   decide_loads t is (Verify path against) = found_loads t (finmap.get (replay t.entries) path) (λ e. verify_turn t e against) (λ e. verify_loads t e against)
   decide_loads t is (Read path offset count) = found_loads t (finmap.get (replay t.entries) path) (λ e. bytes_turn t e offset) (λ e. bytes_load t e offset)
   decide_loads t is (Mkdir path attr) = wish_loads t is (wish_of t.cmd)
   decide_loads t is (Creat path size attr stripe fill) = wish_loads t is (wish_of t.cmd)
   decide_loads t is (Cp path attr stripe bytes) = wish_loads t is (wish_of t.cmd)
+  decide_loads t is e = tt
 
   line_loads : (t : Task) (part : Part) (j : ℕ) (turn : Turn) → Loads o turn → Loads o (line_or t part j turn)
   line_loads t part j turn loads = either (nat_lt (j + 1) (part_count t part)) _ _ (inl refl) loads
@@ -211,9 +187,7 @@ module _ (o : Option ℕ) where
 -- another word of the line
 same_line : (t : Task) (word : ℕ) (p : Phase) (part : Part) (j : ℕ) → part_line (record (with_word t word) { phase = p }) part j ≡ part_line t part j
 same_line t word p Superblock j = refl
-same_line t word p Header j = refl
-same_line t word p (Slot i) j = refl
-same_line t word p File j = refl
+same_line t word p e j = refl
 
 turn_loads : (p : Phase) (t : Task) (word : ℕ) → IsBeforeWrites p → t.phase ≡ p → Loads (reads_at p t) (turn_at p t word)
 turn_loads at.DropMagic t word before is = inr refl
@@ -230,14 +204,7 @@ turn_loads at.DropGate t word before is = inr refl
 turn_loads at.Gate t word before is = gate_loads (Some gate_line) t word (gate_fault word t.params)
 turn_loads (at.Check i) t word before is = check_loads None t i t.cmd
 turn_loads at.Decide t word before is = decide_loads None t is t.cmd
-turn_loads (at.StoreData j k) t word before is = absurd before
-turn_loads (at.SendData j) t word before is = absurd before
-turn_loads (at.StoreSlot j k) t word before is = absurd before
-turn_loads (at.SendSlot j) t word before is = absurd before
-turn_loads at.StoreGate t word before is = absurd before
-turn_loads at.FenceSlot t word before is = absurd before
-turn_loads at.SendGate t word before is = absurd before
-turn_loads at.FenceGate t word before is = absurd before
+turn_loads e t word before is = absurd before
 
 -- What is loaded isn't stale.
 
@@ -256,14 +223,7 @@ module _ (m : Machine) (normal : map eight m.image ≡ m.image) (clean : IsClean
   fresh_then at.Gate t before f = quiet_fresh m normal clean (op_at t at.Gate) tt gate_line f
   fresh_then (at.Check i) t before f = tt
   fresh_then at.Decide t before f = tt
-  fresh_then (at.StoreData j k) t before f = absurd before
-  fresh_then (at.SendData j) t before f = absurd before
-  fresh_then (at.StoreSlot j k) t before f = absurd before
-  fresh_then (at.SendSlot j) t before f = absurd before
-  fresh_then at.StoreGate t before f = absurd before
-  fresh_then at.FenceSlot t before f = absurd before
-  fresh_then at.SendGate t before f = absurd before
-  fresh_then at.FenceGate t before f = absurd before
+  fresh_then e t before f = absurd before
 
 -- the word of a load is the image's
 word_given : (image : Image) (m : Machine) (p : Phase) (t : Task) → (IsBeforeWrites p → m.image ≡ image) → (IsBeforeWrites p → FreshAt (loads_from p t) m) → given (op_at t p) m ≡ image_word image (op_at t p)
@@ -273,22 +233,10 @@ word_given image m p t same fresh = by_phase p same fresh
     loaded l k is f = ap (λ (w : List ℕ). Some (slice_index w k)) (fresh_current (line_at m.image l) (cell_at m.cache l) f ∙ ap (λ (i : Image). line_at i l) is)
 
     by_phase : (p : Phase) → (IsBeforeWrites p → m.image ≡ image) → (IsBeforeWrites p → FreshAt (loads_from p t) m) → given (op_at t p) m ≡ image_word image (op_at t p)
-    by_phase at.DropMagic is f = refl
     by_phase at.Magic is f = loaded 0 0 (is tt) (f tt)
-    by_phase (at.Drop part j) is f = refl
     by_phase (at.Word part j k) is f = loaded (part_line t part j) k (is tt) (f tt)
-    by_phase at.DropGate is f = refl
     by_phase at.Gate is f = loaded gate_line 0 (is tt) (f tt)
-    by_phase (at.Check i) is f = refl
-    by_phase at.Decide is f = refl
-    by_phase (at.StoreData j k) is f = refl
-    by_phase (at.SendData j) is f = refl
-    by_phase (at.StoreSlot j k) is f = refl
-    by_phase (at.SendSlot j) is f = refl
-    by_phase at.StoreGate is f = refl
-    by_phase at.FenceSlot is f = refl
-    by_phase at.SendGate is f = refl
-    by_phase at.FenceGate is f = refl
+    by_phase e is f = refl
 
 module _ (kept : Option Kept) (cmd : Cmd) (me : List ℕ) (image : Image) (cache : Cache) (normal : map eight image ≡ image) (clean : IsClean cache) where
   pub ran_fresh : (t : Task) (words : List ℕ) (made : ℕ) (m : Machine) → SoloRun kept cmd me image cache t words made m → IsBeforeWrites t.phase → FreshAt (loads_from t.phase t) m

@@ -96,14 +96,6 @@ IsReadingOp (Invalidate l) = ⊤
 IsReadingOp Digest = ⊤
 
 pub quiet_before : (t : Task) (p : Phase) → IsBeforeWrites p → IsReadingOp (op_at t p)
-quiet_before t at.DropMagic before = tt
-quiet_before t at.Magic before = tt
-quiet_before t (at.Drop part j) before = tt
-quiet_before t (at.Word part j k) before = tt
-quiet_before t at.DropGate before = tt
-quiet_before t at.Gate before = tt
-quiet_before t (at.Check i) before = tt
-quiet_before t at.Decide before = tt
 quiet_before t (at.StoreData j k) before = absurd before
 quiet_before t (at.SendData j) before = absurd before
 quiet_before t (at.StoreSlot j k) before = absurd before
@@ -112,6 +104,7 @@ quiet_before t at.StoreGate before = absurd before
 quiet_before t at.FenceSlot before = absurd before
 quiet_before t at.SendGate before = absurd before
 quiet_before t at.FenceGate before = absurd before
+quiet_before t e before = tt
 
 fresh_brought : (w : List ℕ) (c : Cell) → Fresh w c → Fresh w (brought w c)
 fresh_brought w Absent f = refl
@@ -204,14 +197,6 @@ pub record Looks (image : Image) (phase : Phase) (m : Machine) : Type 0 where
 
 -- at the places of an append a task goes on to such a place
 pub stays_past : (p : Phase) (t next : Task) (word : ℕ) → task_after (turn_at p t word) ≡ Some next → IsBeforeWrites next.phase → IsBeforeWrites p
-stays_past at.DropMagic t next word is before = tt
-stays_past at.Magic t next word is before = tt
-stays_past (at.Drop part j) t next word is before = tt
-stays_past (at.Word part j k) t next word is before = tt
-stays_past at.DropGate t next word is before = tt
-stays_past at.Gate t next word is before = tt
-stays_past (at.Check i) t next word is before = tt
-stays_past at.Decide t next word is before = tt
 stays_past (at.StoreData j k) t next word is before = by_test (nat_lt k 7) (ap (λ (x : Task). x.phase) (same_Some _ next is))
   where
     by_test : (b : Bool) → (if b then at.StoreData j (k + 1) else at.SendData j) ≡ next.phase → ⊥
@@ -236,6 +221,7 @@ stays_past at.StoreGate t next word is before = subst IsBeforeWrites (sym (ap (�
 stays_past at.FenceSlot t next word is before = subst IsBeforeWrites (sym (ap (λ (x : Task). x.phase) (same_Some _ next is))) before
 stays_past at.SendGate t next word is before = subst IsBeforeWrites (sym (ap (λ (x : Task). x.phase) (same_Some _ next is))) before
 stays_past at.FenceGate t next word is before = absurd (cc)
+stays_past e t next word is before = tt
 
 -- a command that appends nothing stays before its stores
 reader_stays : (p : Phase) (cmd : Cmd) (turn : Turn) (next : Task) → wish_of cmd ≡ None → SaysAt p cmd turn → task_after turn ≡ Some next → IsBeforeWrites next.phase

@@ -2,7 +2,7 @@
 use Rattle.std.proofs.Common.{ℕ, zero, suc, ◌≡◌, ◌≢◌, ◌+◌, ◌*◌, List, [], ◌∷◌, ◌++◌, length, map, Option, Some, None, Ok, Err, refl, sym, ◌∙◌, ap, subst}
 use Rattle.std.specs.Prelude.{⊤, Result, option_map, unwrap_or}
 use Rattle.fam_base.specs.declared.cmd.Cmd.{Cmd}
-use Rattle.fam_base.specs.declared.cmd.Cmd.TheVariants.{Logplay, Mount, Mkdir, Creat, Cp, Verify, Read, Check, Fsck}
+use Rattle.fam_base.specs.declared.cmd.Cmd.TheVariants.{Mkdir, Creat, Cp, Fsck}
 use Rattle.fam_base.specs.declared.entry.Params.{Params}
 use Rattle.fam_base.specs.declared.entry.Entry.{Entry}
 use Rattle.fam_base.specs.Image.{Image, line_at}
@@ -98,15 +98,11 @@ module _ (image : Image) (me : List ℕ) (cmd : Cmd) where
 
   module _ (p : Params) (entries : List Entry) (sound : reading_of (line_at image) (line_bytes * length image) ≡ Sound p entries) where
     asks_none : (c : Cmd) (given : Reply) → ask (map (held_file (line_at image)) entries) c ≡ Some given → (wish_of c ≡ None) × (c ≡ Fsck → ⊥)
-    asks_none Logplay given is = (refl, λ e. absurd (cc))
-    asks_none Mount given is = (refl, λ e. absurd (cc))
-    asks_none (Check listing) given is = (refl, λ e. absurd (cc))
-    asks_none (Verify path against) given is = (refl, λ e. absurd (cc))
-    asks_none (Read path offset count) given is = (refl, λ e. absurd (cc))
     asks_none (Mkdir path attr) given is = absurd (cc)
     asks_none (Creat path size attr stripe fill) given is = absurd (cc)
     asks_none (Cp path attr stripe bytes) given is = absurd (cc)
     asks_none Fsck given is = absurd (cc)
+    asks_none c given is = (refl, λ e. absurd (cc))
 
     undecided : wish_of cmd ≡ None → decide p me entries cmd ≡ None
     undecided none = ap (option_map (decide_wish p me entries)) none

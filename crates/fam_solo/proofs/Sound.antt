@@ -69,14 +69,6 @@ IsPlain (Ends reply) = ⊤
 
 plain : (pl : Phase) (t : Task) (word : ℕ) (cmd : Cmd) (image : Image) (p : Params) (n : ℕ) (e : Entry) (m : Machine) → GateAt pl cmd image p n e m → IsPlain (turn_at pl t word)
 unfolding IsPlain
-plain (at.StoreData j k) t word cmd image p n e m gate = tt
-plain (at.SendData j) t word cmd image p n e m gate = tt
-plain (at.StoreSlot j k) t word cmd image p n e m gate = tt
-plain (at.SendSlot j) t word cmd image p n e m gate = tt
-plain at.StoreGate t word cmd image p n e m gate = tt
-plain at.FenceSlot t word cmd image p n e m gate = tt
-plain at.SendGate t word cmd image p n e m gate = tt
-plain at.FenceGate t word cmd image p n e m gate = tt
 plain at.DropMagic t word cmd image p n e m gate = absurd gate
 plain at.Magic t word cmd image p n e m gate = absurd gate
 plain (at.Drop part j) t word cmd image p n e m gate = absurd gate
@@ -85,6 +77,7 @@ plain at.DropGate t word cmd image p n e m gate = absurd gate
 plain at.Gate t word cmd image p n e m gate = absurd gate
 plain (at.Check i) t word cmd image p n e m gate = absurd gate
 plain at.Decide t word cmd image p n e m gate = absurd gate
+plain c t word cmd image p n e m gate = tt
 
 -- the first store of an append
 first_gate : (cmd : Cmd) (image : Image) (p : Params) (n : ℕ) (e : Entry) (m : Machine) → Looks image (first_store e.size) m → GateAt (first_store e.size) cmd image p n e m

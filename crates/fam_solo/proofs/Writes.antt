@@ -212,14 +212,7 @@ module _ (cmd : Cmd) (image : Image) (p : Params) (n : ℕ) (e : Entry) (sound :
           cell_at-with_cell_same gate_line (asked_for (cell_at m.cache gate_line)) m.cache ∙ ap asked_for gate.1,
         )
     writes_on at.FenceGate floor a gate is = absurd (cc)
-    writes_on at.DropMagic floor a gate is = absurd gate
-    writes_on at.Magic floor a gate is = absurd gate
-    writes_on (at.Drop part j) floor a gate is = absurd gate
-    writes_on (at.Word part j k) floor a gate is = absurd gate
-    writes_on at.DropGate floor a gate is = absurd gate
-    writes_on at.Gate floor a gate is = absurd gate
-    writes_on (at.Check i) floor a gate is = absurd gate
-    writes_on at.Decide floor a gate is = absurd gate
+    writes_on e floor a gate is = absurd gate
 
     -- The last operation.
 
@@ -274,11 +267,4 @@ module _ (cmd : Cmd) (image : Image) (p : Params) (n : ℕ) (e : Entry) (sound :
     ends_there (at.StoreSlot j k) given gate is = absurd (cc)
     ends_there (at.SendSlot j) given gate is = absurd (cc)
     ends_there at.StoreGate given gate is = absurd (cc)
-    ends_there at.DropMagic given gate is = absurd gate
-    ends_there at.Magic given gate is = absurd gate
-    ends_there (at.Drop part j) given gate is = absurd gate
-    ends_there (at.Word part j k) given gate is = absurd gate
-    ends_there at.DropGate given gate is = absurd gate
-    ends_there at.Gate given gate is = absurd gate
-    ends_there (at.Check i) given gate is = absurd gate
-    ends_there at.Decide given gate is = absurd gate
+    ends_there e given gate is = absurd gate

@@ -7,12 +7,11 @@ use Rattle.std.proofs.lemmas.List.{take_all}
 use Rattle.fam_base.specs.declared.cmd.Cmd.{Cmd}
 use Rattle.fam_base.specs.declared.entry.Entry.{Entry}
 use Rattle.fam_base.specs.declared.entry.Params.{Params}
-use Rattle.fam_commands.specs.Classes.{Class, class_of, Replays, Appends, Compares, Reads, Surveys, is_fsck, surveys}
+use Rattle.fam_commands.specs.Classes.{Class, class_of, Surveys, is_fsck, surveys}
 use Rattle.fam_commands.specs.Kept.{Kept, class_used, is_same_params, used, used_by}
 use Rattle.fam_commands.specs.Task.{Task}
 use Rattle.fam_commands.specs.declared.phase.Part.TheVariants.{Slot}
 use Rattle.fam_commands.specs.declared.phase.Phase.TheVariants as at
-use Rattle.fam_commands.proofs.UsedCounts.{used_below}
 use Rattle.fam_replay.specs.Replay.{entries_in}
 use Rattle.fam_replay.specs.Replica.{ReplicaState}
 use Rattle.fam_tasks.specs.Commands.{slots_told}
@@ -24,10 +23,7 @@ use Rattle.fam_tasks.proofs.Slots.{some_line}
 class_uses_none : (class : Class) (kept : Option Kept) (p : Params) (gate : ℕ) → surveys class ≡ true → class_used kept class p gate ≡ []
 unfolding class_used
 class_uses_none Surveys kept p gate is = refl
-class_uses_none Replays kept p gate is = absurd cc
-class_uses_none Appends kept p gate is = absurd cc
-class_uses_none (Compares path against) kept p gate is = absurd cc
-class_uses_none (Reads path offset count) kept p gate is = absurd cc
+class_uses_none other kept p gate is = absurd cc
 
 pub uses_none : (cmd : Cmd) (kept : Option Kept) (p : Params) (gate : ℕ) → is_fsck cmd ≡ true → used kept cmd p gate ≡ []
 uses_none cmd kept p gate is = class_uses_none (class_of cmd) kept p gate is
@@ -36,17 +32,10 @@ uses_none cmd kept p gate is = class_uses_none (class_of cmd) kept p gate is
 class_uses_kept : (class : Class) (kept : Option Kept) (p : Params) (gate : ℕ) → surveys class ≡ false → class_used kept class p gate ≡ used_by kept p gate
 unfolding class_used
 class_uses_kept Surveys kept p gate is = absurd cc
-class_uses_kept Replays kept p gate is = refl
-class_uses_kept Appends kept p gate is = refl
-class_uses_kept (Compares path against) kept p gate is = refl
-class_uses_kept (Reads path offset count) kept p gate is = refl
+class_uses_kept other kept p gate is = refl
 
 pub uses_kept : (cmd : Cmd) (kept : Option Kept) (p : Params) (gate : ℕ) → is_fsck cmd ≡ false → used kept cmd p gate ≡ used_by kept p gate
 uses_kept cmd kept p gate is = class_uses_kept (class_of cmd) kept p gate is
-
--- it begins with no more than it reads
-pub uses_within : (cmd : Cmd) (kept : Option Kept) (p : Params) (gate : ℕ) → is_fsck cmd ≡ false → length (used kept cmd p gate) ≤ slots_told cmd p gate
-uses_within cmd kept p gate is = omega (arith, used_below kept cmd p gate, ap (λ (b : Bool). cond b p.slots gate) is)
 
 -- What serves.
 

@@ -33,11 +33,8 @@ reply_keeps t p (Mounted m) kept tells other = absurd (other tells.phase tells.c
 reply_keeps t p reply kept tells other = refl
 
 turn_keeps : (t : Task) (p : Phase) (turn : turns.Turn) (kept : Option Kept) → told.Tells t p turn → IsOther t p → kept_after turn t kept ≡ kept
-turn_keeps t p (turns.Goes next) kept tells other = refl
-turn_keeps t p (turns.Marks next) kept tells other = refl
-turn_keeps t p (turns.Finds n next) kept tells other = refl
-turn_keeps t p (turns.Writes seq e next) kept tells other = refl
 turn_keeps t p (turns.Ends reply) kept tells other = reply_keeps t p reply kept tells other
+turn_keeps t p rest kept tells other = refl
 
 others_keep : (t : Task) (word : Option ℕ) → IsOther t t.phase → kept_after (turn_of t word) t t.kept ≡ t.kept
 others_keep t word other = turn_keeps t t.phase (turn_of t word) t.kept (turn_tells t.phase t (unwrap_or word 0)) other

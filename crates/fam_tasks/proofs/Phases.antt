@@ -2,7 +2,7 @@
 use Rattle.std.proofs.Common.{◌≡◌, ℕ, ◌+◌, ◌*◌, ◌≤◌, Bool, true, false, cond, nat_lt, refl, sym, ap, subst, arith}
 use Rattle.std.proofs.lemmas.Bool.{ltb-false}
 use Rattle.fam_base.specs.declared.cmd.Cmd.{Cmd}
-use Rattle.fam_base.specs.declared.cmd.Cmd.TheVariants.{Logplay, Mount, Mkdir, Creat, Cp, Verify, Read, Check, Fsck}
+use Rattle.fam_base.specs.declared.cmd.Cmd.TheVariants.{Logplay}
 use Rattle.fam_base.specs.declared.entry.Params.{Params}
 use Rattle.fam_format.specs.Layout.{geometry, log_line}
 use Rattle.fam_format.specs.Params.{SoundParams}
@@ -24,14 +24,7 @@ next_phase i n = cond (nat_lt i n) (at.Drop (Slot i) 0) at.Decide
 -- how many slots a command reads
 slots_by : (cmd : Cmd) (t : Task) → t.cmd ≡ cmd → slots_read t ≡ slots_told cmd t.params t.gate
 slots_by Logplay t is = rw is refl
-slots_by Mount t is = rw is refl
-slots_by (Mkdir path attr) t is = rw is refl
-slots_by (Creat path size attr stripe fill) t is = rw is refl
-slots_by (Cp path attr stripe bytes) t is = rw is refl
-slots_by (Verify path against) t is = rw is refl
-slots_by (Read path offset count) t is = rw is refl
-slots_by (Check listing) t is = rw is refl
-slots_by Fsck t is = rw is refl
+slots_by other t is = rw is refl
 
 pub slots_are : (t : Task) → slots_read t ≡ slots_told t.cmd t.params t.gate
 slots_are t = slots_by t.cmd t refl

@@ -21,12 +21,6 @@ pub words_count : (lines : List (List ℕ)) (n : ℕ) → length (words_in lines
 words_count lines zero = refl
 words_count lines (suc n) = length-append (words_in lines n) (line_at lines n) ∙ omega (arith, words_count lines n)
 
--- those of one line more
-pub words_more : (lines : List (List ℕ)) (n : ℕ) → words_in lines (n + 1) ≡ words_in lines n ++ line_at lines n
-words_more lines n =
-    let same : n + 1 ≡ suc n = omega arith in
-    ap (words_in lines) same
-
 module _ (t : Task) (slot first : ℕ) (lines : List (List ℕ)) (sound : IsSound t) (phase : t.phase ≡ at.Drop (Slot slot) 0) (is : first ≡ slot_line t.params slot 0) where
   stands : IsSoundAt (at.Drop (Slot slot) 0) t
   stands = subst (λ (p : Phase). IsSoundAt p t) phase sound.stands

@@ -3,7 +3,7 @@ use Rattle.std.proofs.Common.{◌≡◌, ℕ, ◌+◌, ◌<◌, ◌≤◌, Bool,
 use Rattle.std.specs.Prelude.{◌==◌, IsSome}
 use Rattle.std.proofs.lemmas.Bool.Decides.{nat_tests}
 use Rattle.fam_base.specs.declared.cmd.Cmd.{Cmd}
-use Rattle.fam_base.specs.declared.cmd.Cmd.TheVariants.{Logplay, Mount, Mkdir, Creat, Cp, Verify, Read, Check, Fsck}
+use Rattle.fam_base.specs.declared.cmd.Cmd.TheVariants.{Verify, Check}
 use Rattle.fam_base.specs.declared.cmd.Content.{Content}
 use Rattle.fam_base.specs.declared.entry.Entry.{Entry}
 use Rattle.fam_format.specs.Layout.{geometry}
@@ -94,15 +94,8 @@ behind_slot t i n phase history scan words task checked next told kept empty loo
 
 -- what an append writes is its content
 content_same : (cmd : Cmd) → IsSome (wish_of cmd) → content_used cmd ≡ content_of cmd
-content_same Logplay is = refl
-content_same Mount is = refl
-content_same (Mkdir path attr) is = refl
-content_same (Creat path size attr stripe fill) is = refl
-content_same (Cp path attr stripe bytes) is = refl
 content_same (Verify path against) is = absurd cc
-content_same (Read path offset count) is = refl
-content_same (Check listing) is = refl
-content_same Fsck is = refl
+content_same other is = refl
 
 stores_stand : (t : Task) (e : Entry) (b : Bool) → (e.size == 0) ≡ b → t.entry ≡ Some e → Proper t.params e → HasSpelledSlot t → IsSoundAt (cond b (at.StoreSlot 0 0) (at.StoreData 0 0)) t
 stores_stand t e true bare is proper spelled = (spelled, some_line t.params, omega arith)

@@ -15,7 +15,7 @@ ghost use Rattle.fam_format.specs.Slot.{Proper};
 ghost use Rattle.fam_format.specs.Tree.{replay};
 ghost use Rattle.fam_plan.specs.Needs.{NeedsUnits};
 ghost use Rattle.fam_replay.specs.Replica.{JoinsNext};
-ghost use Rattle.fam_replay.specs.Replay.{entries_in, HasFoundAll, IsAgainst, IsReplayOf, IsRoomFor, ReadsNext};
+ghost use Rattle.fam_replay.specs.Replay.{entries_in, HasFoundAll, IsReplayOf, IsRoomFor, ReadsNext};
 ghost use Rattle.fam_rules.specs.Decide.{decide, wish_of};
 ghost use Rattle.fam_tasks.specs.History.{MayFollow, MayServe, kept_of, read_by};
 

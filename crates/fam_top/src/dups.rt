@@ -70,7 +70,7 @@ pub fn famfs_dup<M: Media, N: Media, K: Sink>(
     to: &mut N,
     out: &mut K,
 ) -> Status
-    ensures ends { DupTop (copy_named me random (map string_bytes words.now.items)) (copy_outside (M.size from.old) (N.size to.old)
+    ensures ends { DupTop (copy_named me random (map string_bytes words.now.items)) (copy_outside (M.size from.old) (N.size to.old) M.exact N.exact
         (change M.state from.old from.new) (change N.state to.old to.new) (change K.state out.old out.new)) result }
     ensures steady_from { IsSteady M.size M.state from.old from.new }
     ensures steady_to { IsSteady N.size N.state to.old to.new }

@@ -1,7 +1,10 @@
 //! The top call for words that ask for the shadow of a tree.
 
-ghost use Rattle.std.specs.Prelude.{◌≡◌, ◌≤◌, IfOk, map, string_bytes};
+ghost use Rattle.std.specs.Prelude.{◌≡◌, ◌≤◌, IfOk, IfSome, map, string_bytes};
+ghost use Rattle.fam_format.specs.Params.{IsUuid};
+ghost use Rattle.fam_journal.specs.Laws.{IsImage};
 ghost use Rattle.fam_media.specs.Causes.{IsSteady};
+ghost use Rattle.fam_media.specs.Outside.{IfModelled};
 ghost use Rattle.fam_media.specs.States.{change};
 ghost use Rattle.fam_program.specs.Runs.{outside_of};
 ghost use Rattle.fam_program.specs.Shadows.{ShadowTop, no_files};
@@ -10,9 +13,10 @@ ghost use Rattle.fam_top.specs.Words.{shadow_host, shadow_named};
 
 use crate::top::host_or;
 use fam_base::{NameText, OutOfMemory};
+use fam_machine::is_uuid;
 use fam_media::{Media, Sink};
 use fam_outcomes::Status;
-use fam_program::{put_memory, put_usage, write_shadow};
+use fam_program::{is_image, put_memory, put_usage, write_shadow};
 use fam_shadow::Shade;
 use fam_words::{ShadowCall, read_shadow_words};
 use std::alloc::Global;
@@ -56,10 +60,16 @@ pub fn famfs_shadow<M: Media, D: Shade, K: Sink>(
     ensures ends { ShadowTop (shadow_host me (map string_bytes words.now.items)) (outside_of M.size M.state
         media.old media.new no_files (change K.state out.old out.new))
         (change D.state shade.old shade.new) result }
+
+    // What the laws of runs ask for: an image that is modelled is one, and the host's UUID is one.
+    ensures image { IfModelled (M.state media.old).image IsImage }
+    ensures uuid { IfSome (shadow_host me (map string_bytes words.now.items)) IsUuid }
     ensures steady { IsSteady M.size M.state media.old media.new }
     ensures shade { (D.state shade.old).faults ≤ (D.state shade.new).faults }
     ensures sink { (K.state out.old).faults ≤ (K.state out.new).faults }
 {
+    is_image(media);
+    is_uuid(me);
     match asked(alloc, words) {
         Ok(Some(call)) => write_shadow(alloc, host_or(me, call.system), media, shade, out),
         Ok(None) => put_usage(out),

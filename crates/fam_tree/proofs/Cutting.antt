@@ -1,9 +1,8 @@
 -- Texts cut at a byte, and the lines of a text.
-use Rattle.std.proofs.Common.{◌≡◌, ◌≢◌, ℕ, suc, ◌+◌, ◌<◌, Bool, true, false, cond, List, [], ◌∷◌, ◌++◌, length, take, drop, get_or, inl, inr, refl, ap, ap₂, sym, ◌∙◌, arith, append_assoc}
+use Rattle.std.proofs.Common.{◌≡◌, ◌≢◌, ℕ, suc, ◌+◌, ◌<◌, Bool, true, false, cond, List, [], ◌∷◌, ◌++◌, length, take, drop, inl, inr, refl, ap, ap₂, sym, ◌∙◌, arith}
 use Rattle.std.specs.Prelude.{◌==◌, ◌⊎◌}
 use Rattle.std.specs.List.{join_with_byte, slice_split, onto_first}
 use Rattle.std.proofs.lemmas.Bool.{eq-eqb, ne_eqb}
-use Rattle.std.proofs.lemmas.List.{drop_more, take_more}
 use Rattle.fam_tree.specs.Cuts.{front, back}
 use Rattle.fam_tree.specs.Lines.{line_feed}
 use Rattle.fam_tree.specs.Listings.{text_lines, without_end}
@@ -64,21 +63,6 @@ module _ (c : ℕ) where
 pub record CutFrom (c : ℕ) (bytes : List ℕ) (i : ℕ) : Type 0 where
   pub front : front c bytes ≡ take i bytes ++ front c (drop i bytes)
   pub back : back c bytes ≡ back c (drop i bytes)
-
-module _ (c : ℕ) (bytes : List ℕ) (i : ℕ) where
-  -- the byte isn't the one
-  pub cut_on : CutFrom c bytes i → i < length bytes → get_or bytes i 0 ≢ c → CutFrom c bytes (i + 1)
-  cut_on cut within other =
-      let b = get_or bytes i 0 in
-      let rest = drop (i + 1) bytes in
-      let at : drop i bytes ≡ b ∷ rest = drop_more bytes i 0 within in
-      let no : (b == c) ≡ false = ne_eqb b c other in
-      record {
-        front = cut.front ∙ ap (λ (l : List ℕ). take i bytes ++ front c l) at
-            ∙ ap (λ (t : Bool). take i bytes ++ cond t [] (b ∷ front c rest)) no
-            ∙ sym (append_assoc (take i bytes) (b ∷ []) (front c rest)) ∙ ap (λ (l : List ℕ). l ++ front c rest) (sym (take_more bytes i 0 within));
-        back = cut.back ∙ ap (back c) at ∙ ap (λ (t : Bool). cond t rest (back c rest)) no;
-      }
 
 -- The lines of a text.
 

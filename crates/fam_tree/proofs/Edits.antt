@@ -1,6 +1,6 @@
 -- What becomes of a run's places.
-use Rattle.std.proofs.Common.{◌≡◌, ℕ, zero, suc, ◌+◌, ◌<◌, ◌⊎◌, ⊎_elim, Bool, true, false, Vec, Global, List, [], ◌∷◌, ◌++◌, length, get_or, set, map as list_map, take, drop, Result, Ok, Err, IsOk, OnOk, if◌then◌else◌, refl, sym, ap, subst, ◌∙◌, arith, length-append}
-use Rattle.std.specs.Bool.{OnTrue, OnFalse}
+use Rattle.std.proofs.Common.{◌≡◌, ℕ, zero, suc, ◌+◌, ◌<◌, ◌⊎◌, ⊎_elim, Bool, true, false, List, [], ◌∷◌, ◌++◌, length, get_or, set, map as list_map, take, drop, Result, Ok, Err, IsOk, OnOk, if◌then◌else◌, refl, sym, ap, subst, ◌∙◌, arith, length-append}
+use Rattle.std.specs.Bool.{OnTrue}
 use Rattle.std.specs.Result.{is_err, is_ok}
 use Rattle.std.specs.List.{AllByRecursion, AllZip, insert}
 use Rattle.std.proofs.Math.Seq.{get_or-append_seam}
@@ -74,31 +74,10 @@ copied [] (y ∷ ys) each = absurd each
 copied (x ∷ xs) [] each = absurd each
 copied (x ∷ xs) (y ∷ ys) each = cc (each.0, copied xs ys each.1)
 
--- what is the same value or a copy has the same items
-pub same_items : {L : Type 0} (old now : Vec ℕ Global) → (now ≡ old) ⊎ (AllZip (λ x y. y ≡ x) old.items now.items × L) → now.items ≡ old.items
-same_items old now is = ⊎_elim (λ e. ap (λ (v : Vec ℕ Global). v.items) e) (λ c. copied old.items now.items c.0) is
-
 -- where a test holds, what follows from two facts
 pub where_true : {P Q R : Type 0} (t : Bool) → OnTrue t P → OnTrue t Q → (P → Q → R) → OnTrue t R
 where_true true p q f = f p q
 where_true false p q f = tt
-
-pub where_false : {P Q : Type 0} (t : Bool) → OnFalse t P → (P → Q) → OnFalse t Q
-where_false true p f = tt
-where_false false p f = f p
-
-pub where_one : {P Q : Type 0} (t : Bool) → OnTrue t P → (P → Q) → OnTrue t Q
-where_one true p f = f p
-where_one false p f = tt
-
--- by what a test says
-pub where_told : {P : Type 0} (t : Bool) → (t ≡ true → P) → OnTrue t P
-where_told true f = f refl
-where_told false f = tt
-
-pub unless_told : {P : Type 0} (t : Bool) → (t ≡ false → P) → OnFalse t P
-unless_told true f = tt
-unless_told false f = f refl
 
 -- ---- what didn't fail
 

@@ -2,7 +2,7 @@
 use Rattle.std.proofs.Common.{◌≡◌, ℕ, ◌+◌, ◌-◌, ◌<◌, ◌≤◌, List, [], ◌∷◌, ◌++◌, length, get_or, take, drop, refl, sym, ap, ap₂, subst, ◌∙◌, arith, length-append}
 use Rattle.std.specs.Prelude.{IsTrue, slice_range}
 use Rattle.std.proofs.lemmas.Slice.{between_is}
-use Rattle.std.proofs.lemmas.List.{drop_at, get_or-map, length-map, map-append, take-append-le, take_all}
+use Rattle.std.proofs.lemmas.List.{drop_at, get_or-map, map-append, take-append-le, take_all}
 use Rattle.fam_base.specs.ExtentLists.{extent_limit}
 use Rattle.fam_base.specs.Paths.{is_path}
 use Rattle.fam_base.specs.declared.entry.Entry.{Entry}
@@ -94,9 +94,6 @@ module _ (paths paths_new : List ℕ) (extents extents_new : List Extent) (rows 
 -- ---- the entry at a place
 
 module _ (paths : List ℕ) (extents : List Extent) (rows : List Row) where
-  pub length-entries_of_rows : length (entries_of_rows paths extents rows) ≡ length rows
-  length-entries_of_rows = length-map rows (entry_of paths extents)
-
   module _ (place : ℕ) (row : Row) (below : place < length rows) (is : row ≡ get_or rows place row) where
     pub entry_at-rows : entry_of paths extents row ≡ entry_at (entries_of_rows paths extents rows) place
     entry_at-rows = ap (entry_of paths extents) is ∙ sym (get_or-map (entry_of paths extents) rows place row no_entry below)

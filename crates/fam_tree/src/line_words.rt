@@ -4,7 +4,6 @@
 
 ghost use Rattle.std.specs.Prelude.{◌≡◌, ℕ, ◌+◌, ◌*◌, ◌%◌, ◌^◌, ◌<◌, ◌≤◌, ◌++◌, ◌==◌, IfSome, IsTrue, List, MatchOption, true, length, slice_index};
 ghost use Rattle.std.specs.Fmt.{decimal};
-ghost use Rattle.std.specs.List.{All};
 ghost use Rattle.fam_base.specs.declared.entry.Kind.{Kind};
 ghost use Rattle.fam_base.specs.declared.entry.MapKind.{MapKind};
 ghost use Rattle.fam_base.specs.declared.entry.Entry.{Entry};

@@ -1,8 +1,7 @@
 //! Trees of entries. `specs/Runs.antt` says how entries stand in a tree, and fam_format's `specs/Tree.antt` which
 //! entries join it.
 
-ghost use Rattle.std.specs.Prelude.{◌≡◌, ◌<◌, ◌++◌, None, Some, OnOk, OnErr, IfOk, IfErr, IfNone, IfSome, length, option_map, map as list_map};
-ghost use Rattle.std.specs.List.{flat_map};
+ghost use Rattle.std.specs.Prelude.{◌≡◌, ◌<◌, ◌++◌, None, Some, OnOk, OnErr, IfOk, IfErr, IfSome, length, option_map};
 ghost use Rattle.std.specs.List.Sorted.{IsStrictlySortedBy};
 ghost use Rattle.std.specs.FinMap as map;
 ghost use Rattle.fam_base.specs.PathOrder.{path_cmp};

@@ -37,23 +37,10 @@ small_text names true lines cause is = subst (λ (z : Refusal). refusal_text nam
 small_text names false lines cause is = absurd cc
 
 source_text : (names : List (List ℕ)) (cause : Refusal) → IsOfSource cause → refusal_text names cause ≡ refusal_text [] cause
-source_text names why.NoHost of = absurd of
-source_text names (why.SameHost host) of = absurd of
-source_text names why.TooManyHosts of = absurd of
-source_text names (why.BadGeometry unit log) of = absurd of
-source_text names (why.TooSmall need have) of = absurd of
-source_text names (why.ImageSmall lines) of = absurd of
-source_text names (why.Busy host) of = absurd of
-source_text names (why.Dirty host) of = absurd of
-source_text names (why.HasSuper uuid) of = absurd of
-source_text names why.Idle of = absurd of
-source_text names why.Mounted of = absurd of
-source_text names why.NotMounted of = absurd of
-source_text names (why.NoLine at lines) of = absurd of
 source_text names (why.NoFile file) of = refl
 source_text names (why.CopyLimit sum) of = refl
 source_text names (why.BadListing at) of = refl
-source_text names (why.MediaFault at) of = absurd of
+source_text names e of = absurd of
 
 module _ (start : Image) (me : List ℕ) (what : Ask) (files : Files) (out : Outside) (given : Status) (image : IsImage start) (me_sound : IsUuid me) (x : ShotRun files start me (Runs what) out given) where
   abbrev name : List ℕ

@@ -361,17 +361,12 @@ module _ (start : Image) (files : Files) (old : Machines) (journal : List Note) 
       by_refusal (call.Makes name (mkfs_request fs unit log format force halt)) old new.machines notes (subst (λ (z : Machines). Does (call.Makes name (mkfs_request fs unit log format force halt)) z notes new.machines) same does.0)
       (λ cause e f. quiet (event.Mkfs name fs unit log format force halt) name cause new.machines notes e f)
       (λ free acts. by_host (call.Makes name (mkfs_request fs unit log format force halt)) old new.machines notes acts (λ h host number is at. makes_exact name fs unit log format force halt new.machines notes h host is at))
-  event_exact (event.Begin name what) sound whole s new same notes clean does = absurd whole
   event_exact (event.Run name what) sound whole s new same notes clean (inl run) = run_exact name what s new same notes clean run
   event_exact (event.Run name what) sound whole s new same notes clean (inr (inl x)) =
       quiet (event.Run name what) name x.cause new.machines notes x.notes_are (ap (λ (z : Session). z.machines) x.same ∙ same)
   event_exact (event.Run name what) sound whole s new same notes clean (inr (inr x)) =
       by_refusal (call.Refuses name x.cause) old new.machines notes (subst (λ (z : Machines). Does (call.Refuses name x.cause) z notes new.machines) same x.does)
       (λ cause e f. quiet (event.Run name what) name cause new.machines notes e f) (λ free acts. quiet (event.Run name what) name x.cause new.machines notes acts.0 acts.1)
-  event_exact (event.Step name count) sound whole s new same notes clean does = absurd whole
-  event_exact (event.Finish name) sound whole s new same notes clean does = absurd whole
-  event_exact (event.Stop name) sound whole s new same notes clean does = absurd whole
-  event_exact (event.Halt name) sound whole s new same notes clean does = absurd whole
   event_exact (event.Umount name) sound whole s new same notes clean does =
       umount_exact name new.machines notes (subst (λ (z : Machines). Does (call.Umounts name) z notes new.machines) same does.0)
   event_exact (event.Evict name line) sound whole s new same notes clean does =
@@ -380,6 +375,7 @@ module _ (start : Image) (files : Files) (old : Machines) (journal : List Note) 
       move_exact (event.Leak name line mask) name line.0 (Leak mask.0) new.machines notes clean (subst (λ (z : Machines). Does (call.Moves name line.0 (Leak mask.0)) z notes new.machines) same does.0)
   event_exact (event.Fetch name line mask) sound whole s new same notes clean does =
       move_exact (event.Fetch name line mask) name line.0 (Fetch mask.0) new.machines notes clean (subst (λ (z : Machines). Does (call.Moves name line.0 (Fetch mask.0)) z notes new.machines) same does.0)
+  event_exact e sound whole s new same notes clean does = absurd whole
 
 -- All events.
 

@@ -19,7 +19,7 @@ use Rattle.fam_rules.specs.Asks.{File, entries_of}
 use Rattle.fam_rules.specs.Content.{fill}
 use Rattle.fam_rules.specs.Decide.{decide}
 use Rattle.fam_rules.specs.Place.{line_bytes}
-use Rattle.fam_rules.specs.Reply.{Reply, Appended, NotAppended, Played, Mounted, Same, Differs, Length, Bytes, NotFound, IsDirectory, Checks, Reports, NoSuperblock, BadHeader, BadSlot}
+use Rattle.fam_rules.specs.Reply.{Reply, Appended, NoSuperblock, BadHeader, BadSlot}
 use Rattle.fam_protocol.specs.Invariant.{KeepsFront, settled_at_first}
 use Rattle.fam_protocol.specs.Tasks.{IsCommand}
 use Rattle.fam_solo.proofs.SoloLaws.{solo}
@@ -44,20 +44,7 @@ acknowledged_same image (Sound p history (Some f)) seq sure = absurd cc
 
 replied_same : (image : Image) (state : State) (given : Reply) → HasNothingPending state → replied_image image state given ≡ image
 replied_same image state (Appended seq) sure = acknowledged_same image state seq sure
-replied_same image state (NotAppended why) sure = refl
-replied_same image state (Played n tree) sure = refl
-replied_same image state (Mounted n) sure = refl
-replied_same image state (Same n) sure = refl
-replied_same image state (Differs n offset found wanted) sure = refl
-replied_same image state (Length n size wanted) sure = refl
-replied_same image state (Bytes n bytes) sure = refl
-replied_same image state (NotFound n) sure = refl
-replied_same image state (IsDirectory n) sure = refl
-replied_same image state (Checks n checked) sure = refl
-replied_same image state (Reports report) sure = refl
-replied_same image state (NoSuperblock fault) sure = refl
-replied_same image state (BadHeader fault) sure = refl
-replied_same image state (BadSlot seq reason) sure = refl
+replied_same image state e sure = refl
 
 -- what a state without anything pending says of the image that it is of
 sound_read : (image : Image) (p : Params) (history : List File) (r : Reading) → Sound p history None ≡ state_read image r → (entries : List Entry) × (r ≡ read.Sound p entries) × (history ≡ map (held_file (line_at image)) entries)

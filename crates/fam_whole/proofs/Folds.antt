@@ -37,10 +37,7 @@ noted_both h (note ∷ a) b = ap (λ (z : List Note). notes_of h note ++ z) (not
 
 pub noted_one : (h : ℕ) (note : row.RowNote) → all_noted h (noted note) ≡ notes_of h note
 noted_one h row.Quiet = refl
-noted_one h row.Mark = refl
-noted_one h (row.Found n) = refl
-noted_one h (row.Writing seq e) = refl
-noted_one h (row.Answer given) = refl
+noted_one h e = refl
 
 -- Where nothing is pending.
 

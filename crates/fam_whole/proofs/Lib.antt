@@ -16,3 +16,4 @@ pub mod Makes
 pub mod Fronts
 pub mod Called
 pub mod Lawful
+pub mod Shadows

@@ -3,7 +3,7 @@ use Rattle.std.proofs.Common.{ℕ, ◌+◌, ◌*◌, Bool, true, false, [], leng
 use Rattle.std.specs.Prelude.{⊤, ◌==◌, nat_lt, nat_le, if◌then◌else◌, Result, Ok, Err}
 use Rattle.std.specs.FinMap as finmap
 use Rattle.fam_base.specs.declared.cmd.Cmd.{Cmd}
-use Rattle.fam_base.specs.declared.cmd.Cmd.TheVariants.{Logplay, Mount, Mkdir, Creat, Cp, Verify, Read, Check, Fsck}
+use Rattle.fam_base.specs.declared.cmd.Cmd.TheVariants.{Mkdir, Creat, Cp, Verify, Read, Check, Fsck}
 use Rattle.fam_base.specs.declared.cmd.Content.{Content}
 use Rattle.fam_base.specs.declared.cmd.Content.TheVariants as content
 use Rattle.fam_base.specs.declared.entry.Entry.{Entry}
@@ -44,14 +44,6 @@ IsLateTurn (Writes seq e t) = ⊥
 IsLateTurn (Ends given) = ⊤
 
 pub late_turn : (p : Phase) (t : Task) (word : ℕ) → HasNamed p → IsLateTurn (turn_at p t word)
-late_turn at.DropMagic t word late = absurd late
-late_turn at.Magic t word late = absurd late
-late_turn (at.Drop part j) t word late = absurd late
-late_turn (at.Word part j k) t word late = absurd late
-late_turn at.DropGate t word late = absurd late
-late_turn at.Gate t word late = absurd late
-late_turn (at.Check i) t word late = absurd late
-late_turn at.Decide t word late = absurd late
 late_turn (at.StoreData j k) t word late = either (nat_lt k 7) (at.StoreData j (k + 1)) (at.SendData j) tt tt
 late_turn (at.SendData j) t word late = either (nat_lt (j + 1) (lines_of (size_of t.entry))) (at.StoreData (j + 1) 0) (at.StoreSlot 0 0) tt tt
 late_turn (at.StoreSlot j k) t word late = either (nat_lt k 7) (at.StoreSlot j (k + 1)) (at.SendSlot j) tt tt
@@ -60,6 +52,7 @@ late_turn at.StoreGate t word late = tt
 late_turn at.FenceSlot t word late = tt
 late_turn at.SendGate t word late = tt
 late_turn at.FenceGate t word late = tt
+late_turn e t word late = absurd late
 
 -- who names its entry writes next
 abbrev pub WritesLate : Turn → Type 0
@@ -106,15 +99,8 @@ writes_slot t i (Err reason) = tt
 writes_slot t i (Ok e) = writes_join t i e (join_fault t.params t.entries e)
 
 writes_check : (cmd : Cmd) (t : Task) (i : ℕ) → WritesLate (check_turn cmd t i)
-writes_check Logplay t i = writes_slot t i (entry_of t.params t.words i)
-writes_check Mount t i = writes_slot t i (entry_of t.params t.words i)
-writes_check (Mkdir path attr) t i = writes_slot t i (entry_of t.params t.words i)
-writes_check (Creat path size attr stripe fill) t i = writes_slot t i (entry_of t.params t.words i)
-writes_check (Cp path attr stripe bytes) t i = writes_slot t i (entry_of t.params t.words i)
-writes_check (Verify path against) t i = writes_slot t i (entry_of t.params t.words i)
-writes_check (Read path offset count) t i = writes_slot t i (entry_of t.params t.words i)
-writes_check (Check entries) t i = writes_slot t i (entry_of t.params t.words i)
 writes_check Fsck t i = tt
+writes_check e t i = writes_slot t i (entry_of t.params t.words i)
 
 writes_append : (t : Task) (r : Result Entry Refused) → WritesLate (append_turn t r)
 writes_append t (Err refused) = tt
@@ -144,15 +130,12 @@ writes_found t None turn w = tt
 writes_found t (Some e) turn w = writes_kind t e.kind (turn e) (w e)
 
 writes_decide : (cmd : Cmd) (t : Task) → WritesLate (decide_turn cmd t)
-writes_decide Logplay t = tt
-writes_decide Mount t = tt
-writes_decide (Check listing) t = tt
-writes_decide Fsck t = tt
 writes_decide (Verify path against) t = writes_found t (finmap.get (replay t.entries) path) (λ e. verify_turn t e against) (λ e. writes_verify t e against)
 writes_decide (Read path offset count) t = writes_found t (finmap.get (replay t.entries) path) (λ e. bytes_turn t e offset) (λ e. writes_bytes t e offset)
 writes_decide (Mkdir path attr) t = writes_wish t (wish_of t.cmd)
 writes_decide (Creat path size attr stripe fill) t = writes_wish t (wish_of t.cmd)
 writes_decide (Cp path attr stripe bytes) t = writes_wish t (wish_of t.cmd)
+writes_decide e t = tt
 
 writes_or : (t : Task) (part : Part) (j : ℕ) (turn : Turn) → WritesLate turn → WritesLate (line_or t part j turn)
 writes_or t part j turn w = one_of (nat_lt (j + 1) (part_count t part)) _ _ tt w
@@ -164,13 +147,7 @@ writes_compare t against j None = writes_or (record t { words = [] }) File j (En
 writes_file : (cmd : Cmd) (t : Task) (j : ℕ) → WritesLate (file_turn cmd t j)
 writes_file (Verify path against) t j = writes_compare t against j (line_difference t against j)
 writes_file (Read path offset count) t j = writes_or t File j _ tt
-writes_file Logplay t j = tt
-writes_file Mount t j = tt
-writes_file (Mkdir path attr) t j = tt
-writes_file (Creat path size attr stripe fill) t j = tt
-writes_file (Cp path attr stripe bytes) t j = tt
-writes_file (Check entries) t j = tt
-writes_file Fsck t j = tt
+writes_file e t j = tt
 
 writes_line : (part : Part) (t : Task) (j : ℕ) → WritesLate (line_turn t part j)
 writes_line Superblock t j = writes_or t Superblock j _ (writes_super t (super_body_of t.words (line_bytes * t.lines)))
@@ -179,19 +156,9 @@ writes_line (Slot i) t j = writes_or t (Slot i) j _ tt
 writes_line File t j = writes_file t.cmd t j
 
 pub writes_turn : (p : Phase) (t : Task) (word : ℕ) → WritesLate (turn_at p t word)
-writes_turn at.DropMagic t word = tt
 writes_turn at.Magic t word = writes_magic t (magic_fault word)
-writes_turn (at.Drop part j) t word = tt
 writes_turn (at.Word part j k) t word = one_of (nat_lt k 7) _ _ tt (writes_line part (with_word t word) j)
-writes_turn at.DropGate t word = tt
 writes_turn at.Gate t word = writes_gate t word (gate_fault word t.params)
 writes_turn (at.Check i) t word = writes_check t.cmd t i
 writes_turn at.Decide t word = writes_decide t.cmd t
-writes_turn (at.StoreData j k) t word = tt
-writes_turn (at.SendData j) t word = tt
-writes_turn (at.StoreSlot j k) t word = tt
-writes_turn (at.SendSlot j) t word = tt
-writes_turn at.StoreGate t word = tt
-writes_turn at.FenceSlot t word = tt
-writes_turn at.SendGate t word = tt
-writes_turn at.FenceGate t word = tt
+writes_turn e t word = tt

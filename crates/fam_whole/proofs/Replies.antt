@@ -73,15 +73,10 @@ of_ask files Mount given is = subst (IsOf (length files)) (same_Some _ given is)
 of_ask files (Check listing) given is = subst (IsOf (length files)) (same_Some _ given is) refl
 of_ask files (Verify path against) given is = subst (IsOf (length files)) (same_Some _ given is) (of_found (length files) (file_at files path) _ (λ bytes. of_verified (length files) bytes against))
 of_ask files (Read path offset count) given is = subst (IsOf (length files)) (same_Some _ given is) (of_found (length files) (file_at files path) _ (λ bytes. refl))
-of_ask files (Mkdir path attr) given is = absurd cc
-of_ask files (Creat path size attr stripe fill) given is = absurd cc
-of_ask files (Cp path attr stripe bytes) given is = absurd cc
-of_ask files Fsck given is = absurd cc
+of_ask files e given is = absurd cc
 
 module _ (image : Image) (state : State) where
   whole_of : (given : Reply) → IsOf (settled_length state) given → IsWholeReply given state image
-  whole_of (Appended seq) is = absurd is
-  whole_of (NotAppended why) is = absurd is
   whole_of (Played n tree) is = λ m e. sym (same_Some n m e) ∙ is
   whole_of (Mounted n) is = λ m e. sym (same_Some n m e) ∙ is
   whole_of (Same n) is = λ m e. sym (same_Some n m e) ∙ is
@@ -91,10 +86,7 @@ module _ (image : Image) (state : State) where
   whole_of (NotFound n) is = λ m e. sym (same_Some n m e) ∙ is
   whole_of (IsDirectory n) is = λ m e. sym (same_Some n m e) ∙ is
   whole_of (Checks n checked) is = λ m e. sym (same_Some n m e) ∙ is
-  whole_of (Reports report) is = absurd is
-  whole_of (NoSuperblock fault) is = absurd is
-  whole_of (BadHeader fault) is = absurd is
-  whole_of (BadSlot seq reason) is = absurd is
+  whole_of e is = absurd is
 
   pub whole_appended : (n : ℕ) (d : Result Entry Refused) → IsWholeReply (appended n d) state image
   whole_appended n (Ok e) = λ m e. absurd cc

@@ -18,7 +18,7 @@ use Rattle.fam_journal.specs.Complete.{IsComplete}
 use Rattle.fam_journal.specs.Ends.{AllDone, Ending, EndsOutOfMemory}
 use Rattle.fam_journal.specs.Laws.{AreSound, IsImage}
 use Rattle.fam_journal.specs.Notes.{Note}
-use Rattle.fam_outcomes.specs.Programs.{BadLine, CommandRuns, Early, EarlyOutOfMemory, EndsEarly, Grammar, IsEarly, IsWholeRun, LongScript, Makes, MakesParents, NoCommand, NoScript, OneShot, Prints, Runs, ScriptFails, ShotRuns, ShotText, Single, Storms, TopEnds, done_status, early_status, ends_shot, last_passes, path_prefixes, shot_events, shot_status}
+use Rattle.fam_outcomes.specs.Programs.{CommandRuns, Early, EarlyOutOfMemory, EndsEarly, Grammar, IsEarly, IsWholeRun, Makes, MakesParents, NoCommand, OneShot, Runs, ShotRuns, ShotText, Single, Storms, TopEnds, done_status, early_status, ends_shot, last_passes, path_prefixes, shot_events, shot_status}
 use Rattle.fam_outcomes.specs.Runs.{IsPut, NoneRose, Outside, RunsOn}
 use Rattle.fam_outcomes.specs.Texts.{shown}
 use Rattle.fam_outcomes.proofs.Faultless.{run_complete}
@@ -87,12 +87,8 @@ module _ (out : Outside) (none : NoneRose out) (me : List ℕ) (shot : OneShot) 
   module _ (grammar : Grammar) (storms : Storms) (given : Status) where
     early_memory : (early : Early) → IsEarly grammar storms (Some (Single me shot)) out early → early_status early ≡ status.OutOfMemory
     early_memory NoCommand x = absurd cc
-    early_memory (NoScript own) x = absurd x
-    early_memory (LongScript size) x = absurd x
-    early_memory (ScriptFails end) x = absurd x
-    early_memory (BadLine at column) x = absurd x
-    early_memory (Prints script) x = absurd x
     early_memory EarlyOutOfMemory x = refl
+    early_memory e x = absurd x
 
     module _ (text : List ℕ) (own : Status) (put : IsPut own given text out) where
       abbrev Comes : Type 0

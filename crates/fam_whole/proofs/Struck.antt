@@ -36,19 +36,15 @@ module _ (start : Image) (files : Files) where
       call_same (call.Declares name uuid) s t m n j k a b bs bt twins x y (host_same start files s.machines t.machines j k bs bt twins.machines a b m.machines n.machines name uuid)
   command_same (event.Mkfs name fs unit log format force halt) is sound whole s t m n j k a b bs bt twins clean_a clean_b x y =
       call_same (call.Makes name (mkfs_request fs unit log format force halt)) s t m n j k a b bs bt twins x y (makes_same start files s.machines t.machines j k bs bt twins.machines a b m.machines n.machines name (mkfs_request fs unit log format force halt))
-  command_same (event.Begin name what) is sound whole s t m n j k a b bs bt twins clean_a clean_b x y = absurd whole
   command_same (event.Run name what) is sound whole s t m n j k a b bs bt twins clean_a clean_b x y =
       let both = ask_same start files name what s t m n j k a b bs bt twins clean_a clean_b x y in
       record { notes = both.notes; sessions = both.sessions }
-  command_same (event.Step name count) is sound whole s t m n j k a b bs bt twins clean_a clean_b x y = absurd whole
-  command_same (event.Finish name) is sound whole s t m n j k a b bs bt twins clean_a clean_b x y = absurd whole
-  command_same (event.Stop name) is sound whole s t m n j k a b bs bt twins clean_a clean_b x y = absurd whole
-  command_same (event.Halt name) is sound whole s t m n j k a b bs bt twins clean_a clean_b x y = absurd whole
   command_same (event.Umount name) is sound whole s t m n j k a b bs bt twins clean_a clean_b x y =
       call_same (call.Umounts name) s t m n j k a b bs bt twins x y (umounts_same start files s.machines t.machines j k bs bt twins.machines a b m.machines n.machines name)
   command_same (event.Evict name line) is sound whole s t m n j k a b bs bt twins clean_a clean_b x y = absurd cc
   command_same (event.Leak name line mask) is sound whole s t m n j k a b bs bt twins clean_a clean_b x y = absurd cc
   command_same (event.Fetch name line mask) is sound whole s t m n j k a b bs bt twins clean_a clean_b x y = absurd cc
+  command_same e is sound whole s t m n j k a b bs bt twins clean_a clean_b x y = absurd whole
 
   session_on : (a b c : Session) → TwinSessions a b → TwinSessions b c → TwinSessions a c
   session_on a b c p q = record { machines = twins_on a.machines b.machines c.machines p.machines q.machines; copied = p.copied ∙ q.copied }

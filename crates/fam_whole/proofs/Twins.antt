@@ -1,7 +1,7 @@
 -- Two runs of whole events with the same commands: what caches do by themselves between them is of no account.
 use Prim.Native.Nat.{zero, suc}
-use Rattle.std.proofs.Common.{◌≡◌, ℕ, ◌*◌, ◌≤◌, inl, inr, Bool, true, false, List, [], ◌∷◌, ◌++◌, length, Option, Some, None, refl, ap, ap₂, sym, ◌∙◌, subst}
-use Rattle.std.specs.Prelude.{⊤, ◌⊎◌, is_some, slice_get, Result, Ok}
+use Rattle.std.proofs.Common.{◌≡◌, ℕ, ◌*◌, ◌≤◌, inl, inr, Bool, true, false, List, [], ◌∷◌, ◌++◌, length, map, Option, Some, None, refl, ap, ap₂, sym, ◌∙◌, subst}
+use Rattle.std.specs.Prelude.{⊤, ◌⊎◌, slice_get, Result, Ok}
 use Rattle.std.specs.FinMap as finmap
 use Rattle.std.proofs.lemmas.Option.{same_Some}
 use Rattle.fam_base.specs.declared.cmd.Cmd.{Cmd}
@@ -45,7 +45,7 @@ use Rattle.fam_journal.specs.Past.{Past}
 use Rattle.fam_journal.proofs.Calls.Cases.{by_host, by_refusal}
 use Rattle.fam_journal.proofs.Settled.Journals.{past_both}
 use Rattle.fam_journal.proofs.Runs.Listings.{one_listing}
-use Rattle.fam_journal.proofs.Calls.Shown.{AreAlike, number_same, refusal_same}
+use Rattle.fam_journal.proofs.Faces.{dirt, face, number_same, refusal_same}
 use Rattle.fam_journal.proofs.Runs.Unique.{met_or_made, not_clean, one_source, goes_free}
 use Rattle.fam_whole.specs.Whole.{AreRefusals, IsStateOf, is_move}
 use Rattle.fam_whole.proofs.Exact.{Between, Through, front_of, halted_clean, joined_of, moved_image, through}
@@ -114,20 +114,21 @@ same_member (c ∷ xs) (d ∷ ys) (suc h) a b p is is' = same_member xs ys h a b
 none_dirty : (cache : Cache) → IsClean cache → dirty_count cache ≡ 0
 none_dirty cache clean = no_dirty_count cache (λ line. not_dirty (cell_at cache line) (clean line))
 
-alike : (xs ys : List HostState) → SameHosts xs ys → ((k : ℕ) (host : HostState) → slice_get xs k ≡ Some host → HostRests host) → ((k : ℕ) (host : HostState) → slice_get ys k ≡ Some host → HostRests host) → AreAlike xs ys
-alike [] [] p rx ry = tt
-alike [] (b ∷ ys) p rx ry = absurd p
-alike (a ∷ xs) [] p rx ry = absurd p
-alike (a ∷ xs) (b ∷ ys) p rx ry = (
-  record {
-    name = p.0.name;
-    uuid = p.0.uuid;
-    dirty = none_dirty a.cache (rx 0 a refl).clean ∙ sym (none_dirty b.cache (ry 0 b refl).clean);
-    busy = ap is_some (rx 0 a refl).idle ∙ sym (ap is_some (ry 0 b refl).idle);
-    keeps = ap (λ (k : Option Kept). is_some k) p.0.kept;
-  },
-  alike xs ys p.1 (λ k host is. rx (suc k) host is) (λ k host is. ry (suc k) host is),
-)
+face_alike : (a b : HostState) → Named a b → HostRests a → HostRests b → face a ≡ face b
+face_alike a b named here there =
+    let name = named.name in let uuid = named.uuid in let kept = named.kept in let idle = here.idle in let idle' = there.idle in cc
+
+dirt_alike : (a b : HostState) → Named a b → HostRests a → HostRests b → dirt a ≡ dirt b
+dirt_alike a b named here there = none_dirty a.cache here.clean ∙ sym (none_dirty b.cache there.clean)
+
+-- hosts that rest and are named alike show the same
+alike : {A : Type 0} (look : HostState → A) → ((a b : HostState) → Named a b → HostRests a → HostRests b → look a ≡ look b) → (xs ys : List HostState) → SameHosts xs ys
+    → ((k : ℕ) (host : HostState) → slice_get xs k ≡ Some host → HostRests host) → ((k : ℕ) (host : HostState) → slice_get ys k ≡ Some host → HostRests host) → map look xs ≡ map look ys
+alike look each [] [] p rx ry = refl
+alike look each [] (b ∷ ys) p rx ry = absurd p
+alike look each (a ∷ xs) [] p rx ry = absurd p
+alike look each (a ∷ xs) (b ∷ ys) p rx ry =
+    ap₂ (λ x zs. x ∷ zs) (each a b p.0 (rx 0 a refl) (ry 0 b refl)) (alike look each xs ys p.1 (λ k host is. rx (suc k) host is) (λ k host is. ry (suc k) host is))
 
 -- two machines that differ in their caches alone
 pub record Twins (s t : Machines) : Type 0 where
@@ -165,18 +166,10 @@ module _ (start : Image) (files : Files) where
       at_host h host is (inr x) = absurd (not_clean _ notes x.notes_are refl clean)
 
   pub move_twin : (e : Event) → is_move e ≡ true → (s new : Session) (journal notes : List Note) → Between start s.machines journal → AreFaultless notes → DoesEvent files e s notes new → TwinSessions new s
-  move_twin (event.Host name uuid) is s new journal notes between clean does = absurd cc
-  move_twin (event.Mkfs name fs unit log format force halt) is s new journal notes between clean does = absurd cc
-  move_twin (event.Begin name what) is s new journal notes between clean does = absurd cc
-  move_twin (event.Run name what) is s new journal notes between clean does = absurd cc
-  move_twin (event.Step name count) is s new journal notes between clean does = absurd cc
-  move_twin (event.Finish name) is s new journal notes between clean does = absurd cc
-  move_twin (event.Stop name) is s new journal notes between clean does = absurd cc
-  move_twin (event.Halt name) is s new journal notes between clean does = absurd cc
-  move_twin (event.Umount name) is s new journal notes between clean does = absurd cc
   move_twin (event.Evict name line) is s new journal notes between clean does = record { machines = moves_twin name line.0 Evict s.machines new.machines journal notes between clean does.0; copied = does.1 }
   move_twin (event.Leak name line mask) is s new journal notes between clean does = record { machines = moves_twin name line.0 (Leak mask.0) s.machines new.machines journal notes between clean does.0; copied = does.1 }
   move_twin (event.Fetch name line mask) is s new journal notes between clean does = record { machines = moves_twin name line.0 (Fetch mask.0) s.machines new.machines journal notes between clean does.0; copied = does.1 }
+  move_twin e is s new journal notes between clean does = absurd cc
 
   -- A command of twins has the same notes and leaves twins.
 
@@ -185,14 +178,17 @@ module _ (start : Image) (files : Files) where
     pub machines : Twins m n
 
   module _ (s t : Machines) (j k : List Note) (bs : Between start s j) (bt : Between start t k) (twins : Twins s t) (a b : List Note) (m n : Machines) where
-    all_alike : AreAlike s.hosts t.hosts
-    all_alike = alike s.hosts t.hosts twins.hosts bs.rests bt.rests
+    faces : map face s.hosts ≡ map face t.hosts
+    faces = alike face face_alike s.hosts t.hosts twins.hosts bs.rests bt.rests
+
+    dirts : map dirt s.hosts ≡ map dirt t.hosts
+    dirts = alike dirt dirt_alike s.hosts t.hosts twins.hosts bs.rests bt.rests
 
     pub refusals : (c : Call) → refusal_of c s ≡ refusal_of c t
-    refusals c = refusal_same s t all_alike (ap length twins.memory) c
+    refusals c = refusal_same s t faces (ap length twins.memory) dirts c
 
     pub numbers : (name : List ℕ) → number_of name s ≡ number_of name t
-    numbers name = number_same s t all_alike (ap length twins.memory) name
+    numbers name = number_same s t faces name
 
     pub both_same : (name : List ℕ) (cause : Refusal) → a ≡ Refused name cause ∷ [] → b ≡ Refused name cause ∷ [] → m ≡ s → n ≡ t → Same a b m n
     both_same name cause e f g i = record { notes = e ∙ sym f; machines = twins_on m s n (twins_as m s g) (twins_on s t n twins (twins_as t n (sym i))) }
@@ -458,15 +454,7 @@ move_notes name line move s new notes does =
     at_host h host (inr x) = subst AreRefusals (sym x.notes_are) (tt, tt)
 
 pub moves_note : (files : Files) (e : Event) → is_move e ≡ true → (s new : Session) (notes : List Note) → DoesEvent files e s notes new → AreRefusals notes
-moves_note files (event.Host name uuid) is s new notes does = absurd cc
-moves_note files (event.Mkfs name fs unit log format force halt) is s new notes does = absurd cc
-moves_note files (event.Begin name what) is s new notes does = absurd cc
-moves_note files (event.Run name what) is s new notes does = absurd cc
-moves_note files (event.Step name count) is s new notes does = absurd cc
-moves_note files (event.Finish name) is s new notes does = absurd cc
-moves_note files (event.Stop name) is s new notes does = absurd cc
-moves_note files (event.Halt name) is s new notes does = absurd cc
-moves_note files (event.Umount name) is s new notes does = absurd cc
 moves_note files (event.Evict name line) is s new notes does = move_notes name line.0 Evict s.machines new.machines notes does.0
 moves_note files (event.Leak name line mask) is s new notes does = move_notes name line.0 (Leak mask.0) s.machines new.machines notes does.0
 moves_note files (event.Fetch name line mask) is s new notes does = move_notes name line.0 (Fetch mask.0) s.machines new.machines notes does.0
+moves_note files e is s new notes does = absurd cc

@@ -5,8 +5,10 @@ ghost use Rattle.std.specs.FinMap as finmap;
 ghost use Rattle.std.specs.Prelude.{◌≡◌, ◌⊎◌, ◌≤◌, ℕ, Bool, true, List, Ok, Option, None, Some, length, slice_get, option_map};
 ghost use Rattle.fam_base.specs.declared.cmd.Attr.{Attr};
 ghost use Rattle.fam_base.specs.declared.cmd.Cmd.{Cmd};
+ghost use Rattle.fam_base.specs.declared.cmd.Cmd.TheVariants as cmd;
 ghost use Rattle.fam_base.specs.declared.entry.Params.{Params};
 ghost use Rattle.fam_base.specs.Image.{Image, line_at};
+ghost use Rattle.fam_format.specs.Params.{IsUuid};
 ghost use Rattle.fam_machine.specs.MkfsRequest.{mkfs_request};
 ghost use Rattle.fam_rules.specs.Asks.{File, entries_of};
 ghost use Rattle.fam_rules.specs.Place.{StandsAt};
@@ -25,6 +27,8 @@ ghost use Rattle.fam_outcomes.specs.Programs.{Script, Single, script_limit};
 ghost use Rattle.fam_outcomes.specs.Runs.{HasRisen, NoneRose, Outside};
 ghost use Rattle.fam_media.specs.Files.{Files};
 ghost use Rattle.fam_grammar.specs.Scripts.{script_events};
+ghost use Rattle.fam_program.specs.Shadows.{IsUntouched, ShadowTop, ShowsTree};
+ghost use Rattle.fam_shadow.specs.Nodes.{ShadeChange};
 ghost use Rattle.fam_storm.specs.Storm.{storm};
 ghost use Rattle.fam_words.specs.declared.wanted.Invocation.{Invocation};
 ghost use Rattle.fam_words.specs.declared.wanted.Invocation.TheVariants as invocation;
@@ -147,4 +151,18 @@ pub fn a_command_of_its_own_is_exact()
         → out.media.old.image ≡ Some start → out.shelf.old.files ≡ Some files
         → EndsNone script_events storm (Some (Single (host_or me system) (shot_of random what))) out given
         ⊎ ShotFront files start (host_or me system) (shot_of random what) out given }
+{}
+
+/// logplay with a folder, where no count rose of media, shelf and sink, by the clause of its call alone: the image is as it
+/// was (`image`). Where it shows no tree the rules' answer to logplay is put, and the folder is as it was; or there was no
+/// memory. Else the tree that is written is the one that logplay by itself would show (`text`).
+pub fn a_shadow_leaves_the_image()
+    ensures image { (me : List ℕ) (out : Outside) (shade : ShadeChange) (given : Status) (files : Files) (start : Image)
+        → NoneRose out → IsImage start → IsUuid me → ShadowTop (Some me) out shade given
+        → out.media.old.image ≡ Some start → out.shelf.old.files ≡ Some files → out.media.new.image ≡ Some start }
+    ensures text { (me : List ℕ) (out : Outside) (shade : ShadeChange) (given : Status) (files : Files) (start : Image)
+        → NoneRose out → IsImage start → IsUuid me → ShadowTop (Some me) out shade given
+        → out.media.old.image ≡ Some start → out.shelf.old.files ≡ Some files
+        → (given ≡ OutOfMemory) ⊎ ShowsTree me out shade given
+        ⊎ (CommandEnds start me cmd.Logplay out given × IsUntouched shade) }
 {}

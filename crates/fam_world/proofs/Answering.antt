@@ -13,7 +13,8 @@ use Rattle.fam_journal.specs.Notes.{Note, Refused}
 use Rattle.fam_journal.specs.View.{HostView, WorldView}
 use Rattle.fam_journal.specs.ByWorld.{number_in, refusal_in}
 use Rattle.fam_journal.proofs.Forms.Operations.{forms_both}
-use Rattle.fam_journal.proofs.Forms.Pairs.{IsNoMake, pairs_at}
+use Rattle.fam_journal.proofs.Faces.{IsNoMake}
+use Rattle.fam_journal.proofs.Forms.Pairs.{pairs_at}
 use Rattle.fam_journal.proofs.Forms.Views.{number_formed, refusal_formed}
 use Rattle.fam_world.specs.Answers.{IsRefused}
 
@@ -25,16 +26,8 @@ formed_same old new notes same journal hosts is =
 
 -- the journal tells the first refusal that the world has
 told_of : (c : Call) (lines : ℕ) (world : WorldView) → IsNoMake c → IsFormed world → refusal_told c lines (forms_of world.journal) ≡ refusal_in c world lines
-told_of (call.Declares name uuid) lines world other is = sym (refusal_formed lines world is (call.Declares name uuid) tt)
 told_of (call.Makes name request) lines world other is = absurd other
-told_of (call.Begins name cmd) lines world other is = sym (refusal_formed lines world is (call.Begins name cmd) tt)
-told_of (call.Steps name) lines world other is = sym (refusal_formed lines world is (call.Steps name) tt)
-told_of (call.Finishes name) lines world other is = sym (refusal_formed lines world is (call.Finishes name) tt)
-told_of (call.Stops name) lines world other is = sym (refusal_formed lines world is (call.Stops name) tt)
-told_of (call.Halts name) lines world other is = sym (refusal_formed lines world is (call.Halts name) tt)
-told_of (call.Umounts name) lines world other is = sym (refusal_formed lines world is (call.Umounts name) tt)
-told_of (call.Moves name line move) lines world other is = sym (refusal_formed lines world is (call.Moves name line move) tt)
-told_of (call.Refuses name cause) lines world other is = sym (refusal_formed lines world is (call.Refuses name cause) tt)
+told_of rest lines world other is = sym (refusal_formed lines world is rest tt)
 
 -- the form of a refusal
 pub refused_form : (c : Call) (lines : ℕ) (world : WorldView) → IsNoMake c → (cause : Refusal) → refusal_in c world lines ≡ Some cause → IsFormed world → CallForm c lines (forms_of world.journal) (Refused (name_of c) cause ∷ [])

@@ -23,7 +23,7 @@ use Rattle.fam_journal.specs.Names.{NamesCause}
 use Rattle.fam_journal.specs.Members.{index_of}
 use Rattle.fam_journal.specs.Notes.{Note}
 use Rattle.fam_journal.specs.View.{HostView, WorldView}
-use Rattle.fam_journal.specs.ByWorld.{refusal_in, shown_host, shown_state}
+use Rattle.fam_journal.specs.ByWorld.{refusal_in, shown_host}
 use Rattle.fam_world.specs.Answers.{IsRefused}
 use Rattle.fam_world.specs.declared.hosts.Host.{Host}
 use Rattle.fam_world.specs.View.{count_kept, host_view, shown, views}
@@ -44,41 +44,35 @@ module _ (hosts : List HostView) (journal : List Note) (name : List ℕ) (lines 
 
   pub halts_first : refusal_in (call.Halts name) w lines ≡ on_host o (λ h. None)
   unfolding refusal_of
-  halts_first = ap (λ (n : Option ℕ). on_host n (λ h. None)) number
+  halts_first = simp number
 
   pub steps_first : refusal_in (call.Steps name) w lines ≡ on_host o (λ h. when (not (is_busy_host (slice_get (map shown_host hosts) h))) why.Idle)
   unfolding refusal_of
-  steps_first = ap (λ (n : Option ℕ). on_host n (λ h. when (not (is_busy_host (slice_get (map shown_host hosts) h))) why.Idle)) number
+  steps_first = simp number
 
   pub moves_first : (line : ℕ) (move : Move) → refusal_in (call.Moves name line move) w lines ≡ on_host o (λ h. when (nat_le lines line) (why.NoLine line lines))
   unfolding refusal_of
-  moves_first line move =
-      ap (λ (n : Option ℕ). on_host n (λ h. call.line_refusal line (shown_state w lines))) number
-      ∙ ap (λ (n : ℕ). on_host o (λ h. when (nat_le n line) (why.NoLine line n))) (length-replicate lines [])
+  moves_first line move = simp (number, length-replicate)
 
   pub begins_first : (cmd : Cmd) → refusal_in (call.Begins name cmd) w lines
       ≡ on_host o (λ h. begins_by (nat_lt lines least_lines) (is_busy_host (slice_get (map shown_host hosts) h)) (is_mount cmd) (is_kept_host (slice_get (map shown_host hosts) h)) lines h)
   unfolding refusal_of
-  begins_first cmd =
-      ap (λ (n : Option ℕ). on_host n (λ h. call.begins_refusal h (is_mount cmd) (shown_state w lines))) number
-      ∙ ap (λ (n : ℕ). on_host o (λ h. begins_by (nat_lt n least_lines) (is_busy_host (slice_get (map shown_host hosts) h)) (is_mount cmd) (is_kept_host (slice_get (map shown_host hosts) h)) n h)) (length-replicate lines [])
+  begins_first cmd = simp (number, length-replicate)
 
   pub umounts_first : refusal_in (call.Umounts name) w lines
       ≡ on_host o (λ h. umounts_by (is_busy_host (slice_get (map shown_host hosts) h)) (is_kept_host (slice_get (map shown_host hosts) h)) h)
   unfolding refusal_of
-  umounts_first = ap (λ (n : Option ℕ). on_host n (λ h. umounts_by (is_busy_host (slice_get (map shown_host hosts) h)) (is_kept_host (slice_get (map shown_host hosts) h)) h)) number
+  umounts_first = simp number
 
   pub makes_first : (request : MkfsRequest) → refusal_in (call.Makes name request) w lines
       ≡ on_host o (λ h. or_else (option_map cause_of (early_refusal request.unit request.log (line_bytes * lines))) (or_else (busy_refusal (index_of is_engaged (map shown_host hosts))) (dirty_refusal (dirty_from h 0 (map shown_host hosts)))))
   unfolding refusal_of
-  makes_first request =
-      ap (λ (n : Option ℕ). on_host n (λ h. call.makes_refusal request.unit request.log h (shown_state w lines))) number
-      ∙ ap (λ (n : ℕ). on_host o (λ h. or_else (option_map cause_of (early_refusal request.unit request.log (line_bytes * n))) (or_else (busy_refusal (index_of is_engaged (map shown_host hosts))) (dirty_refusal (dirty_from h 0 (map shown_host hosts)))))) (length-replicate lines [])
+  makes_first request = simp (number, length-replicate)
 
 pub declares_first : (hosts : List HostView) (journal : List Note) (name uuid : List ℕ) (lines : ℕ) (o : Option ℕ) → index_of (is_same name uuid) (map shown_host hosts) ≡ o
     → refusal_in (call.Declares name uuid) (record { hosts = hosts; journal = journal }) lines ≡ or_else (same_refusal o) (when (nat_le host_limit (length (map shown_host hosts))) why.TooManyHosts)
 unfolding refusal_of
-declares_first hosts journal name uuid lines o is = ap (λ (n : Option ℕ). or_else (same_refusal n) (when (nat_le host_limit (length (map shown_host hosts))) why.TooManyHosts)) is
+declares_first hosts journal name uuid lines o is = simp is
 
 -- of the numbers alone: no host is named, and memory wasn't asked
 pub early_known : (n : ℕ) (o : Option EarlyRefusal) (cause : Refusal) → option_map cause_of o ≡ Some cause → NamesCause n cause × (cause_faults cause ≡ 0)

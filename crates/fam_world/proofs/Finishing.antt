@@ -294,10 +294,7 @@ finish_nothing name lines told faults old = record {
 
 own_turn_notes : (h : ℕ) (n : row.RowNote) → AreOwn (notes_of h n)
 own_turn_notes h row.Quiet = tt
-own_turn_notes h row.Mark = (refl, tt)
-own_turn_notes h (row.Found k) = (refl, tt)
-own_turn_notes h (row.Writing seq e) = (refl, tt)
-own_turn_notes h (row.Answer reply) = (refl, tt)
+own_turn_notes h other = (refl, tt)
 
 step_own : (at : ℕ) (t : Task) (a : HostChange) (over : Bool) → (x : IsStep at t a over) → AreOwn x.notes
 step_own at t a over x = by x.how

@@ -67,14 +67,6 @@ sends_within true t lines real shown on fits = sends_one (op_of t) lines real.li
 -- A task that reads has no places.
 
 reads_lack : (p : Phase) (t : Task) (cache : CacheState) → IsBeforeWrites p → ¬ (HasPlacesAt p t cache)
-reads_lack at.DropMagic t cache before has = has
-reads_lack at.Magic t cache before has = has
-reads_lack (at.Drop part j) t cache before has = has
-reads_lack (at.Word part j k) t cache before has = has
-reads_lack at.DropGate t cache before has = has
-reads_lack at.Gate t cache before has = has
-reads_lack (at.Check i) t cache before has = has
-reads_lack at.Decide t cache before has = has
 reads_lack (at.StoreData j k) t cache before has = before
 reads_lack (at.SendData j) t cache before has = before
 reads_lack (at.StoreSlot i k) t cache before has = before
@@ -83,6 +75,7 @@ reads_lack at.StoreGate t cache before has = before
 reads_lack at.FenceSlot t cache before has = before
 reads_lack at.SendGate t cache before has = before
 reads_lack at.FenceGate t cache before has = before
+reads_lack other t cache before has = has
 
 reads_make : (t next : Task) (cache after : CacheState) (r : Result Turn OperationFault) → IsBeforeWrites t.phase → PlacesMade t cache next after r
 reads_make t next cache after (Ok turn) before = λ on has. absurd (elim has [

@@ -1,39 +1,25 @@
 -- The form of what a mkfs adds, by what the journal tells of the hosts.
 use Rattle.std.proofs.Common.{◌≡◌, ℕ, ◌+◌, ◌*◌, ◌<◌, inl, inr, List, [], ◌∷◌, length, map, Option, Some, None, refl, ap, sym, ◌∙◌, subst, arith}
-use Rattle.std.specs.Prelude.{slice_get, option_map, is_some}
+use Rattle.std.specs.Prelude.{slice_get, option_map}
 use Rattle.std.proofs.lemmas.List.{length-map}
 use Rattle.std.proofs.lemmas.Option.{same_Some}
 use Rattle.fam_machine.specs.declared.request.MkfsRequest.{MkfsRequest}
 use Rattle.fam_format.specs.Stop.{or_else}
 use Rattle.fam_rules.specs.Place.{line_bytes}
 use Rattle.fam_machine.specs.Mkfs.{early_refusal}
-use Rattle.fam_commands.specs.Task.{Task}
 use Rattle.fam_journal.specs.declared.refusal.Refusal.{Refusal}
 use Rattle.fam_journal.specs.declared.refusal.Refusal.TheVariants as why
 use Rattle.fam_journal.specs.Calls as call
 use Rattle.fam_journal.specs.Calls.{busy_refusal, cause_of, dirty_from, dirty_refusal, is_engaged, number_of, on_host, refusal_of}
 use Rattle.fam_journal.specs.CallRecords.{CallForm}
-use Rattle.fam_journal.specs.Forms.{ActsForm, AtForm, FormByRefusal, FreeForm, HostForm, HostFormed, IsFormed, OfHostForm, Pairs, TaskForm, TaskFormed, forms_of, makes_told, refusal_told, shown_form, shown_forms, shown_running}
+use Rattle.fam_journal.specs.Forms.{ActsForm, AtForm, FormByRefusal, FreeForm, HostForm, HostFormed, IsFormed, OfHostForm, Pairs, forms_of, makes_told, refusal_told, shown_forms}
 use Rattle.fam_journal.specs.Members.{index_of}
 use Rattle.fam_journal.specs.Notes.{Note, Refused}
 use Rattle.fam_journal.specs.View.{HostView, WorldView}
-use Rattle.fam_journal.specs.ByWorld.{number_in, refusal_in, shown_host, shown_state, shown_task}
-use Rattle.fam_journal.proofs.Forms.Pairs.{Looks, engaged_place, dirty_other, pairs_at, pairs_length}
-use Rattle.fam_journal.proofs.Forms.Operations.{shown_keeps}
-use Rattle.fam_journal.proofs.Forms.Views.{number_formed}
-
-view_looks : (me : List ℕ) (t : Option Task) (f : Option TaskForm) → TaskFormed me t f → is_some (shown_task t) ≡ is_some (shown_running f)
-view_looks me None None is = refl
-view_looks me None (Some f) is = absurd is
-view_looks me (Some t) None is = absurd is
-view_looks me (Some t) (Some f) is = refl
-
-views_look : (views : List HostView) (forms : List HostForm) → Pairs HostFormed views forms → Pairs Looks (map shown_host views) (map shown_form forms)
-views_look [] [] all = tt
-views_look [] (f ∷ forms) all = absurd all
-views_look (v ∷ views) [] all = absurd all
-views_look (v ∷ views) (f ∷ forms) all =
-    (record { name = sym all.0.name; uuid = sym all.0.uuid; busy = view_looks v.uuid v.task f.task all.0.task; keeps = sym all.0.keeps ∙ sym (shown_keeps f.keeps) }, views_look views forms all.1)
+use Rattle.fam_journal.specs.ByWorld.{number_in, refusal_in, shown_host, shown_state}
+use Rattle.fam_journal.proofs.Faces.{engaged_place}
+use Rattle.fam_journal.proofs.Forms.Pairs.{dirty_other, pairs_at, pairs_length}
+use Rattle.fam_journal.proofs.Forms.Views.{number_formed, views_look}
 
 module _ (name : List ℕ) (request : MkfsRequest) (lines : ℕ) (world : WorldView) (is : IsFormed world) where
   abbrev c : call.Call
@@ -52,7 +38,7 @@ module _ (name : List ℕ) (request : MkfsRequest) (lines : ℕ) (world : WorldV
   told_number = sym (number_formed lines world is name)
 
   told_busy : busy_refusal (index_of is_engaged (shown_forms lines forms).hosts) ≡ busy
-  told_busy = ap busy_refusal (sym (engaged_place (shown_state world lines) (shown_forms lines forms) (views_look world.hosts forms is) refl))
+  told_busy = ap busy_refusal (sym (engaged_place (shown_state world lines) (shown_forms lines forms) (views_look world.hosts forms is)))
 
   -- what the journal tells, by the world's parts
   told_by : refusal_told c lines forms ≡ on_host (number_in name world) (λ h. or_else early busy)

@@ -81,32 +81,13 @@ elsewhere l P other magic prefix rest log gate =
 
 -- what the maker holds behind an end, its operations left
 pub held_behind : (end : MkfsEnd) (ran old : Cache) (l : ℕ) → cell_at ran l ≡ cell_at old l → IsHeld (cell_at (cache_behind end ran) l) → IsHeld (cell_at old l)
-held_behind (ended.Made made) ran old l same held = subst IsHeld same held
-held_behind (ended.BadGeometry unit log) ran old l same held = subst IsHeld same held
-held_behind (ended.TooSmall need have) ran old l same held = subst IsHeld same held
-held_behind (ended.HasSuper id) ran old l same held = subst IsHeld same held
-held_behind (ended.Failed line) ran old l same held = subst IsHeld same held
 held_behind (ended.Halted k) ran old l same held = absurd (false≢true (subst IsHeld (cell_at-empty l) held))
+held_behind other ran old l same held = subst IsHeld same held
 
 -- a refusal at once is no cut
 leaves_refused : (cause : Refusal) (c : call.Call) (start : Image) (told now : Option Image) (old new : WorldView) → cause_faults cause ≡ 0 → CallKeeps c start told now old new → KeepsOrBreaks cause c start told now old new
-leaves_refused why.NoHost c start told now old new none keeps = keeps
-leaves_refused (why.SameHost host) c start told now old new none keeps = keeps
-leaves_refused why.TooManyHosts c start told now old new none keeps = keeps
-leaves_refused (why.BadGeometry unit log) c start told now old new none keeps = keeps
-leaves_refused (why.TooSmall need have) c start told now old new none keeps = keeps
-leaves_refused (why.ImageSmall lines) c start told now old new none keeps = keeps
-leaves_refused (why.Busy host) c start told now old new none keeps = keeps
-leaves_refused (why.Dirty host) c start told now old new none keeps = keeps
-leaves_refused (why.HasSuper uuid) c start told now old new none keeps = keeps
-leaves_refused why.Idle c start told now old new none keeps = keeps
-leaves_refused (why.NoLine at lines) c start told now old new none keeps = keeps
-leaves_refused (why.NoFile name) c start told now old new none keeps = keeps
-leaves_refused (why.CopyLimit sum) c start told now old new none keeps = keeps
-leaves_refused (why.BadListing at) c start told now old new none keeps = keeps
 leaves_refused (why.MediaFault at) c start told now old new none keeps = absurd cc
-leaves_refused why.Mounted c start told now old new none keeps = keeps
-leaves_refused why.NotMounted c start told now old new none keeps = keeps
+leaves_refused other c start told now old new none keeps = keeps
 
 none_before : (o : Option EarlyRefusal) → option_map end_of o ≡ None → o ≡ None
 none_before None e = refl

@@ -23,7 +23,7 @@ use Rattle.fam_journal.specs.Notes.{Refused}
 use Rattle.fam_journal.specs.View.{HostStandsAt, HostView, WorldStands, WorldView}
 use Rattle.fam_journal.specs.ByWorld.{number_in, refusal_in}
 use Rattle.fam_journal.proofs.Calls.Hosts.{stands_changed}
-use Rattle.fam_journal.proofs.Forms.Pairs.{IsNoMake}
+use Rattle.fam_journal.proofs.Faces.{IsNoMake}
 use Rattle.fam_world.specs.Answers.{IsRefused}
 use Rattle.fam_world.proofs.Answering.{formed_same, free_answers, hosted_form, refused_answers, refused_form}
 use Rattle.fam_world.proofs.Members.{fits_kept, forms_kept, map_kept}

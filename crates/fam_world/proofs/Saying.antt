@@ -45,22 +45,14 @@ use Rattle.fam_commands.specs.Keeping.{kept_after}
 -- the word that an operation gave comes back as it was
 given_again : (op : Op) (c : Cache) → given_by op (unwrap_or (word_of op c) 0) ≡ word_of op c
 given_again (Load line k) c = refl
-given_again (Store line k value) c = refl
-given_again (WriteBack line) c = refl
-given_again Fence c = refl
-given_again (Invalidate line) c = refl
-given_again Digest c = refl
+given_again other c = refl
 
 -- it is the machine's
 word_is : (op : Op) (m : Machine) → word_of op (operated op m).cache ≡ given op m
 word_is (Load line k) m =
     ap (λ (ws : List ℕ). Some (Rattle.std.specs.Prelude.slice_index ws k))
     (ap words_of (cell_at-with_cell_same line.0 (brought (line_at m.image line.0) (cell_at m.cache line.0)) m.cache) ∙ brought_words (line_at m.image line.0) (cell_at m.cache line.0))
-word_is (Store line k value) m = refl
-word_is (WriteBack line) m = refl
-word_is Fence m = refl
-word_is (Invalidate line) m = refl
-word_is Digest m = refl
+word_is other m = refl
 
 -- Lines.
 
@@ -91,30 +83,8 @@ lines_held Digest lines told old new within leaves l held = inr (subst (λ (c : 
 -- Answers.
 
 pub answer_told : (a : Answer) (reply : Reply) → reply_of a ≡ Some reply → answer_view a ≡ Replied reply
-answer_told (answer.Ok seq) reply is = cc
-answer_told (answer.Played m tree) reply is = cc
-answer_told (answer.Mounted m) reply is = cc
-answer_told (answer.Same m) reply is = cc
-answer_told (answer.Bytes m bytes) reply is = cc
-answer_told (answer.Checked m checked) reply is = cc
-answer_told (answer.Report report) reply is = cc
-answer_told (answer.NoSuper word) reply is = cc
-answer_told (answer.BadSuper field found wanted) reply is = cc
-answer_told (answer.BadLog field found wanted) reply is = cc
-answer_told (answer.BadEntry seq reason) reply is = cc
-answer_told (answer.NotMaster me master) reply is = cc
-answer_told (answer.LongPath limit) reply is = cc
-answer_told answer.BadStripe reply is = cc
-answer_told (answer.Exists kind) reply is = cc
-answer_told answer.NoParent reply is = cc
-answer_told answer.ParentIsFile reply is = cc
-answer_told (answer.LogFull slots) reply is = cc
-answer_told (answer.NoSpace units) reply is = cc
-answer_told (answer.NotFound m) reply is = cc
-answer_told (answer.IsDirectory m) reply is = cc
-answer_told (answer.Differs m offset found wanted) reply is = cc
-answer_told (answer.Length m size wanted) reply is = cc
 answer_told (answer.MediaFault line) reply is = absurd cc
+answer_told other reply is = cc
 
 -- what a turn of the definition tells: its notes, the task behind it, and whether it is over
 pub record IsTold (at : ℕ) (said : Turn) (next : Task) (z : turns.Turn) : Type 0 where

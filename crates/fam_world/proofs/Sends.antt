@@ -3,7 +3,7 @@ use Rattle.std.proofs.Common.{ℕ, ◌<◌, refl}
 use Rattle.fam_machine.specs.declared.cell.Cell.{Cell}
 use Rattle.fam_machine.specs.declared.cell.Cell.TheVariants.{Absent, Clean, Dirty}
 use Rattle.fam_machine.specs.declared.op.Op.{Op}
-use Rattle.fam_machine.specs.declared.op.Op.TheVariants.{Load, Store, WriteBack, Fence, Invalidate, Digest}
+use Rattle.fam_machine.specs.declared.op.Op.TheVariants.{Fence}
 use Rattle.fam_machine.specs.Caches.{Cache, cell_at}
 use Rattle.fam_machine.specs.OneLine.{IsAsked, IsHeld}
 use Rattle.fam_cache.specs.Operations.{SendsWithin}
@@ -16,9 +16,5 @@ asked_held (Dirty a words) asked = refl
 
 -- a fence sends lines of the media, where the cache holds no other
 pub held_sends : (op : Op) (lines : ℕ) (cache : Cache) → ((l : ℕ) → IsHeld (cell_at cache l) → l < lines) → SendsWithin op lines cache
-held_sends (Load line k) lines cache below = tt
-held_sends (Store line k value) lines cache below = tt
-held_sends (WriteBack line) lines cache below = tt
 held_sends Fence lines cache below = λ line asked. below line (asked_held (cell_at cache line) asked)
-held_sends (Invalidate line) lines cache below = tt
-held_sends Digest lines cache below = tt
+held_sends other lines cache below = tt

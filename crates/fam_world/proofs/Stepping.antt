@@ -48,24 +48,15 @@ use Rattle.fam_world.proofs.StepForms.{fault_formed_step}
 
 pub no_faults : (h : ℕ) (n : row.RowNote) → faults_of (notes_of h n) ≡ 0
 no_faults h row.Quiet = refl
-no_faults h row.Mark = refl
-no_faults h (row.Found k) = refl
-no_faults h (row.Writing seq e) = refl
-no_faults h (row.Answer reply) = refl
+no_faults h other = refl
 
 no_refusal : (h : ℕ) (n : row.RowNote) → None ≡ refusal_noted (notes_of h n)
 no_refusal h row.Quiet = refl
-no_refusal h row.Mark = refl
-no_refusal h (row.Found k) = refl
-no_refusal h (row.Writing seq e) = refl
-no_refusal h (row.Answer reply) = refl
+no_refusal h other = refl
 
 pub own_named : (h n : ℕ) (note : row.RowNote) → h < n → AreNamed n (notes_of h note)
 own_named h n row.Quiet below = tt
-own_named h n row.Mark below = (below, tt)
-own_named h n (row.Found k) below = (below, tt)
-own_named h n (row.Writing seq e) below = (below, tt)
-own_named h n (row.Answer reply) below = (below, tt)
+own_named h n other below = (below, tt)
 
 -- nothing is answered
 pub no_cause : (c : call.Call) (cause : Refusal) → None ≡ Some cause → IsLate c cause

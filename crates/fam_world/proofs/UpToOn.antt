@@ -59,14 +59,7 @@ module _ (image : Image) (normal : map eight image ≡ image) (held : Cache) (cl
   reads_leave at.Gate t before = refl
   reads_leave (at.Check i) t before = refl
   reads_leave at.Decide t before = refl
-  reads_leave (at.StoreData j k) t before = absurd before
-  reads_leave (at.SendData j) t before = absurd before
-  reads_leave (at.StoreSlot i k) t before = absurd before
-  reads_leave (at.SendSlot i) t before = absurd before
-  reads_leave at.StoreGate t before = absurd before
-  reads_leave at.FenceSlot t before = absurd before
-  reads_leave at.SendGate t before = absurd before
-  reads_leave at.FenceGate t before = absurd before
+  reads_leave other t before = absurd before
 
   brings_clean : (line : ℕ) → IsClean (with_cell line (brought (line_at image line) (cell_at held line)) held)
   brings_clean line = clean_with line _ held clean (clean_brought (line_at image line) (cell_at held line) refl (clean line))
@@ -83,14 +76,7 @@ module _ (image : Image) (normal : map eight image ≡ image) (held : Cache) (cl
   reads_clean at.Gate t before = brings_clean _
   reads_clean (at.Check i) t before = clean
   reads_clean at.Decide t before = clean
-  reads_clean (at.StoreData j k) t before = absurd before
-  reads_clean (at.SendData j) t before = absurd before
-  reads_clean (at.StoreSlot i k) t before = absurd before
-  reads_clean (at.SendSlot i) t before = absurd before
-  reads_clean at.StoreGate t before = absurd before
-  reads_clean at.FenceSlot t before = absurd before
-  reads_clean at.SendGate t before = absurd before
-  reads_clean at.FenceGate t before = absurd before
+  reads_clean other t before = absurd before
 
 -- Several that go on.
 
@@ -120,14 +106,7 @@ held_clean_at at.DropGate t held before of clean = clean_with _ Absent held clea
 held_clean_at at.Gate t held before of clean = clean
 held_clean_at (at.Check i) t held before of clean = absurd of
 held_clean_at at.Decide t held before of clean = absurd of
-held_clean_at (at.StoreData j k) t held before of clean = absurd before
-held_clean_at (at.SendData j) t held before of clean = absurd before
-held_clean_at (at.StoreSlot i k) t held before of clean = absurd before
-held_clean_at (at.SendSlot i) t held before of clean = absurd before
-held_clean_at at.StoreGate t held before of clean = absurd before
-held_clean_at at.FenceSlot t held before of clean = absurd before
-held_clean_at at.SendGate t held before of clean = absurd before
-held_clean_at at.FenceGate t held before of clean = absurd before
+held_clean_at other t held before of clean = absurd before
 
 held_clean : (t next : Task) (held after : Cache) {n : ℕ} → CachedRun t held next after n → IsBeforeWrites t.phase → IsClean held → IsClean after
 held_clean t _ held _ run.none before clean = clean

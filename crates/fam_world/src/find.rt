@@ -1,6 +1,6 @@
 //! Whom a call is for, and why it is refused at once: by names, UUIDs, tasks and caches alone.
 
-ghost use Rattle.std.specs.Prelude.{◌≡◌, ◌&&◌, ◌<◌, ◌≤◌, ℕ, List, [], IfErr, IfOk, OnOk, IfSome, length, vec_len, is_some, slice_get, Some, None, true};
+ghost use Rattle.std.specs.Prelude.{◌≡◌, ◌&&◌, ◌<◌, ◌≤◌, ℕ, List, [], IfErr, IfOk, OnOk, IfSome, vec_len, is_some, slice_get, Some, None, true};
 ghost use Rattle.fam_base.specs.PathOrder.{path_eq};
 ghost use Rattle.fam_base.specs.declared.cmd.Cmd.{Cmd};
 ghost use Rattle.fam_format.specs.Layout.{least_lines};

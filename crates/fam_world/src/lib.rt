@@ -13,7 +13,7 @@ mod notes;
 mod run;
 mod world;
 
-pub use fam_journal::{HostId, Refusal};
+pub use fam_journal::{HostId, Refusal, is_command};
 pub use fam_notes::Note;
 pub use fault::{Moved, WorldFault};
 pub use world::World;

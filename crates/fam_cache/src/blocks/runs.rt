@@ -1,10 +1,7 @@
 //! Lines of one block that stand one behind another.
 
 ghost use Rattle.std.specs.Prelude.{ℕ, ◌≡◌, ◌+◌, ◌/◌, ◌%◌, ◌<◌, ◌≤◌, length, true};
-ghost use Rattle.fam_base.specs.Image.{eight};
-ghost use Rattle.fam_machine.specs.Caches.{with_cell};
 ghost use Rattle.fam_machine.specs.OneLine.{IsDirty};
-ghost use Rattle.fam_machine.specs.declared.cell.Cell.{Cell};
 ghost use Rattle.fam_cache.specs.Blocks.{HasNone, HasRoom, IsBlockOf, IsKept, cell_in, lines_of};
 ghost use Rattle.fam_cache.specs.BroughtRuns.{LacksNone, brought_run};
 

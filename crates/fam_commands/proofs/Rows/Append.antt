@@ -3,7 +3,7 @@ use Rattle.std.proofs.Common.{ℕ, ◌≡◌, ◌<◌, ◌+◌, ◌-◌, ◌*◌
 use Rattle.std.specs.Prelude.{slice_get, slice_index}
 use Rattle.std.proofs.lemmas.List.{append_assoc, get_or-take, get_or-drop}
 use Rattle.fam_base.specs.declared.cmd.Cmd.{Cmd}
-use Rattle.fam_base.specs.declared.cmd.Cmd.TheVariants.{Logplay, Mount, Mkdir, Creat, Cp, Verify, Read, Check, Fsck}
+use Rattle.fam_base.specs.declared.cmd.Cmd.TheVariants.{Mkdir, Creat, Cp, Fsck}
 use Rattle.fam_base.specs.declared.cmd.Content.{Content}
 use Rattle.fam_base.specs.declared.entry.Params.{Params}
 use Rattle.fam_base.specs.declared.entry.Entry.{Entry}
@@ -36,15 +36,10 @@ fits_rows cmd p entries e = rows (append_ops p (length entries) e (content_of cm
 
 -- what comes behind the decision of an append
 last_is : (cmd : Cmd) (p : Params) (me : List ℕ) (words : List ℕ) (first : ℕ) (entries : List Entry) (e : Entry) → decide p me entries cmd ≡ Some (Ok e) → last_rows cmd me words p first entries ≡ fits_rows cmd p entries e
-last_is Logplay p me words first entries e is = absurd cc
-last_is Mount p me words first entries e is = absurd cc
 last_is (Mkdir path attr) p me words first entries e is = ap (append_rows (Mkdir path attr) p (length entries)) is
 last_is (Creat path size attr stripe fill) p me words first entries e is = ap (append_rows (Creat path size attr stripe fill) p (length entries)) is
 last_is (Cp path attr stripe bytes) p me words first entries e is = ap (append_rows (Cp path attr stripe bytes) p (length entries)) is
-last_is (Verify path against) p me words first entries e is = absurd cc
-last_is (Read path offset count) p me words first entries e is = absurd cc
-last_is (Check listing) p me words first entries e is = absurd cc
-last_is Fsck p me words first entries e is = absurd cc
+last_is other p me words first entries e is = absurd cc
 
 -- a word of a line of the slot
 pub slot_part_at : (words : List ℕ) (j k : ℕ) → k < 8 → slice_index (slot_part words j) k ≡ slice_index words (8 * j + k)

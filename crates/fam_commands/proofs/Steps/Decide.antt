@@ -15,7 +15,7 @@ use Rattle.fam_base.specs.declared.entry.Kind.TheVariants as kind
 use Rattle.fam_base.specs.PathOrder.{path_eq}
 use Rattle.fam_format.specs.Tree.{replay}
 use Rattle.fam_rules.specs.Asks as asks
-use Rattle.fam_rules.specs.Asks.{entries_of, file_at, compared, verified, file_bytes_from, of_kind, of_file, ask}
+use Rattle.fam_rules.specs.Asks.{entries_of, file_at, compared, verified, file_bytes_from, of_kind, of_file}
 use Rattle.fam_rules.specs.Checks.{checked}
 use Rattle.fam_rules.specs.Decide.{decide}
 use Rattle.fam_rules.specs.Content.{byte_in}

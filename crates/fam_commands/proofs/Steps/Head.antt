@@ -64,7 +64,7 @@ host_by t p words made (Some w) at_made on = by_cases (early_cases p t.me w.path
     by_cases : EarlyCases p t.me w.path → Outcome t (host_turn t p (host_refusal (Some w) p t.me)) (host_note (Some w) p t.me) words made
     by_cases (may_ask same short none) = rw none (on none)
     by_cases (another other refusal) = rw refusal (ends t _ _ words made refl at_made)
-    by_cases (too_long same long refusal) = rw refusal (ends t _ _ words made refl at_made)
+    by_cases (too_long first same long refusal) = rw refusal (ends t _ _ words made refl at_made)
 
 super_by : (t : Task) (words : List ℕ) (made : ℕ) (r : Result Params SuperFault) → fed_super words t.lines ≡ r → length words ≡ 17 → made ≡ 20 → IsFresh t.kept t.entries t.survey → ((f : SuperFault) → r ≡ Err f → super_steps f ≡ 20) → Outcome t (super_turn t r) (super_note t.cmd t.me words t.lines r) words made
 super_by t words made (Err fault) is long at_made fresh late = ends t (super_fault_reply t.cmd fault) _ words made (ap Answer (super_reply words t.lines t.cmd fault is))

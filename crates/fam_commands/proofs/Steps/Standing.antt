@@ -122,12 +122,3 @@ steps_at_end kept cmd me lines t words made joined stands word reply ends =
     count ∙ ap (λ (c : Cmd). steps_of t.kept c t.lines now reply) tied.cmd_is ∙ ap (λ (l : ℕ). steps_of t.kept cmd l now reply) tied.lines_is ∙ ap (λ (k : Option Kept). steps_of k cmd lines now reply) tied.kept_is
 
 -- On a host that keeps nothing.
-
-pub bare_tied : (cmd : Cmd) (me : List ℕ) (lines : ℕ) (t : Task) (words : List ℕ) (made : ℕ) → StandsFor None cmd me lines t words made → Tied cmd me lines None t words made
-bare_tied cmd me lines t words made stands = standing_tied None cmd me lines t words made tt stands
-
-pub operation_from_start : (cmd : Cmd) (me : List ℕ) (lines : ℕ) (t : Task) (words : List ℕ) (made : ℕ) → StandsFor None cmd me lines t words made → option_map (λ (r : Row). r.op) (slice_get (table None cmd me lines words) made) ≡ Some (op_of t)
-operation_from_start cmd me lines t words made stands = next_operation None cmd me lines t words made tt stands
-
-pub note_from_start : (cmd : Cmd) (me : List ℕ) (lines : ℕ) (t : Task) (words : List ℕ) (made : ℕ) → StandsFor None cmd me lines t words made → (word : ℕ) → option_map (λ (r : Row). r.note) (slice_get (table None cmd me lines (with_given words (given_by (op_of t) word))) made) ≡ Some (note_of (turn_given t word))
-note_from_start cmd me lines t words made stands word = next_note None cmd me lines t words made tt stands word

@@ -234,19 +234,11 @@ line_end File t words j = line_note t.cmd words t.params (first_in t) t.entries 
 
 -- at a place, after these words
 abbrev pub note_at : Phase → Task → List ℕ → RowNote
-note_at at.DropMagic t words = Quiet
 note_at at.Magic t words = magic_note t.cmd words t.lines (magic_fault (slice_index words 0))
-note_at (at.Drop part j) t words = Quiet
 note_at (at.Word part j k) t words = if nat_lt k last_word then Quiet else line_end part t words j
 note_at at.DropGate t words = Mark
 note_at at.Gate t words = gate_note t.cmd words t.lines (gate_fault (fed_gate words) t.params)
 note_at (at.Check i) t words = slot_note t.cmd words t.params (used_in t) i
 note_at at.Decide t words = decision_note t.cmd t.me words t.lines t.params (first_in t) (entries_read (fed_slots words t.params (used_in t) (fed_gate words)))
-note_at (at.StoreData j k) t words = Quiet
-note_at (at.SendData j) t words = Quiet
-note_at (at.StoreSlot j k) t words = Quiet
-note_at (at.SendSlot j) t words = Quiet
-note_at at.StoreGate t words = Quiet
-note_at at.FenceSlot t words = Quiet
-note_at at.SendGate t words = Quiet
 note_at at.FenceGate t words = Answer (Appended t.gate)
+note_at other t words = Quiet

@@ -32,9 +32,7 @@ settled_first image = settled_sized image (nat_lt (length image) least_lines)
 
 free_read : (image : Image) (r : Reading) → IfHalted (state_read image r) (line_at image)
 free_read image (NoSuperblock fault) = tt
-free_read image (BadHeader fault) = tt
-free_read image (BadSlot i reason) = tt
-free_read image (Sound p entries) = tt
+free_read image e = tt
 
 free_sized : (image : Image) (few : Bool) → IfHalted (if few then Bad (Given image) (FewLines (length image)) 0 else state_read image (reading image)) (line_at image)
 free_sized image true = tt

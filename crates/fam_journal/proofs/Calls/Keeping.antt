@@ -35,7 +35,7 @@ use Rattle.fam_machine.specs.Mkfs.{asked, early_refusal, halted_ops, is_geometry
 use Rattle.fam_journal.specs.Notes.{Answered, MediaFault, Note, Refused}
 use Rattle.fam_journal.proofs.Calls.Declares.{declared_held, member_before, member_last, none_passes}
 use Rattle.fam_protocol.proofs.Hosts.Inside.{asks_inside}
-use Rattle.fam_journal.proofs.Calls.Members.{changed_alike, changed_at_member, changed_other}
+use Rattle.fam_journal.proofs.Calls.Members.{changed_at_member, changed_other}
 use Rattle.fam_journal.proofs.Calls.HaltRows.{halted_holds}
 use Rattle.fam_journal.proofs.Calls.MkfsRows.{made_held, met_held}
 use Rattle.fam_journal.proofs.Calls.Rows.{Declared, begun_held, refused_held, umounted_held}

@@ -11,7 +11,7 @@ use Rattle.fam_commands.specs.Keeping.{kept_after}
 use Rattle.fam_commands.specs.Kept.{IsKept, Kept}
 use Rattle.fam_commands.specs.Stands.{StandsFor, note_of, task_after, turn_given}
 use Rattle.fam_commands.specs.Task.{Task, op_of}
-use Rattle.fam_commands.specs.Turns.{Turn, Goes, Marks, Finds, Writes, Ends}
+use Rattle.fam_commands.specs.Turns.{Turn, Writes}
 use Rattle.fam_protocol.specs.After.{Run}
 use Rattle.fam_protocol.specs.SharedState.{SharedState}
 use Rattle.fam_protocol.specs.Steps.{StepHolds, Steps, TurnSays, run_after, settled_count, turn_settles}
@@ -57,11 +57,8 @@ pub record Bridged (x : Past) (now : Lines) (h : ℕ) (turn : Turn) : Type 0 whe
 
 module _ (start : Image) (hosts : List HostPast) (h : ℕ) (told : HostPast) (host_is : slice_get hosts h ≡ Some told) (kept : Option Kept) (cmd : Cmd) (uuid : List ℕ) (t : Task) (words : List ℕ) (made word : ℕ) (joined : IsKept kept) (standing : StandsFor kept cmd uuid (length start) t words made) (turn : Turn) (is : turn_given t word ≡ turn) (was : TaskTold t told) (me : told.uuid ≡ t.me) (all_hosts : Hosts) (shared : SharedState) (now : Lines) where
   keeps_command : (p : Params) (history : List File) (pending : Option File) (have : ℕ) (uuids : ℕ → Option (List ℕ)) (master : Option ℕ) (x : Turn) → turn ≡ x → KeepsCommand p history pending start hosts h told host_is t was.cmd me have uuids master x
-  keeps_command p history pending have uuids master (Goes next) e = tt
-  keeps_command p history pending have uuids master (Marks next) e = tt
-  keeps_command p history pending have uuids master (Finds n next) e = tt
   keeps_command p history pending have uuids master (Writes seq entry next) e = next_command kept cmd uuid (length start) t words made word joined standing turn is next (ap task_after e)
-  keeps_command p history pending have uuids master (Ends given) e = tt
+  keeps_command p history pending have uuids master c e = tt
 
   -- a damaged image has as many lines as the one that was handed in
   damaged_bridged : (image : Image) (damage : Damage) (g : ℕ) → IsOwn (length start) image damage g → least_lines ≤ length start

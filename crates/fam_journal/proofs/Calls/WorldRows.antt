@@ -102,7 +102,6 @@ module _ (state : Machines) (world : WorldView) (stands : WorldStands (length st
     stands = more_stands lines state.hosts world.hosts _ _ (record { name = refl; uuid = refl; cache = refl; task = tt; kept = refl; joined = tt }) stands;
     joined = refl;
   }
-  acts (call.Makes name request) takes free = absurd takes
   acts (call.Begins name cmd) takes free = by_number (number_in name world) refl
     where
       by_number : (o : Option ℕ) → number_in name world ≡ o → IsRow (call.Begins name cmd) lines state world (with_host o (λ v. record v { task = Some (mounted v.kept cmd v.uuid lines) }) (λ h. Start h cmd) world)
@@ -126,8 +125,6 @@ module _ (state : Machines) (world : WorldView) (stands : WorldStands (length st
                 };
             joined = refl;
           }
-  acts (call.Steps name) takes free = absurd takes
-  acts (call.Finishes name) takes free = absurd takes
   acts (call.Stops name) takes free = by_number (number_in name world) refl
     where
       by_number : (o : Option ℕ) → number_in name world ≡ o → IsRow (call.Stops name) lines state world (with_host o (λ v. record v { task = None }) Stop world)
@@ -170,7 +167,6 @@ module _ (state : Machines) (world : WorldView) (stands : WorldStands (length st
             stands = changed h name p (λ z. record z { kept = None }) (λ v. record v { kept = None }) record { name = p.mine.name; uuid = p.mine.uuid; cache = p.mine.cache; task = p.mine.task; kept = refl; joined = tt };
             joined = refl;
           }
-  acts (call.Moves name line move) takes free = absurd takes
   acts (call.Refuses name cause) takes free = record {
     left = state;
     notes = Refused name cause ∷ [];
@@ -183,6 +179,7 @@ module _ (state : Machines) (world : WorldView) (stands : WorldStands (length st
       may : TakesNoMedia (call.Refuses name cause) lines world → MayBeRefused name cause state
       may (inl source) = inl source
       may (inr is) = inr (is_mount is.0, refusal_shown lines state world (call.Begins name is.0) stands ∙ is.1)
+  acts e takes free = absurd takes
 
   pub row_done : (c : Call) → TakesNoMedia c lines world → IsRow c lines state world (world_after c lines world)
   row_done c takes = by_refusal (refusal_in c world lines) refl

@@ -8,7 +8,6 @@ use Rattle.fam_base.specs.declared.cmd.Cmd.{Cmd}
 use Rattle.fam_commands.specs.Classes.{is_mount}
 use Rattle.fam_machine.specs.MkfsRequest.{mkfs_request}
 use Rattle.fam_media.specs.Files.{Files}
-use Rattle.fam_machine.specs.HostMoves.{Evict, Leak, Fetch}
 use Rattle.fam_journal.specs.declared.event.Ask.{Ask}
 use Rattle.fam_journal.specs.declared.event.Ask.TheVariants as ask
 use Rattle.fam_journal.specs.declared.event.Event.{Event}
@@ -221,8 +220,6 @@ module _ (lines : ℕ) (files : Files) (old : Session) (hosts : List HostForm) (
       record { form = freed name what CompletesForm notes x.begun.free (inr r.form); next = r.next }
 
   pub event_form : (e : Event) (notes : List Note) (new : Session) → DoesEvent files e old notes new → Formed (EventForm e lines hosts) lines hosts notes new.machines
-  event_form (event.Host name uuid) notes new x = row (call.Declares name uuid) notes new.machines x.0
-  event_form (event.Mkfs name fs unit log format force halt) notes new x = row (call.Makes name (mkfs_request fs unit log format force halt)) notes new.machines x.0
   event_form (event.Begin name what) notes new (inl x) = starts name what new notes x
   event_form (event.Begin name what) notes new (inr x) = refused name what NoMore new notes x
   event_form (event.Run name what) notes new (inl x) = begin_free name what new notes x
@@ -231,44 +228,20 @@ module _ (lines : ℕ) (files : Files) (old : Session) (hosts : List HostForm) (
       let r = steps name count notes new.machines x.host x.number x.does in
       record { form = step_freed name count x.host notes x.number x.busy r.form; next = r.next }
   event_form (event.Step name count) notes new (inr x) = step_refused name count new notes x
-  event_form (event.Finish name) notes new x = row (call.Finishes name) notes new.machines x.0
-  event_form (event.Stop name) notes new x = row (call.Stops name) notes new.machines x.0
-  event_form (event.Halt name) notes new x = row (call.Halts name) notes new.machines x.0
-  event_form (event.Umount name) notes new x = row (call.Umounts name) notes new.machines x.0
-  event_form (event.Evict name line) notes new x = row (call.Moves name line.0 Evict) notes new.machines x.0
-  event_form (event.Leak name line mask) notes new x = row (call.Moves name line.0 (Leak mask.0)) notes new.machines x.0
-  event_form (event.Fetch name line mask) notes new x = row (call.Moves name line.0 (Fetch mask.0)) notes new.machines x.0
+  event_form e notes new x = row _ notes new.machines x.0
 
   pub event_breaks : (e : Event) (notes : List Note) (new : Session) → BreaksEvent e old notes new → EventBreaksForm e lines hosts notes
-  event_breaks (event.Host name uuid) notes new x = absurd x
   event_breaks (event.Mkfs name fs unit log format force halt) notes new x = breaks_form lines m hosts formed notes new.machines name (mkfs_request fs unit log format force halt) x.0
-  event_breaks (event.Begin name what) notes new x = absurd x
-  event_breaks (event.Run name what) notes new x = absurd x
-  event_breaks (event.Step name count) notes new x = absurd x
-  event_breaks (event.Finish name) notes new x = absurd x
-  event_breaks (event.Stop name) notes new x = absurd x
-  event_breaks (event.Halt name) notes new x = absurd x
-  event_breaks (event.Umount name) notes new x = absurd x
-  event_breaks (event.Evict name line) notes new x = absurd x
-  event_breaks (event.Leak name line mask) notes new x = absurd x
-  event_breaks (event.Fetch name line mask) notes new x = absurd x
+  event_breaks e notes new x = absurd x
 
   pub event_part : (e : Event) (notes : List Note) (new : Session) → PartOf files e old notes new → EventPartForm e lines hosts notes
-  event_part (event.Host name uuid) notes new x = absurd x
-  event_part (event.Mkfs name fs unit log format force halt) notes new x = absurd x
-  event_part (event.Begin name what) notes new x = absurd x
   event_part (event.Run name what) notes new x = (goes name what Unfinished UnfinishedForm (λ h m hosts formed notes new x. unfinished_form lines m hosts formed h notes new x) new notes x).form
   event_part (event.Step name count) notes new x =
       let few = (operates_form lines x.host x.does.does.count m hosts formed notes new.machines x.does.does.does).within in
       let most = x.does.within in
       (unfinished name x.host notes new.machines x.number x.does.does, omega (arith, few, most))
   event_part (event.Finish name) notes new x = unfinished name x.host notes new.machines x.number x.does
-  event_part (event.Stop name) notes new x = absurd x
-  event_part (event.Halt name) notes new x = absurd x
-  event_part (event.Umount name) notes new x = absurd x
-  event_part (event.Evict name line) notes new x = absurd x
-  event_part (event.Leak name line mask) notes new x = absurd x
-  event_part (event.Fetch name line mask) notes new x = absurd x
+  event_part e notes new x = absurd x
 
 -- Runs.
 

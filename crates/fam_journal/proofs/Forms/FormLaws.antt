@@ -78,18 +78,10 @@ module _ (lines : ℕ) (state left : Machines) (hosts : List HostForm) (notes : 
   cut_form (call.Refuses name cause) x = absurd (no_cut (call.Refuses name cause) (λ h host z. z) (number_of name state) x.1)
 
   pub part_form : (c : Call) → DoesPart c state notes left → PartForm c lines hosts notes
-  part_form (call.Declares name uuid) x = x.0
-  part_form (call.Makes name request) x = x.0
-  part_form (call.Begins name cmd) x = x.0
-  part_form (call.Steps name) x = x.0
   part_form (call.Finishes name) (inl x) =
       inr record { host = x.host; number = sym (number_told lines state hosts formed name) ∙ x.number; part = (unfinished_form lines state hosts formed x.host notes left x.does).form }
   part_form (call.Finishes name) (inr x) = inl x.0
-  part_form (call.Stops name) x = x.0
-  part_form (call.Halts name) x = x.0
-  part_form (call.Umounts name) x = x.0
-  part_form (call.Moves name line move) x = x.0
-  part_form (call.Refuses name cause) x = x.0
+  part_form e x = x.0
 
 -- Runs.
 

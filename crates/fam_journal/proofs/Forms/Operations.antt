@@ -1,6 +1,6 @@
 -- Operations of a task on the machine add notes of its form, and leave hosts that are what notes tell.
 use Prim.Native.Nat.{zero, suc}
-use Rattle.std.proofs.Common.{◌≡◌, ℕ, ◌+◌, ◌≤◌, inl, inr, Bool, true, false, List, [], ◌∷◌, ◌++◌, length, map, Option, Some, None, refl, ap, sym, ◌∙◌, subst, arith, take, drop}
+use Rattle.std.proofs.Common.{◌≡◌, ℕ, ◌+◌, ◌≤◌, inl, inr, Bool, true, false, List, [], ◌∷◌, ◌++◌, length, map, Option, Some, None, refl, ap, ap₂, sym, ◌∙◌, subst, arith, take, drop}
 use Rattle.std.specs.Prelude.{slice_get, unwrap_or, is_some, option_map}
 use Rattle.std.proofs.lemmas.List.{length-append}
 use Rattle.std.proofs.lemmas.Option.{same_Some}
@@ -36,7 +36,8 @@ use Rattle.fam_journal.specs.Members.{changed_at}
 use Rattle.fam_journal.specs.View.{StandsAs}
 use Rattle.fam_journal.specs.Notes as note
 use Rattle.fam_journal.specs.Notes.{Note}
-use Rattle.fam_journal.proofs.Forms.Pairs.{Looks, pairs_at, pairs_changed, pairs_moved}
+use Rattle.fam_journal.proofs.Faces.{face}
+use Rattle.fam_journal.proofs.Forms.Pairs.{pairs_at, pairs_changed, pairs_moved}
 use Rattle.fam_journal.proofs.Forms.Tasks.{IsNext, TurnForm, turn_form}
 use Rattle.fam_journal.proofs.Settled.TaskTurns.{next_stands}
 
@@ -82,17 +83,10 @@ forms_both hosts (n ∷ a) b = forms_both (forms_after hosts n) a b
 
 -- whether a host keeps something behind a turn: where it did before, and where a mount has its reply
 abbrev pub keeps_turned : Turn → Bool → Bool
-keeps_turned (Goes n) keeps = keeps
-keeps_turned (Marks n) keeps = keeps
-keeps_turned (Finds count n) keeps = keeps
-keeps_turned (Writes seq e n) keeps = keeps
 keeps_turned (Ends given) keeps = keeps_behind (note.Replied given) keeps
+keeps_turned e keeps = keeps
 
 pub keeps_some : (z : Turn) (t : Task) (k : Option Kept) → is_some (kept_after z t k) ≡ keeps_turned z (is_some k)
-keeps_some (Goes n) t k = refl
-keeps_some (Marks n) t k = refl
-keeps_some (Finds count n) t k = refl
-keeps_some (Writes seq e n) t k = refl
 keeps_some (Ends given) t k = by_reply given k
   where
     by_reply : (r : Reply) (o : Option Kept) → is_some (kept_by r (read_by t) o) ≡ keeps_behind (note.Replied r) (is_some o)
@@ -100,6 +94,7 @@ keeps_some (Ends given) t k = by_reply given k
     by_reply (reply.Played m tree) (Some x) = refl
     by_reply (reply.Mounted m) o = refl
     by_reply other o = refl
+keeps_some e t k = refl
 
 pub shown_keeps : (b : Bool) → is_some (shown_keeping b) ≡ b
 shown_keeps true = refl
@@ -117,12 +112,14 @@ task_runs lines me None (Some f) is = absurd is
 task_runs lines me (Some s) None is = absurd is
 task_runs lines me (Some s) (Some f) is = refl
 
-pub all_look : (lines : ℕ) (xs : List HostState) (ys : List HostForm) → Pairs (StateFormed lines) xs ys → Pairs Looks xs (map shown_form ys)
-all_look lines [] [] all = tt
+face_looks : (lines : ℕ) (x : HostState) (y : HostForm) → StateFormed lines x y → face x ≡ face (shown_form y)
+face_looks lines x y is = let busy = task_looks lines x.uuid x.task y.task is.task in let keeps = shown_keeps y.keeps in cc
+
+pub all_look : (lines : ℕ) (xs : List HostState) (ys : List HostForm) → Pairs (StateFormed lines) xs ys → map face xs ≡ map face (map shown_form ys)
+all_look lines [] [] all = refl
 all_look lines [] (y ∷ ys) all = absurd all
 all_look lines (x ∷ xs) [] all = absurd all
-all_look lines (x ∷ xs) (y ∷ ys) all =
-    (record { name = sym all.0.name; uuid = sym all.0.uuid; busy = task_looks lines x.uuid x.task y.task all.0.task; keeps = sym all.0.keeps ∙ sym (shown_keeps y.keeps) }, all_look lines xs ys all.1)
+all_look lines (x ∷ xs) (y ∷ ys) all = ap₂ (λ f fs. f ∷ fs) (face_looks lines x y all.0) (all_look lines xs ys all.1)
 
 pub runs_same : (lines h : ℕ) (xs : List HostState) (ys : List HostForm) → Pairs (StateFormed lines) xs ys → is_busy_host (slice_get xs h) ≡ runs_form (slice_get ys h)
 runs_same lines h [] [] all = refl

@@ -1,11 +1,11 @@
 -- What a row of a call adds has its form.
-use Rattle.std.proofs.Common.{◌≡◌, ◌⊎◌, inl, inr, ℕ, ◌*◌, Bool, List, [], ◌∷◌, length, Option, Some, None, refl, ap, ap₂, sym, ◌∙◌, subst, arith}
-use Rattle.std.specs.Prelude.{slice_get, option_map}
+use Rattle.std.proofs.Common.{◌≡◌, ◌⊎◌, inl, inr, ℕ, Bool, List, [], ◌∷◌, length, map, Option, Some, None, refl, ap, ap₂, sym, ◌∙◌, subst, arith}
+use Rattle.std.specs.Prelude.{slice_get}
 use Rattle.std.specs.FinMap as finmap
 use Rattle.std.proofs.lemmas.List.{length-replicate}
 use Rattle.fam_base.proofs.ImageLemmas.{length-with_line}
 use Rattle.fam_format.specs.Stop.{or_else}
-use Rattle.fam_machine.specs.Mkfs.{asked, early_refusal, halted_ops, mkfs_ops, read_ops}
+use Rattle.fam_machine.specs.Mkfs.{asked, halted_ops, mkfs_ops, read_ops}
 use Rattle.fam_base.specs.declared.entry.Params.{Params}
 use Rattle.fam_base.specs.Image.{line_at}
 use Rattle.fam_machine.specs.declared.request.MkfsRequest.{MkfsRequest}
@@ -14,17 +14,21 @@ use Rattle.fam_machine.specs.HostMoves.{moved_words}
 use Rattle.fam_machine.specs.Operations.{Machine}
 use Rattle.fam_commands.specs.Stands as standing
 use Rattle.fam_commands.specs.Task.{mounted}
-use Rattle.fam_rules.specs.Place.{line_bytes}
 use Rattle.fam_journal.specs.declared.refusal.Refusal.{Refusal}
 use Rattle.fam_journal.specs.declared.refusal.Refusal.TheVariants as why
 use Rattle.fam_journal.specs.Calls as call
-use Rattle.fam_journal.specs.Calls.{Acts, ActsAt, AtNumber, BreaksOff, ByRefusal, Call, CutsAt, Does, MakesOrHalts, MayBeRefused, OnHost, Unfinished, busy_refusal, cause_of, dirty_from, dirty_refusal, is_engaged, makes_refusal, may_begin, name_of, number_of, on_host, refusal_of}
-use Rattle.fam_journal.specs.Forms.{ActsForm, AreFormed, AtForm, BreaksForm, DirtyForm, DoesForm, FaultForm, FormByRefusal, FreeForm, HostActsForm, HostForm, OfHostForm, Pairs, StateFormed, SuperForm, UnfinishedForm, forms_behind, made_note, makes_told, refusal_told, shown_forms}
+use Rattle.fam_journal.specs.Calls.{Acts, ActsAt, AtNumber, BreaksOff, ByRefusal, Call, CutsAt, Does, MakesOrHalts, MayBeRefused, OnHost, Unfinished, dirty_from, dirty_refusal, may_begin, name_of, number_of, on_host, refusal_of}
+use Rattle.fam_journal.specs.Forms.{ActsForm, AreFormed, AtForm, BreaksForm, DirtyForm, DoesForm, FaultForm, FormByRefusal, FreeForm, HostActsForm, HostForm, OfHostForm, StateFormed, SuperForm, UnfinishedForm, forms_behind, made_note, refusal_told, shown_forms}
 use Rattle.fam_journal.specs.Machines.{HostState, Machines, machine_of, with_machine}
-use Rattle.fam_journal.specs.Members.{index_of}
 use Rattle.fam_journal.specs.Notes.{Note, Made, Cut, Refused}
 use Rattle.fam_journal.proofs.Forms.Operations.{all_length, all_look, form_halted, form_moved, move_length, operates_form, operation_form, runs_same}
-use Rattle.fam_journal.proofs.Forms.Pairs.{Looks, engaged_place, dirty_other, may_same, number_same, pairs_at, pairs_changed, pairs_last, pairs_length, refusal_looks, step_same}
+use Rattle.fam_journal.proofs.Calls.Tests.{or_first}
+use Rattle.fam_journal.proofs.Faces.{engaged_place, face, may_same, number_same, refusal_looks, step_same}
+use Rattle.fam_journal.proofs.Forms.Pairs.{dirty_other, pairs_at, pairs_changed, pairs_last, pairs_length}
+
+or_both : {E : Type 0} (a b c : Option E) → or_else a (or_else b c) ≡ or_else (or_else a b) c
+or_both None b c = refl
+or_both (Some x) b c = refl
 
 -- notes have a form, and the hosts behind them are what notes tell
 pub record Formed (P : List Note → Type 0) (lines : ℕ) (hosts : List HostForm) (notes : List Note) (new : Machines) : Type 0 where
@@ -39,20 +43,20 @@ module _ (lines : ℕ) (m : Machines) (hosts : List HostForm) (formed : AreForme
   abbrev told : Machines
   told = shown_forms lines hosts
 
-  look : Pairs Looks m.hosts told.hosts
+  look : map face m.hosts ≡ map face told.hosts
   look = all_look lines m.hosts hosts formed.formed
 
   same_lines : length m.memory ≡ length told.memory
   same_lines = formed.lines_are ∙ sym (length-replicate lines [])
 
   pub number_told : (name : List ℕ) → number_of name m ≡ number_of name told
-  number_told name = number_same m told look same_lines name
+  number_told name = number_same m told look name
 
   pub may_told : (name : List ℕ) (mount : Bool) → may_begin name mount m ≡ may_begin name mount told
   may_told name mount = may_same m told look same_lines name mount
 
   pub step_told : (name : List ℕ) → on_host (number_of name m) (λ h. call.idle_refusal h m) ≡ on_host (number_of name told) (λ h. call.idle_refusal h told)
-  step_told name = step_same m told look same_lines name
+  step_told name = step_same m told look name
 
   -- operations of a host's task, which has not answered
   pub unfinished_form : (h : ℕ) (notes : List Note) (new : Machines) → Unfinished h m notes new → Formed (UnfinishedForm h hosts) lines hosts notes new
@@ -191,13 +195,7 @@ module _ (lines : ℕ) (m : Machines) (hosts : List HostForm) (formed : AreForme
         }
     acts_form (call.Refuses name cause) x = noted (FreeForm (call.Refuses name cause) lines hosts) name cause (refl, may_refuse name cause x.2) x.0 x.1
     acts_form (call.Makes name request) x = let a = acts_of (call.Makes name request) x in record { form = inl a.form; next = a.next }
-    acts_form (call.Begins name cmd) x = acts_of (call.Begins name cmd) x
-    acts_form (call.Steps name) x = acts_of (call.Steps name) x
-    acts_form (call.Finishes name) x = acts_of (call.Finishes name) x
-    acts_form (call.Stops name) x = acts_of (call.Stops name) x
-    acts_form (call.Halts name) x = acts_of (call.Halts name) x
-    acts_form (call.Umounts name) x = acts_of (call.Umounts name) x
-    acts_form (call.Moves name line move) x = acts_of (call.Moves name line move) x
+    acts_form e x = acts_of e x
 
     -- by the first refusal, which is the same
     by_same : (P : List Note → Type 0) (name : List ℕ) (A : Type 0) (o r : Option Refusal) → o ≡ r → (A → Formed P lines hosts notes new) → ByRefusal name o notes m new A → Formed (λ z. FormByRefusal name r z (P z)) lines hosts notes new
@@ -219,30 +217,20 @@ module _ (lines : ℕ) (m : Machines) (hosts : List HostForm) (formed : AreForme
       abbrev Form : List Note → Type 0
       Form z = FormByRefusal name (refusal_told makes lines hosts) z (FreeForm makes lines hosts z)
 
-      early_same : option_map cause_of (early_refusal request.unit request.log (line_bytes * length m.memory)) ≡ option_map cause_of (early_refusal request.unit request.log (line_bytes * length told.memory))
-      early_same = ap (λ (n : ℕ). option_map cause_of (early_refusal request.unit request.log (line_bytes * n))) same_lines
-
-      busy_told : busy_refusal (index_of is_engaged m.hosts) ≡ busy_refusal (index_of is_engaged told.hosts)
-      busy_told = ap busy_refusal (engaged_place m told look same_lines)
-
-      told_is : (h : ℕ) → number_of name told ≡ Some h → (e b : Option Refusal) → option_map cause_of (early_refusal request.unit request.log (line_bytes * length told.memory)) ≡ e → busy_refusal (index_of is_engaged told.hosts) ≡ b → refusal_told makes lines hosts ≡ or_else e b
-      told_is h n e b e_is b_is = ap (λ (o : Option ℕ). on_host o (λ h. makes_told request.unit request.log told)) n ∙ ap₂ or_else e_is b_is
-
-      refusal_is : (h : ℕ) → number_of name told ≡ Some h → (e b d : Option Refusal) → option_map cause_of (early_refusal request.unit request.log (line_bytes * length told.memory)) ≡ e → busy_refusal (index_of is_engaged told.hosts) ≡ b → dirty_refusal (dirty_from h 0 m.hosts) ≡ d → refusal_of makes m ≡ or_else e (or_else b d)
+      -- the one that notes tell, or that of the dirty lines, which they don't
+      first_is : (h : ℕ) → number_of name told ≡ Some h → refusal_of makes m ≡ or_else (refusal_told makes lines hosts) (dirty_refusal (dirty_from h 0 m.hosts))
       unfolding refusal_of
-      refusal_is h n e b d e_is b_is d_is =
-          ap (λ (o : Option ℕ). on_host o (λ h. makes_refusal request.unit request.log h m)) (number_told name ∙ n)
-          ∙ ap₂ or_else (early_same ∙ e_is) (ap₂ or_else (busy_told ∙ b_is) d_is)
+      first_is h n = simp (number_told name, n, same_lines, engaged_place m told look, or_both)
+
+      first_none : number_of name told ≡ None → refusal_of makes m ≡ refusal_told makes lines hosts
+      unfolding refusal_of
+      first_none n = simp (number_told name, n)
 
       abbrev A : Type 0
       A = Acts makes m notes new
 
-      -- where notes tell the refusal, or there is none
-      by_told : (r : Option Refusal) → refusal_of makes m ≡ r → refusal_told makes lines hosts ≡ r → Does makes m notes new → Formed Form lines hosts notes new
-      by_told r e f x = does_by makes (e ∙ sym f) x
-
       dirty_case : (h : ℕ) → number_of name told ≡ Some h → (o : Option ℕ) → dirty_from h 0 m.hosts ≡ o → refusal_of makes m ≡ dirty_refusal o → refusal_told makes lines hosts ≡ None → Does makes m notes new → Formed Form lines hosts notes new
-      dirty_case h n None e is free x = by_told None is free x
+      dirty_case h n None e is free x = does_by makes (is ∙ sym free) x
       dirty_case h n (Some k) e is free x =
           let y : ByRefusal name (Some (why.Dirty (record { 0 = k }))) notes m new A = subst (λ (o : Option Refusal). ByRefusal name o notes m new A) is x in
           noted Form name (why.Dirty (record { 0 = k }))
@@ -256,35 +244,18 @@ module _ (lines : ℕ) (m : Machines) (hosts : List HostForm) (formed : AreForme
               let below = other.1 in
               record { maker = h; number = n; dirty = k; declared = omega (arith, below, pairs_length (StateFormed lines) m.hosts hosts formed.formed); other = other.0; notes_are = refl }
 
-      of_maker : (h : ℕ) → number_of name told ≡ Some h → (e b : Option Refusal) → option_map cause_of (early_refusal request.unit request.log (line_bytes * length told.memory)) ≡ e → busy_refusal (index_of is_engaged told.hosts) ≡ b → Does makes m notes new → Formed Form lines hosts notes new
-      of_maker h n (Some e) b e_is b_is x = by_told (Some e) (refusal_is h n (Some e) b (dirty_refusal (dirty_from h 0 m.hosts)) e_is b_is refl) (told_is h n (Some e) b e_is b_is) x
-      of_maker h n None (Some b) e_is b_is x = by_told (Some b) (refusal_is h n None (Some b) (dirty_refusal (dirty_from h 0 m.hosts)) e_is b_is refl) (told_is h n None (Some b) e_is b_is) x
-      of_maker h n None None e_is b_is x =
-          dirty_case h n (dirty_from h 0 m.hosts) refl (refusal_is h n None None (dirty_refusal (dirty_from h 0 m.hosts)) e_is b_is refl) (told_is h n None None e_is b_is) x
+      by_told : (h : ℕ) → number_of name told ≡ Some h → (r : Option Refusal) → refusal_told makes lines hosts ≡ r → refusal_of makes m ≡ or_else r (dirty_refusal (dirty_from h 0 m.hosts)) → Does makes m notes new → Formed Form lines hosts notes new
+      by_told h n (Some cause) e first x = does_by makes (first ∙ sym e) x
+      by_told h n None e first x = dirty_case h n (dirty_from h 0 m.hosts) refl first e x
 
-      no_maker : number_of name told ≡ None → refusal_of makes m ≡ Some why.NoHost
-      unfolding refusal_of
-      no_maker n = ap (λ (o : Option ℕ). on_host o (λ h. makes_refusal request.unit request.log h m)) (number_told name ∙ n)
-
-      by_maker : (o : Option ℕ) → number_of name told ≡ o → Does makes m notes new → Formed Form lines hosts notes new
-      by_maker None n x = by_told (Some why.NoHost) (no_maker n) (ap (λ (o : Option ℕ). on_host o (λ h. makes_told request.unit request.log told)) n) x
-      by_maker (Some h) n x = of_maker h n (option_map cause_of (early_refusal request.unit request.log (line_bytes * length told.memory))) (busy_refusal (index_of is_engaged told.hosts)) refl refl x
-
-      makes_form : Does makes m notes new → Formed Form lines hosts notes new
-      makes_form x = by_maker (number_of name told) refl x
+      makes_form : (o : Option ℕ) → number_of name told ≡ o → Does makes m notes new → Formed Form lines hosts notes new
+      makes_form None n x = does_by makes (first_none n) x
+      makes_form (Some h) n x = by_told h n (refusal_told makes lines hosts) refl (first_is h n) x
 
       -- where notes tell a refusal there is one
-      free_told : refusal_of makes m ≡ None → refusal_told makes lines hosts ≡ None
-      free_told none = by_number (number_of name told) refl
-        where
-          at_maker : (h : ℕ) → number_of name told ≡ Some h → (e b : Option Refusal) → option_map cause_of (early_refusal request.unit request.log (line_bytes * length told.memory)) ≡ e → busy_refusal (index_of is_engaged told.hosts) ≡ b → refusal_told makes lines hosts ≡ None
-          at_maker h n (Some e) b e_is b_is = absurd (let some = sym none ∙ refusal_is h n (Some e) b (dirty_refusal (dirty_from h 0 m.hosts)) e_is b_is refl in cc)
-          at_maker h n None (Some b) e_is b_is = absurd (let some = sym none ∙ refusal_is h n None (Some b) (dirty_refusal (dirty_from h 0 m.hosts)) e_is b_is refl in cc)
-          at_maker h n None None e_is b_is = told_is h n None None e_is b_is
-
-          by_number : (o : Option ℕ) → number_of name told ≡ o → refusal_told makes lines hosts ≡ None
-          by_number None n = absurd (let some = sym none ∙ no_maker n in cc)
-          by_number (Some h) n = at_maker h n (option_map cause_of (early_refusal request.unit request.log (line_bytes * length told.memory))) (busy_refusal (index_of is_engaged told.hosts)) refl refl
+      free_told : (o : Option ℕ) → number_of name told ≡ o → refusal_of makes m ≡ None → refusal_told makes lines hosts ≡ None
+      free_told None n none = sym (first_none n) ∙ none
+      free_told (Some h) n none = or_first (refusal_told makes lines hosts) (dirty_refusal (dirty_from h 0 m.hosts)) (sym (first_is h n) ∙ none)
 
       cut_host : (h : ℕ) (o : Option HostState) → OnHost o (λ host. CutsAt makes h host m notes new) → FaultForm name notes
       cut_host h None x = absurd x
@@ -295,17 +266,9 @@ module _ (lines : ℕ) (m : Machines) (hosts : List HostForm) (formed : AreForme
       cut_number (Some h) x = cut_host h (slice_get m.hosts h) x
 
       pub breaks_form : BreaksOff makes m notes new → BreaksForm makes lines hosts notes
-      breaks_form x = (free_told x.0, cut_number (number_of name m) x.1)
+      breaks_form x = (free_told (number_of name told) refl x.0, cut_number (number_of name m) x.1)
 
     -- what a call does has its form
     pub does_form : (c : Call) → Does c m notes new → Formed (DoesForm c lines hosts) lines hosts notes new
-    does_form (call.Declares name uuid) x = does_by (call.Declares name uuid) (refusal_looks m told look same_lines (call.Declares name uuid) tt) x
-    does_form (call.Makes name request) x = makes_form name request x
-    does_form (call.Begins name cmd) x = does_by (call.Begins name cmd) (refusal_looks m told look same_lines (call.Begins name cmd) tt) x
-    does_form (call.Steps name) x = does_by (call.Steps name) (refusal_looks m told look same_lines (call.Steps name) tt) x
-    does_form (call.Finishes name) x = does_by (call.Finishes name) (refusal_looks m told look same_lines (call.Finishes name) tt) x
-    does_form (call.Stops name) x = does_by (call.Stops name) (refusal_looks m told look same_lines (call.Stops name) tt) x
-    does_form (call.Halts name) x = does_by (call.Halts name) (refusal_looks m told look same_lines (call.Halts name) tt) x
-    does_form (call.Umounts name) x = does_by (call.Umounts name) (refusal_looks m told look same_lines (call.Umounts name) tt) x
-    does_form (call.Moves name line move) x = does_by (call.Moves name line move) (refusal_looks m told look same_lines (call.Moves name line move) tt) x
-    does_form (call.Refuses name cause) x = does_by (call.Refuses name cause) (refusal_looks m told look same_lines (call.Refuses name cause) tt) x
+    does_form (call.Makes name request) x = makes_form name request (number_of name told) refl x
+    does_form e x = does_by e (refusal_looks m told look same_lines e tt) x

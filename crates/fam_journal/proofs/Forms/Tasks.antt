@@ -34,7 +34,7 @@ use Rattle.fam_commands.specs.Task.{Task, op_of, part_count, size_of, wanted_end
 use Rattle.fam_commands.specs.Turns.{Turn, Goes, Marks, Finds, Writes, Ends, super_fault_reply, log_fault_reply, magic_turn, host_refusal, host_turn, super_turn, header_turn, slot_or_decide, slots_read, finds_or_goes, gate_loaded, gate_turn, join_turn, slot_turn, check_turn, first_store, append_turn, verify_lines, verify_turn, bytes_turn, kind_turn, found_turn, wish_turn, decide_turn, line_or, line_difference, compare_turn, file_turn, line_turn, with_word, word_turn, turn_at}
 use Rattle.fam_rules.specs.declared.answers.Refused.{Refused}
 use Rattle.fam_rules.specs.declared.answers.Refused.TheVariants as cause
-use Rattle.fam_rules.specs.Decide.{Wish, Room, decide_wish, early_refusal, entry_or, exists_refusal, first_refusal, full_refusal, length_refusal, master_refusal, parent_refusal, room_for, stripe_refusal, wish_of, file_refusal, found_refusal, is_stripe, room_or, room_by}
+use Rattle.fam_rules.specs.Decide.{Wish, Room, decide_wish, early_refusal, entry_or, exists_refusal, first_refusal, full_refusal, length_refusal, master_refusal, parent_refusal, path_fits, room_for, stripe_refusal, wish_of, file_refusal, found_refusal, is_stripe, room_or, room_by}
 use Rattle.fam_rules.specs.Place.{line_bytes}
 use Rattle.fam_rules.specs.Reports.{log_report, report_by}
 use Rattle.fam_rules.specs.Written.{lines_of}
@@ -91,7 +91,7 @@ module _ (me : List ℕ) where
 
   length_cause : (p : Params) (path : List ℕ) → OptionCause me (length_refusal p path)
   unfolding MetCause
-  length_cause p path = by_test (nat_le (length path) (geometry p).path_limit)
+  length_cause p path = by_test (path_fits p path)
     where
       by_test : (b : Bool) → OptionCause me (if b then None else Some (cause.LongPath (geometry p).path_limit))
       by_test true = tt
@@ -200,14 +200,7 @@ module _ (me : List ℕ) (cmd : Cmd) (stage : CommandStage) where
 
       by_cmd : (c : Cmd) → ReplyForm me c stage (log_fault_reply c fault)
       by_cmd Fsck = (refl, no_count fault)
-      by_cmd Logplay = ((λ e. absurd cc), head)
-      by_cmd Mount = ((λ e. absurd cc), head)
-      by_cmd (Mkdir path attr) = ((λ e. absurd cc), head)
-      by_cmd (Creat path size attr stripe fill) = ((λ e. absurd cc), head)
-      by_cmd (Cp path attr stripe bytes) = ((λ e. absurd cc), head)
-      by_cmd (Verify path against) = ((λ e. absurd cc), head)
-      by_cmd (Read path offset count) = ((λ e. absurd cc), head)
-      by_cmd (Check listing) = ((λ e. absurd cc), head)
+      by_cmd c = ((λ e. absurd cc), head)
 
 -- Superblock and header.
 abbrev BegunCause : List ℕ → Option Refused → Type 0
@@ -222,7 +215,7 @@ begun_master me p = by_test (path_eq me p.master) refl
     by_test false is = (refl, other_of me p.master is, inl refl)
 
 begun_length : (me : List ℕ) (p : Params) (path : List ℕ) → BegunCause me (length_refusal p path)
-begun_length me p path = by_test (nat_le (length path) (geometry p).path_limit)
+begun_length me p path = by_test (path_fits p path)
   where
     by_test : (b : Bool) → BegunCause me (if b then None else Some (cause.LongPath (geometry p).path_limit))
     by_test true = tt
@@ -297,14 +290,7 @@ module _ (t : Task) where
 
       by_cmd : (c : Cmd) → t.cmd ≡ c → TurnForm t.me t.cmd reads (check_turn c t i)
       by_cmd Fsck is = record { cmd_is = refl; me_is = refl; stage_is = slot_stage t _ (i + 1) }
-      by_cmd Logplay is = reads_slot (λ e. absurd cc)
-      by_cmd Mount is = reads_slot (λ e. absurd cc)
-      by_cmd (Mkdir path attr) is = reads_slot (λ e. absurd cc)
-      by_cmd (Creat path size attr stripe fill) is = reads_slot (λ e. absurd cc)
-      by_cmd (Cp path attr stripe bytes) is = reads_slot (λ e. absurd cc)
-      by_cmd (Verify path against) is = reads_slot (λ e. absurd cc)
-      by_cmd (Read path offset count) is = reads_slot (λ e. absurd cc)
-      by_cmd (Check listing) is = reads_slot (λ e. absurd cc)
+      by_cmd c is = reads_slot (λ e. absurd cc)
 
   -- The decision.
 
@@ -395,13 +381,7 @@ file_form t j k phase c is = by_cmd c is
         compare_form t against j (line_difference t against j) (subst IsVerify (sym is) tt) (ap (λ (z : Cmd). reading_stage (wish_of z) t.gate) is)
     by_cmd (Read path offset count) is =
         line_or_form t (reading_stage (wish_of t.cmd) t.gate) File j _ refl (subst IsRead (sym is) tt, ap (λ (z : Cmd). reading_stage (wish_of z) t.gate) is)
-    by_cmd Logplay is = stays
-    by_cmd Mount is = stays
-    by_cmd (Mkdir path attr) is = stays
-    by_cmd (Creat path size attr stripe fill) is = stays
-    by_cmd (Cp path attr stripe bytes) is = stays
-    by_cmd (Check listing) is = stays
-    by_cmd Fsck is = stays
+    by_cmd e is = stays
 
 part_form : (t : Task) (part : Part) (j k : ℕ) → t.phase ≡ at.Word part j k → TurnForm t.me t.cmd (stage_at (at.Word part j k) t) (line_turn t part j)
 part_form t Superblock j k phase = line_or_form t Begun Superblock j _ refl (super_form t (super_body_of t.words (line_bytes * t.lines)))
@@ -429,9 +409,7 @@ with_word_form t word part j k phase = by_part part phase
 
 drop_form : (t : Task) (part : Part) (j : ℕ) → TurnForm t.me t.cmd (stage_at (at.Drop part j) t) (Goes (record t { phase = at.Word part j 0 }))
 drop_form t Superblock j = record { cmd_is = refl; me_is = refl; stage_is = refl }
-drop_form t Header j = record { cmd_is = refl; me_is = refl; stage_is = refl }
-drop_form t (Slot i) j = record { cmd_is = refl; me_is = refl; stage_is = refl }
-drop_form t File j = record { cmd_is = refl; me_is = refl; stage_is = refl }
+drop_form t e j = record { cmd_is = refl; me_is = refl; stage_is = refl }
 
 -- Lines that are written.
 
@@ -440,7 +418,6 @@ named_either u true one other first second = first
 named_either u false one other first second = second
 
 form_at : (p : Phase) (t : Task) (word : ℕ) → t.phase ≡ p → TurnForm t.me t.cmd (stage_at p t) (turn_at p t word)
-form_at at.DropMagic t word phase = record { cmd_is = refl; me_is = refl; stage_is = refl }
 form_at at.Magic t word phase = magic_form t (magic_fault word)
 form_at (at.Drop part j) t word phase = drop_form t part j
 form_at (at.Word part j k) t word phase = with_word_form t word part j k phase
@@ -452,10 +429,8 @@ form_at (at.StoreData j k) t word phase = record { cmd_is = refl; me_is = refl; 
 form_at (at.SendData j) t word phase = record { cmd_is = refl; me_is = refl; stage_is = named_either _ (nat_lt (j + 1) (lines_of (size_of t.entry))) (at.StoreData (j + 1) 0) (at.StoreSlot 0 0) refl refl }
 form_at (at.StoreSlot j k) t word phase = record { cmd_is = refl; me_is = refl; stage_is = named_either _ (nat_lt k 7) (at.StoreSlot j (k + 1)) (at.SendSlot j) refl refl }
 form_at (at.SendSlot j) t word phase = record { cmd_is = refl; me_is = refl; stage_is = named_either _ (nat_lt (j + 1) (geometry t.params).lines) (at.StoreSlot (j + 1) 0) at.FenceSlot refl refl }
-form_at at.StoreGate t word phase = record { cmd_is = refl; me_is = refl; stage_is = refl }
-form_at at.FenceSlot t word phase = record { cmd_is = refl; me_is = refl; stage_is = refl }
-form_at at.SendGate t word phase = record { cmd_is = refl; me_is = refl; stage_is = refl }
 form_at at.FenceGate t word phase = refl
+form_at e t word phase = record { cmd_is = refl; me_is = refl; stage_is = refl }
 
 -- whatever word an operation gives
 pub turn_form : (t : Task) (word : ℕ) → TurnForm t.me t.cmd (stage_of t) (turn_given t word)

@@ -1,6 +1,6 @@
 -- What an operation of a world's own task adds has the form of a step, whatever word it gave; and the world's hosts are what
 -- its journal tells again.
-use Rattle.std.proofs.Common.{◌≡◌, ℕ, ◌≤◌, List, [], ◌∷◌, ◌++◌, length, map, Option, Some, None, refl, sym, ◌∙◌, ap, subst, arith}
+use Rattle.std.proofs.Common.{◌≡◌, ℕ, ◌≤◌, List, [], ◌∷◌, ◌++◌, length, map, Option, Some, None, refl, sym, ◌∙◌, ap, ap₂, subst, arith}
 use Rattle.std.specs.Prelude.{slice_get, is_some, option_map}
 use Rattle.fam_base.specs.declared.cmd.Cmd.{Cmd}
 use Rattle.fam_machine.specs.Caches.{Cache}
@@ -21,7 +21,8 @@ use Rattle.fam_journal.specs.Notes.{Note}
 use Rattle.fam_journal.specs.View.{HostView, WorldView}
 use Rattle.fam_journal.specs.ByWorld.{number_in, refusal_in, shown_host, shown_state, shown_task}
 use Rattle.fam_journal.proofs.Forms.Operations.{forms_both, keeps_some, keeps_turned, shown_keeps}
-use Rattle.fam_journal.proofs.Forms.Pairs.{IsNoMake, Looks, number_same, pairs_at, pairs_changed, pairs_moved, refusal_looks}
+use Rattle.fam_journal.proofs.Faces.{IsNoMake, face, number_same, refusal_looks}
+use Rattle.fam_journal.proofs.Forms.Pairs.{pairs_at, pairs_changed, pairs_moved}
 use Rattle.fam_journal.proofs.Forms.Tasks.{IsNext, TurnForm, turn_form}
 
 -- Refusals.
@@ -32,12 +33,15 @@ view_looks me None (Some f) is = absurd is
 view_looks me (Some t) None is = absurd is
 view_looks me (Some t) (Some f) is = refl
 
-views_look : (views : List HostView) (forms : List HostForm) → Pairs HostFormed views forms → Pairs Looks (map shown_host views) (map shown_form forms)
-views_look [] [] all = tt
+face_looks : (v : HostView) (f : HostForm) → HostFormed v f → face (shown_host v) ≡ face (shown_form f)
+face_looks v f is = let busy = view_looks v.uuid v.task f.task is.task in let keeps = shown_keeps f.keeps in cc
+
+-- the world's hosts show what its journal tells of them
+pub views_look : (views : List HostView) (forms : List HostForm) → Pairs HostFormed views forms → map face (map shown_host views) ≡ map face (map shown_form forms)
+views_look [] [] all = refl
 views_look [] (f ∷ forms) all = absurd all
 views_look (v ∷ views) [] all = absurd all
-views_look (v ∷ views) (f ∷ forms) all =
-    (record { name = sym all.0.name; uuid = sym all.0.uuid; busy = view_looks v.uuid v.task f.task all.0.task; keeps = sym all.0.keeps ∙ sym (shown_keeps f.keeps) }, views_look views forms all.1)
+views_look (v ∷ views) (f ∷ forms) all = ap₂ (λ f fs. f ∷ fs) (face_looks v f all.0) (views_look views forms all.1)
 
 module _ (lines : ℕ) (world : WorldView) (is : IsFormed world) where
   -- the first refusal that the world has is the one that its journal tells
@@ -45,7 +49,7 @@ module _ (lines : ℕ) (world : WorldView) (is : IsFormed world) where
   refusal_formed c other = refusal_looks (shown_state world lines) (shown_forms lines (forms_of world.journal)) (views_look world.hosts (forms_of world.journal) is) refl c other
 
   pub number_formed : (name : List ℕ) → number_of name (shown_state world lines) ≡ number_of name (shown_forms lines (forms_of world.journal))
-  number_formed name = number_same (shown_state world lines) (shown_forms lines (forms_of world.journal)) (views_look world.hosts (forms_of world.journal) is) refl name
+  number_formed name = number_same (shown_state world lines) (shown_forms lines (forms_of world.journal)) (views_look world.hosts (forms_of world.journal) is) name
 
 -- One operation.
 
@@ -118,10 +122,7 @@ module _ (world : WorldView) (is : IsFormed world) (h : ℕ) (view : HostView) (
 
   short : (n : _) → length (notes_of h (note_of n)) ≤ 1
   short (Goes n) = omega arith
-  short (Marks n) = omega arith
-  short (Finds k n) = omega arith
-  short (Writes seq entry n) = omega arith
-  short (Ends given) = omega arith
+  short e = omega arith
 
   -- the world again
   pub world_formed : IsFormed (record { hosts = changed_at h (λ v. record v { cache = cache; task = task_after (turn_given t word); kept = kept_after (turn_given t word) t v.kept }) world.hosts; journal = world.journal ++ notes_of h (note_of (turn_given t word)) })

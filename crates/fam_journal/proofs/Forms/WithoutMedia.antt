@@ -9,7 +9,8 @@ use Rattle.fam_commands.specs.Task.{mounted}
 use Rattle.std.specs.FinMap as finmap
 use Rattle.fam_journal.specs.declared.refusal.Refusal.TheVariants as why
 use Rattle.fam_journal.specs.Calls as call
-use Rattle.fam_journal.proofs.Forms.Pairs.{IsNoMake, pairs_last}
+use Rattle.fam_journal.proofs.Faces.{IsNoMake}
+use Rattle.fam_journal.proofs.Forms.Pairs.{pairs_last}
 use Rattle.fam_journal.specs.Notes as note
 use Rattle.fam_journal.specs.Calls.{Call, has_name, name_of, number_of, on_host, refusal_of}
 use Rattle.fam_journal.specs.CallRecords.{HasForm}
@@ -77,16 +78,8 @@ module _ (lines : ℕ) (world : WorldView) (is : IsFormed world) where
       }
 
   told_of : (c : Call) → IsNoMake c → refusal_told c lines forms ≡ refusal_in c world lines
-  told_of (call.Declares name uuid) other = sym (refusal_formed lines world is (call.Declares name uuid) tt)
   told_of (call.Makes name request) other = absurd other
-  told_of (call.Begins name cmd) other = sym (refusal_formed lines world is (call.Begins name cmd) tt)
-  told_of (call.Steps name) other = sym (refusal_formed lines world is (call.Steps name) tt)
-  told_of (call.Finishes name) other = sym (refusal_formed lines world is (call.Finishes name) tt)
-  told_of (call.Stops name) other = sym (refusal_formed lines world is (call.Stops name) tt)
-  told_of (call.Halts name) other = sym (refusal_formed lines world is (call.Halts name) tt)
-  told_of (call.Umounts name) other = sym (refusal_formed lines world is (call.Umounts name) tt)
-  told_of (call.Moves name line move) other = sym (refusal_formed lines world is (call.Moves name line move) tt)
-  told_of (call.Refuses name cause) other = sym (refusal_formed lines world is (call.Refuses name cause) tt)
+  told_of e other = sym (refusal_formed lines world is e tt)
 
   -- an undeclared host is refused
   no_host : (name : List ℕ) (f : ℕ → Option Refusal) → on_host (number_of name (shown_state world lines)) f ≡ None → number_in name world ≡ None → ⊥
@@ -100,13 +93,10 @@ module _ (lines : ℕ) (world : WorldView) (is : IsFormed world) where
     form = freed (call.Declares name uuid) (note.Host name uuid ∷ []) (told_of (call.Declares name uuid) tt ∙ free) refl;
     formed = added _ (note.Host name uuid) (pairs_last HostFormed world.hosts forms _ _ is record { name = refl; uuid = refl; task = tt; keeps = refl });
   }
-  acted_form (call.Makes name request) takes free = absurd takes
   acted_form (call.Begins name cmd) takes free =
       hosted (call.Begins name cmd) (λ v. record v { task = Some (mounted v.kept cmd v.uuid lines) }) (λ h. note.Start h cmd) (number_in name world) refl (λ h none. no_host name _ free none) (λ h x. x) (λ h f. refl)
       (λ h. pairs_any HostFormed _ _ (λ v f at. record { name = at.name; uuid = at.uuid; task = record { cmd = refl; me_is = refl; stage = refl }; keeps = at.keeps }) h world.hosts forms is)
       (told_of (call.Begins name cmd) tt ∙ free)
-  acted_form (call.Steps name) takes free = absurd takes
-  acted_form (call.Finishes name) takes free = absurd takes
   acted_form (call.Stops name) takes free =
       hosted (call.Stops name) (λ v. record v { task = None }) note.Stop (number_in name world) refl (λ h none. no_host name _ free none) (λ h x. x) (λ h f. refl)
       (λ h. pairs_any HostFormed _ _ (λ v f at. record { name = at.name; uuid = at.uuid; task = tt; keeps = at.keeps }) h world.hosts forms is)
@@ -119,7 +109,6 @@ module _ (lines : ℕ) (world : WorldView) (is : IsFormed world) where
       hosted (call.Umounts name) (λ v. record v { kept = None }) note.Umount (number_in name world) refl (λ h none. no_host name _ free none) (λ h x. x) (λ h f. refl)
       (λ h. pairs_any HostFormed _ _ (λ v f at. record { name = at.name; uuid = at.uuid; task = at.task; keeps = refl }) h world.hosts forms is)
       (told_of (call.Umounts name) tt ∙ free)
-  acted_form (call.Moves name line move) takes free = absurd takes
   acted_form (call.Refuses name cause) takes free = record {
     notes = Refused name cause ∷ [];
     joined = refl;
@@ -130,18 +119,11 @@ module _ (lines : ℕ) (world : WorldView) (is : IsFormed world) where
       by_takes : call.IsOfSource cause ⊎ ((cmd : Cmd) × (refusal_in (call.Begins name cmd) world lines ≡ Some cause)) → call.IsOfSource cause ⊎ ((mount : Bool) × (call.may_begin name mount (shown_forms lines forms) ≡ Some cause))
       by_takes (inl x) = inl x
       by_takes (inr x) = inr (is_mount x.0, sym (refusal_formed lines world is (call.Begins name x.0) tt) ∙ x.1)
+  acted_form e takes free = absurd takes
 
   no_make : (c : Call) → TakesNoMedia c lines world → IsNoMake c
-  no_make (call.Declares name uuid) takes = tt
   no_make (call.Makes name request) takes = takes
-  no_make (call.Begins name cmd) takes = tt
-  no_make (call.Steps name) takes = tt
-  no_make (call.Finishes name) takes = tt
-  no_make (call.Stops name) takes = tt
-  no_make (call.Halts name) takes = tt
-  no_make (call.Umounts name) takes = tt
-  no_make (call.Moves name line move) takes = tt
-  no_make (call.Refuses name cause) takes = tt
+  no_make e takes = tt
 
   pub solo_form : (c : Call) → TakesNoMedia c lines world → HasForm c lines world (world_after c lines world)
   solo_form c takes = by_refusal (refusal_in c world lines) refl

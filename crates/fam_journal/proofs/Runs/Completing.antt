@@ -6,7 +6,6 @@ use Rattle.std.proofs.lemmas.List.{append-nil, append_assoc}
 use Rattle.std.proofs.lemmas.Option.{same_Some}
 use Rattle.fam_base.specs.declared.entry.Params.{Params}
 use Rattle.fam_base.specs.Image.{Image, line_at}
-use Rattle.fam_machine.specs.MkfsRequest.{mkfs_request}
 use Rattle.fam_media.specs.Files.{Files}
 use Rattle.fam_machine.specs.declared.op.Op.{Op}
 use Rattle.fam_machine.specs.Operations.{Machine, given, operated}
@@ -31,7 +30,6 @@ use Rattle.fam_journal.specs.Follows.{Follows}
 use Rattle.fam_journal.specs.Kept.{Reached, hosts_of, run_at, run_of, run_with, shared_of, settled_of, uuid_at}
 use Rattle.fam_journal.specs.Laws.{AreSound, IsImage, IsSoundEvent}
 use Rattle.fam_journal.specs.Legal.{LegalBehind}
-use Rattle.fam_machine.specs.HostMoves.{Evict, Fetch, Leak}
 use Rattle.fam_journal.specs.Machines.{Done, HostState, Machines, Operation, Passes, TaskState, host_done, machine_of, next_note, next_op, op_done, operation, served, task_begun, task_done, task_on, with_parts}
 use Rattle.fam_journal.specs.Notes.{Answered, MediaFault, Note, Refused, Replied}
 use Rattle.fam_journal.specs.Past.{Past, first_past, past_of}
@@ -107,15 +105,12 @@ module _ (start : Image) where
     act_ruled (call.Declares name uuid) h host x = absurd x
     act_ruled (call.Makes name request) h host (inl x) = make_ruled request.halt h _ request.force host x
     act_ruled (call.Makes name request) h host (inr x) = subst (AreRuled (past_of start journal)) (sym x.notes_are) (tt, tt)
-    act_ruled (call.Begins name cmd) h host x = subst (AreRuled (past_of start journal)) (sym x.0) (tt, tt)
     act_ruled (call.Steps name) h host x = operation_ruled h state journal kept notes new x
     act_ruled (call.Finishes name) h host x = operates_ruled h x.count state journal kept notes new x.does
-    act_ruled (call.Stops name) h host x = subst (AreRuled (past_of start journal)) (sym x.0) (tt, tt)
-    act_ruled (call.Halts name) h host x = subst (AreRuled (past_of start journal)) (sym x.0) (tt, tt)
-    act_ruled (call.Umounts name) h host x = subst (AreRuled (past_of start journal)) (sym x.0) (tt, tt)
     act_ruled (call.Moves name line move) h host (inl x) = subst (AreRuled (past_of start journal)) (sym x.notes_are) tt
     act_ruled (call.Moves name line move) h host (inr x) = subst (AreRuled (past_of start journal)) (sym x.notes_are) (tt, tt)
     act_ruled (call.Refuses name cause) h host x = absurd x
+    act_ruled e h host x = subst (AreRuled (past_of start journal)) (sym x.0) (tt, tt)
 
     host_ruled : (c : Call) (h : ℕ) (o : Option HostState) → OnHost o (λ host. ActsAt c h host state notes new) → AreRuled (past_of start journal) notes
     host_ruled c h None x = absurd x
@@ -149,8 +144,6 @@ module _ (start : Image) where
 
   module _ (files : Files) where
     event_ruled : (e : Event) → IsSoundEvent e → (old new : Session) (journal notes : List Note) → Reached start old.machines journal → DoesEvent files e old notes new → AreRuled (past_of start journal) notes
-    event_ruled (event.Host name uuid) sound old new journal notes kept x = does_ruled old.machines journal kept notes new.machines (call.Declares name uuid) x.0
-    event_ruled (event.Mkfs name fs unit log format force halt) sound old new journal notes kept x = does_ruled old.machines journal kept notes new.machines (call.Makes name (mkfs_request fs unit log format force halt)) x.0
     event_ruled (event.Begin name what) sound old new journal notes kept (inl x) = does_ruled old.machines journal kept notes new.machines (call.Begins name x.cmd) x.does
     event_ruled (event.Begin name what) sound old new journal notes kept (inr (inl x)) = refusal_ruled old.machines journal kept notes new.machines name x.cause x.notes_are
     event_ruled (event.Begin name what) sound old new journal notes kept (inr (inr x)) = does_ruled old.machines journal kept notes new.machines (call.Refuses name x.cause) x.does
@@ -161,13 +154,7 @@ module _ (start : Image) where
     event_ruled (event.Run name what) sound old new journal notes kept (inr (inr x)) = does_ruled old.machines journal kept notes new.machines (call.Refuses name x.cause) x.does
     event_ruled (event.Step name count) sound old new journal notes kept (inl x) = operates_ruled x.host count old.machines journal kept notes new.machines x.does
     event_ruled (event.Step name count) sound old new journal notes kept (inr x) = refusal_ruled old.machines journal kept notes new.machines name x.cause x.notes_are
-    event_ruled (event.Finish name) sound old new journal notes kept x = does_ruled old.machines journal kept notes new.machines (call.Finishes name) x.0
-    event_ruled (event.Stop name) sound old new journal notes kept x = does_ruled old.machines journal kept notes new.machines (call.Stops name) x.0
-    event_ruled (event.Halt name) sound old new journal notes kept x = does_ruled old.machines journal kept notes new.machines (call.Halts name) x.0
-    event_ruled (event.Umount name) sound old new journal notes kept x = does_ruled old.machines journal kept notes new.machines (call.Umounts name) x.0
-    event_ruled (event.Evict name line) sound old new journal notes kept x = does_ruled old.machines journal kept notes new.machines (call.Moves name line.0 Evict) x.0
-    event_ruled (event.Leak name line mask) sound old new journal notes kept x = does_ruled old.machines journal kept notes new.machines (call.Moves name line.0 (Leak mask.0)) x.0
-    event_ruled (event.Fetch name line mask) sound old new journal notes kept x = does_ruled old.machines journal kept notes new.machines (call.Moves name line.0 (Fetch mask.0)) x.0
+    event_ruled e sound old new journal notes kept x = does_ruled old.machines journal kept notes new.machines _ x.0
 
     follows_ruled : (events : List Event) → AreSound events → (old new : Session) (journal notes : List Note) → Reached start old.machines journal → Follows files events old notes new → AreRuled (past_of start journal) notes
     follows_ruled [] sound old new journal notes kept x = subst (AreRuled (past_of start journal)) (sym x.0) tt

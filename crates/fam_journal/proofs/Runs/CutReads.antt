@@ -18,7 +18,7 @@ use Rattle.fam_journal.specs.declared.event.Event.{Event}
 use Rattle.fam_journal.specs.declared.refusal.Refusal.{Refusal}
 use Rattle.fam_journal.specs.declared.event.Event.TheVariants as event
 use Rattle.fam_journal.specs.Calls as call
-use Rattle.fam_journal.specs.Calls.{AtNumber, BreaksOff, Call, CutsAt, MakesCut, OnHost, makes_refusal, number_of, on_host, refusal_of, IsSoundRequest}
+use Rattle.fam_journal.specs.Calls.{AtNumber, BreaksOff, Call, MakesCut, OnHost, makes_refusal, number_of, on_host, refusal_of, IsSoundRequest}
 use Rattle.fam_journal.specs.CallRecords.{IsSoundCall}
 use Rattle.fam_journal.specs.Ends.{CutCallReads, CutEventReads, CutReads, ReadsAs, StillReads}
 use Rattle.fam_journal.specs.Events.{BreaksEvent, Session}
@@ -122,17 +122,7 @@ module _ (start : Image) (state : Machines) (journal : List Note) (kept : Reache
 pub event_cut : (start : Image) (e : Event) → IsSoundEvent e → (old new : Session) (journal notes : List Note) → Reached start old.machines journal → BreaksEvent e old notes new → CutEventReads e old (past_of start journal).state new.machines.memory
 event_cut start (event.Mkfs name fs unit log format force halt) sound old new journal notes kept x =
     call_cut start old.machines journal kept (call.Makes name (mkfs_request fs unit log format force halt)) sound notes new.machines x.0
-event_cut start (event.Host name uuid) sound old new journal notes kept x = absurd x
-event_cut start (event.Begin name what) sound old new journal notes kept x = absurd x
-event_cut start (event.Run name what) sound old new journal notes kept x = absurd x
-event_cut start (event.Step name count) sound old new journal notes kept x = absurd x
-event_cut start (event.Finish name) sound old new journal notes kept x = absurd x
-event_cut start (event.Stop name) sound old new journal notes kept x = absurd x
-event_cut start (event.Halt name) sound old new journal notes kept x = absurd x
-event_cut start (event.Umount name) sound old new journal notes kept x = absurd x
-event_cut start (event.Evict name line) sound old new journal notes kept x = absurd x
-event_cut start (event.Leak name line mask) sound old new journal notes kept x = absurd x
-event_cut start (event.Fetch name line mask) sound old new journal notes kept x = absurd x
+event_cut start e sound old new journal notes kept x = absurd x
 
 -- a refusal settles nothing
 pub refused_state : (start : Image) (journal notes : List Note) (name : List ℕ) (cause : Refusal) → notes ≡ Refused name cause ∷ [] → (past_of start (journal ++ notes)).state ≡ (past_of start journal).state

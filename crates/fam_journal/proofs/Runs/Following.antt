@@ -124,14 +124,7 @@ module _ (start : Image) (state : Machines) (journal : List Note) (kept : Reache
   acts_kept : (c : Call) → IsSoundCall c → refusal_of c state ≡ None → Acts c state notes new → Reached start new (journal ++ notes)
   acts_kept (call.Declares name uuid) sound free x = kept_as start journal notes _ new _ x.0 x.1 (declared_kept start state journal kept name uuid sound free)
   acts_kept (call.Refuses name cause) sound free x = kept_as start journal notes _ new _ x.0 x.1 (refused_kept start state journal kept name cause)
-  acts_kept (call.Makes name request) sound free x = acts_of_kept (call.Makes name request) sound free x
-  acts_kept (call.Begins name cmd) sound free x = acts_of_kept (call.Begins name cmd) sound free x
-  acts_kept (call.Steps name) sound free x = acts_of_kept (call.Steps name) sound free x
-  acts_kept (call.Finishes name) sound free x = acts_of_kept (call.Finishes name) sound free x
-  acts_kept (call.Stops name) sound free x = acts_of_kept (call.Stops name) sound free x
-  acts_kept (call.Halts name) sound free x = acts_of_kept (call.Halts name) sound free x
-  acts_kept (call.Umounts name) sound free x = acts_of_kept (call.Umounts name) sound free x
-  acts_kept (call.Moves name line move) sound free x = acts_of_kept (call.Moves name line move) sound free x
+  acts_kept e sound free x = acts_of_kept e sound free x
 
   -- a row of a call keeps what is held
   pub does_kept : (c : Call) → IsSoundCall c → Does c state notes new → Reached start new (journal ++ notes)
@@ -178,27 +171,13 @@ module _ (start : Image) (files : Files) where
   event_kept (event.Run name what) sound old new journal notes kept (inr x) = refused_event_kept name what old new journal notes kept x
   event_kept (event.Step name count) sound old new journal notes kept (inl x) = operates_kept start x.host count old.machines journal kept notes new.machines x.does
   event_kept (event.Step name count) sound old new journal notes kept (inr x) = not_step_kept name old new journal notes kept x
-  event_kept (event.Finish name) sound old new journal notes kept x = does_kept start old.machines journal kept notes new.machines (call.Finishes name) tt x.0
-  event_kept (event.Stop name) sound old new journal notes kept x = does_kept start old.machines journal kept notes new.machines (call.Stops name) tt x.0
-  event_kept (event.Halt name) sound old new journal notes kept x = does_kept start old.machines journal kept notes new.machines (call.Halts name) tt x.0
-  event_kept (event.Umount name) sound old new journal notes kept x = does_kept start old.machines journal kept notes new.machines (call.Umounts name) tt x.0
-  event_kept (event.Evict name line) sound old new journal notes kept x = does_kept start old.machines journal kept notes new.machines (call.Moves name line.0 Rattle.fam_machine.specs.HostMoves.Evict) tt x.0
-  event_kept (event.Leak name line mask) sound old new journal notes kept x = does_kept start old.machines journal kept notes new.machines (call.Moves name line.0 (Rattle.fam_machine.specs.HostMoves.Leak mask.0)) tt x.0
-  event_kept (event.Fetch name line mask) sound old new journal notes kept x = does_kept start old.machines journal kept notes new.machines (call.Moves name line.0 (Rattle.fam_machine.specs.HostMoves.Fetch mask.0)) tt x.0
+  event_kept e sound old new journal notes kept x = does_kept start old.machines journal kept notes new.machines _ tt x.0
 
   part_kept : (e : Event) → IsSoundEvent e → (old new : Session) (journal notes : List Note) → Reached start old.machines journal → PartOf files e old notes new → Reached start new.machines (journal ++ notes)
-  part_kept (event.Host name uuid) sound old new journal notes kept x = absurd x
-  part_kept (event.Mkfs name fs unit log format force halt) sound old new journal notes kept x = absurd x
-  part_kept (event.Begin name what) sound old new journal notes kept x = absurd x
   part_kept (event.Run name what) sound old new journal notes kept x = goes_kept Unfinished unfinished_kept name what old new journal notes kept x
   part_kept (event.Step name count) sound old new journal notes kept x = unfinished_kept x.host old.machines journal kept notes new.machines x.does.does
   part_kept (event.Finish name) sound old new journal notes kept x = unfinished_kept x.host old.machines journal kept notes new.machines x.does
-  part_kept (event.Stop name) sound old new journal notes kept x = absurd x
-  part_kept (event.Halt name) sound old new journal notes kept x = absurd x
-  part_kept (event.Umount name) sound old new journal notes kept x = absurd x
-  part_kept (event.Evict name line) sound old new journal notes kept x = absurd x
-  part_kept (event.Leak name line mask) sound old new journal notes kept x = absurd x
-  part_kept (event.Fetch name line mask) sound old new journal notes kept x = absurd x
+  part_kept e sound old new journal notes kept x = absurd x
 
   pub follows_kept : (events : List Event) → AreSound events → (old new : Session) (journal notes : List Note) → Reached start old.machines journal → Follows files events old notes new → Reached start new.machines (journal ++ notes)
   follows_kept [] sound old new journal notes kept x = kept_quiet start journal notes new.machines old.machines x.0 (ap (λ (s : Session). s.machines) x.1) kept
@@ -242,18 +221,8 @@ cut_notes c old new notes x = by_number (number_of (name_of c) old) x.1
     by_number (Some h) y = by_host h (slice_get old.hosts h) y
 
 broken_notes : (e : Event) (old new : Session) (notes : List Note) → BreaksEvent e old notes new → (name : List ℕ) × (cause : Refusal) × (notes ≡ Refused name cause ∷ [])
-broken_notes (event.Host name uuid) old new notes x = absurd x
 broken_notes (event.Mkfs name fs unit log format force halt) old new notes x = cut_notes (call.Makes name (mkfs_request fs unit log format force halt)) old.machines new.machines notes x.0
-broken_notes (event.Begin name what) old new notes x = absurd x
-broken_notes (event.Run name what) old new notes x = absurd x
-broken_notes (event.Step name count) old new notes x = absurd x
-broken_notes (event.Finish name) old new notes x = absurd x
-broken_notes (event.Stop name) old new notes x = absurd x
-broken_notes (event.Halt name) old new notes x = absurd x
-broken_notes (event.Umount name) old new notes x = absurd x
-broken_notes (event.Evict name line) old new notes x = absurd x
-broken_notes (event.Leak name line mask) old new notes x = absurd x
-broken_notes (event.Fetch name line mask) old new notes x = absurd x
+broken_notes e old new notes x = absurd x
 
 -- so the state behind it is the one before
 pub broken_state : (start : Image) (e : Event) (old new : Session) (journal notes all : List Note) → BreaksEvent e old notes new → all ≡ journal ++ notes → (past_of start all).state ≡ (past_of start journal).state

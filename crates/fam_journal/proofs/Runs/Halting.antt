@@ -141,13 +141,7 @@ file_line j t reads next = by_cmd t.cmd refl reads
     by_cmd : (c : Cmd) → t.cmd ≡ c → LooksAtFile c → HaltsTurn (file_turn c t j)
     by_cmd (Verify path against) is reads = by_found against (line_difference t against j)
     by_cmd (Read path offset count) is reads = pick (nat_lt (j + 1) (part_count t File)) _ _ (λ is. next t refl refl is) (λ is. tt)
-    by_cmd Logplay is reads = absurd reads
-    by_cmd Mount is reads = absurd reads
-    by_cmd (Mkdir path attr) is reads = absurd reads
-    by_cmd (Creat path size attr stripe fill) is reads = absurd reads
-    by_cmd (Cp path attr stripe bytes) is reads = absurd reads
-    by_cmd (Check entries) is reads = absurd reads
-    by_cmd Fsck is reads = absurd reads
+    by_cmd e is reads = absurd reads
 
 same_count : (t u : Task) → u.cmd ≡ t.cmd → u.entry ≡ t.entry → part_count u File ≡ part_count t File
 same_count t u e f = rw e (rw f refl)
@@ -223,14 +217,7 @@ check_halts n i s next left = halting (record s { phase = at.Check i }) (λ word
 
     by_cmd : (c : Cmd) → s.cmd ≡ c → HaltsTurn (check_turn c (record s { phase = at.Check i }) i)
     by_cmd Fsck is = next (i + 1) (record s { survey = survey_slot s.params s.gate i s.words s.survey; words = [] }) left
-    by_cmd Logplay is = by_slot (entry_of s.params s.words i)
-    by_cmd Mount is = by_slot (entry_of s.params s.words i)
-    by_cmd (Check listing) is = by_slot (entry_of s.params s.words i)
-    by_cmd (Verify path against) is = by_slot (entry_of s.params s.words i)
-    by_cmd (Read path offset count) is = by_slot (entry_of s.params s.words i)
-    by_cmd (Mkdir path attr) is = by_slot (entry_of s.params s.words i)
-    by_cmd (Creat path size attr stripe fill) is = by_slot (entry_of s.params s.words i)
-    by_cmd (Cp path attr stripe bytes) is = by_slot (entry_of s.params s.words i)
+    by_cmd e is = by_slot (entry_of s.params s.words i)
 
 record AtSlot (n i m j : ℕ) (t : Task) : Type 0 where
   slots : slots_read t ≤ i + 1 + n

@@ -1,7 +1,6 @@
 -- While a state is bad, memory stays over whole runs: whatever events come, one after another or in part, that end no history.
 use Rattle.std.proofs.Common.{◌≡◌, ℕ, inl, inr, List, [], ◌∷◌, ◌++◌, take, ap, ◌∙◌, subst}
 use Rattle.fam_base.specs.Image.{Image}
-use Rattle.fam_machine.specs.HostMoves as moves
 use Rattle.fam_machine.specs.MkfsRequest.{mkfs_request}
 use Rattle.fam_media.specs.Files.{Files}
 use Rattle.fam_journal.specs.declared.event.Ask.{Ask}
@@ -71,7 +70,6 @@ module _ (start : Image) (files : Files) (origin : Origin) (damage : Damage) (ga
 
   -- one event, done whole
   event_stays : (e : Event) (old new : Session) (journal notes : List Note) → IsBadAt old.machines journal → NoneEnds notes → DoesEvent files e old notes new → new.machines.memory ≡ old.machines.memory
-  event_stays (event.Host name uuid) old new journal notes bad none x = call_stays (call.Declares name uuid) old.machines new.machines journal notes bad none x.0
   event_stays (event.Mkfs name fs unit log format force halt) old new journal notes bad none x =
       call_stays (call.Makes name (mkfs_request fs unit log format force halt)) old.machines new.machines journal notes bad none x.0
   event_stays (event.Begin name what) old new journal notes bad none (inl x) = begun_stays name what old new journal notes bad none x
@@ -80,28 +78,14 @@ module _ (start : Image) (files : Files) (origin : Origin) (damage : Damage) (ga
   event_stays (event.Run name what) old new journal notes bad none (inr x) = refused_event_stays name what old new journal notes bad none x
   event_stays (event.Step name count) old new journal notes bad none (inl x) = operations_stay x.host count old.machines new.machines journal notes bad x.does
   event_stays (event.Step name count) old new journal notes bad none (inr x) = ap memory_of x.same
-  event_stays (event.Finish name) old new journal notes bad none x = call_stays (call.Finishes name) old.machines new.machines journal notes bad none x.0
-  event_stays (event.Stop name) old new journal notes bad none x = call_stays (call.Stops name) old.machines new.machines journal notes bad none x.0
-  event_stays (event.Halt name) old new journal notes bad none x = call_stays (call.Halts name) old.machines new.machines journal notes bad none x.0
-  event_stays (event.Umount name) old new journal notes bad none x = call_stays (call.Umounts name) old.machines new.machines journal notes bad none x.0
-  event_stays (event.Evict name line) old new journal notes bad none x = call_stays (call.Moves name line.0 moves.Evict) old.machines new.machines journal notes bad none x.0
-  event_stays (event.Leak name line mask) old new journal notes bad none x = call_stays (call.Moves name line.0 (moves.Leak mask.0)) old.machines new.machines journal notes bad none x.0
-  event_stays (event.Fetch name line mask) old new journal notes bad none x = call_stays (call.Moves name line.0 (moves.Fetch mask.0)) old.machines new.machines journal notes bad none x.0
+  event_stays e old new journal notes bad none x = call_stays _ old.machines new.machines journal notes bad none x.0
 
   -- and in part
   part_stays : (e : Event) (old new : Session) (journal notes : List Note) → IsBadAt old.machines journal → NoneEnds notes → PartOf files e old notes new → new.machines.memory ≡ old.machines.memory
-  part_stays (event.Host name uuid) old new journal notes bad none x = absurd x
-  part_stays (event.Mkfs name fs unit log format force halt) old new journal notes bad none x = absurd x
-  part_stays (event.Begin name what) old new journal notes bad none x = absurd x
   part_stays (event.Run name what) old new journal notes bad none x = goes_stay Unfinished unfinished_stays name what old new journal notes bad none x
   part_stays (event.Step name count) old new journal notes bad none x = unfinished_stays x.host old.machines new.machines journal notes bad x.does.does
   part_stays (event.Finish name) old new journal notes bad none x = unfinished_stays x.host old.machines new.machines journal notes bad x.does
-  part_stays (event.Stop name) old new journal notes bad none x = absurd x
-  part_stays (event.Halt name) old new journal notes bad none x = absurd x
-  part_stays (event.Umount name) old new journal notes bad none x = absurd x
-  part_stays (event.Evict name line) old new journal notes bad none x = absurd x
-  part_stays (event.Leak name line mask) old new journal notes bad none x = absurd x
-  part_stays (event.Fetch name line mask) old new journal notes bad none x = absurd x
+  part_stays e old new journal notes bad none x = absurd x
 
   -- Runs.
 

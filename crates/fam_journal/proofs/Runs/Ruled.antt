@@ -3,7 +3,7 @@ use Rattle.std.proofs.Common.{◌≡◌, ℕ, ◌⊎◌, inl, inr, List, [], ◌
 use Rattle.std.specs.Prelude.{⊤, slice_get, unwrap_or, Err}
 use Rattle.std.proofs.lemmas.Option.{same_Some}
 use Rattle.fam_base.specs.declared.cmd.Cmd.{Cmd}
-use Rattle.fam_base.specs.declared.cmd.Cmd.TheVariants.{Logplay, Mount, Mkdir, Creat, Cp, Verify, Read, Check, Fsck}
+use Rattle.fam_base.specs.declared.cmd.Cmd.TheVariants.{Mkdir, Creat, Cp, Fsck}
 use Rattle.fam_base.specs.declared.entry.Params.{Params}
 use Rattle.fam_commands.specs.declared.phase.Phase.{Phase}
 use Rattle.fam_commands.specs.declared.phase.Phase.TheVariants as at
@@ -62,33 +62,14 @@ ends_fit p cmd (reply.Reports report) ends = ends
 ends_fit p cmd (reply.NoSuperblock fault) ends = ends
 ends_fit p cmd (reply.BadHeader fault) ends = ends.1
 ends_fit p cmd (reply.BadSlot i reason) ends = ends.1
-ends_fit p cmd (reply.Played n tree) ends = tt
-ends_fit p cmd (reply.Mounted n) ends = tt
-ends_fit p cmd (reply.Same n) ends = tt
-ends_fit p cmd (reply.Differs n offset found wanted) ends = tt
-ends_fit p cmd (reply.Length n size wanted) ends = tt
-ends_fit p cmd (reply.Bytes n bytes) ends = tt
-ends_fit p cmd (reply.NotFound n) ends = tt
-ends_fit p cmd (reply.IsDirectory n) ends = tt
-ends_fit p cmd (reply.Checks n checked) ends = tt
+ends_fit p cmd e ends = tt
 
 says_fit : (p : Phase) (cmd : Cmd) (turn : Turn) → SaysAt p cmd turn → FitsTurn cmd turn
-says_fit p cmd (Goes t) says = tt
-says_fit p cmd (Marks t) says = tt
-says_fit p cmd (Finds n t) says = tt
-says_fit p cmd (Writes seq e t) says = tt
 says_fit p cmd (Ends given) says = ends_fit p cmd given says
+says_fit p cmd e says = tt
 
 -- a place is before the first store, or the command appends
 before_or : (p : Phase) → IsBeforeWrites p ⊎ (IsBeforeWrites p → ⊥)
-before_or at.DropMagic = inl tt
-before_or at.Magic = inl tt
-before_or (at.Drop part j) = inl tt
-before_or (at.Word part j k) = inl tt
-before_or at.DropGate = inl tt
-before_or at.Gate = inl tt
-before_or (at.Check i) = inl tt
-before_or at.Decide = inl tt
 before_or (at.StoreData j k) = inr (λ h. h)
 before_or (at.SendData j) = inr (λ h. h)
 before_or (at.StoreSlot j k) = inr (λ h. h)
@@ -97,17 +78,10 @@ before_or at.StoreGate = inr (λ h. h)
 before_or at.FenceSlot = inr (λ h. h)
 before_or at.SendGate = inr (λ h. h)
 before_or at.FenceGate = inr (λ h. h)
+before_or e = inl tt
 
 -- behind it a task goes on, or answers that it is done
 late_fits : (p : Phase) (t : Task) (word : ℕ) → (IsBeforeWrites p → ⊥) → HasWish t.cmd → FitsTurn t.cmd (turn_at p t word)
-late_fits at.DropMagic t word late wish = absurd (late tt)
-late_fits at.Magic t word late wish = absurd (late tt)
-late_fits (at.Drop part j) t word late wish = absurd (late tt)
-late_fits (at.Word part j k) t word late wish = absurd (late tt)
-late_fits at.DropGate t word late wish = absurd (late tt)
-late_fits at.Gate t word late wish = absurd (late tt)
-late_fits (at.Check i) t word late wish = absurd (late tt)
-late_fits at.Decide t word late wish = absurd (late tt)
 late_fits (at.StoreData j k) t word late wish = tt
 late_fits (at.SendData j) t word late wish = tt
 late_fits (at.StoreSlot j k) t word late wish = tt
@@ -116,6 +90,7 @@ late_fits at.StoreGate t word late wish = tt
 late_fits at.FenceSlot t word late wish = tt
 late_fits at.SendGate t word late wish = tt
 late_fits at.FenceGate t word late wish = wish
+late_fits e t word late wish = absurd (late tt)
 
 -- a task that stores is of a command that appends
 late_wish : (kept : Option Kept) (cmd : Cmd) (me : List ℕ) (lines : ℕ) (t : Task) (words : List ℕ) (made : ℕ) → IsKept kept → StandsFor kept cmd me lines t words made → (IsBeforeWrites t.phase → ⊥) → HasWish cmd
@@ -145,15 +120,10 @@ turn_fits kept cmd me lines t words made word joined standing =
 
 module _ (p : Params) (history : List File) (pending : Option File) (host : HostPast) where
   append_case : (cmd : Cmd) (given : Reply) → HasWish cmd → IsAppendAnswer p history pending host cmd given → IsSoundAnswer p history pending host cmd given
-  append_case Logplay given wish is = absurd (let none = wish.1 in cc)
-  append_case Mount given wish is = absurd (let none = wish.1 in cc)
   append_case (Mkdir path attr) given wish is = is
   append_case (Creat path size attr stripe fill) given wish is = is
   append_case (Cp path attr stripe bytes) given wish is = is
-  append_case (Verify path against) given wish is = absurd (let none = wish.1 in cc)
-  append_case (Read path offset count) given wish is = absurd (let none = wish.1 in cc)
-  append_case (Check entries) given wish is = absurd (let none = wish.1 in cc)
-  append_case Fsck given wish is = absurd (let none = wish.1 in cc)
+  append_case e given wish is = absurd (let none = wish.1 in cc)
 
   asked : (m : ℕ) (cmd : Cmd) (given : Reply) → host.cmd ≡ Some cmd → IsAskedOf host m (with_pending history pending) given → AsksPrefix host (with_pending history pending) cmd given
   asked m cmd given told says = record {
@@ -163,15 +133,11 @@ module _ (p : Params) (history : List File) (pending : Option File) (host : Host
   }
 
   ask_case : (cmd : Cmd) (given : Reply) → AsksPrefix host (with_pending history pending) cmd given → IsSoundAnswer p history pending host cmd given
-  ask_case Logplay given is = is
-  ask_case Mount given is = is
   ask_case (Mkdir path attr) given is = absurd (let none = is.is in cc)
   ask_case (Creat path size attr stripe fill) given is = absurd (let none = is.is in cc)
   ask_case (Cp path attr stripe bytes) given is = absurd (let none = is.is in cc)
-  ask_case (Verify path against) given is = is
-  ask_case (Read path offset count) given is = is
-  ask_case (Check entries) given is = is
   ask_case Fsck given is = absurd (let none = is.is in cc)
+  ask_case e given is = is
 
   decided : (why : Cause) (cmd : Cmd) → host.cmd ≡ Some cmd → IsDecided p host history pending (Err why) → IsAppendAnswer p history pending host cmd (reply.NotAppended why)
   decided why cmd told says =
@@ -186,12 +152,7 @@ module _ (p : Params) (history : List File) (pending : Option File) (host : Host
       }
   refused (cause.LongPath limit) cmd told says =
       inr (inl record { limit = limit; names = subst (λ (q : Params). NamesLong q host limit) says.super says.names; is = refl })
-  refused cause.BadStripe cmd told says = decided cause.BadStripe cmd told says
-  refused (cause.Exists kind) cmd told says = decided (cause.Exists kind) cmd told says
-  refused cause.NoParent cmd told says = decided cause.NoParent cmd told says
-  refused cause.ParentIsFile cmd told says = decided cause.ParentIsFile cmd told says
-  refused (cause.LogFull slots) cmd told says = decided (cause.LogFull slots) cmd told says
-  refused (cause.NoSpace units) cmd told says = decided (cause.NoSpace units) cmd told says
+  refused e cmd told says = decided e cmd told says
 
   sound_ruled : (cmd : Cmd) (given : Reply) → host.cmd ≡ Some cmd → Fits cmd given → ReplyAllowed given host (Sound p history pending) → IsSoundAnswer p history pending host cmd given
   sound_ruled cmd (reply.Appended seq) told fits says = append_case cmd (reply.Appended seq) fits tt
@@ -223,33 +184,23 @@ no_super p Halted fault super = super
 
 module _ (origin : Origin) (damage : Damage) (host : HostPast) where
   fault_case : (cmd : Cmd) (given : Reply) → (cmd ≡ Fsck → ⊥) → IsFaultAnswer damage given → OwnsDamaged cmd host origin damage → IsDamagedAnswer origin damage host cmd given
-  fault_case Logplay given other is owns = is
-  fault_case Mount given other is owns = is
   fault_case (Mkdir path attr) given other is owns = inl record { is = is; own = owns.own (_, refl); fits = owns.fits }
   fault_case (Creat path size attr stripe fill) given other is owns = inl record { is = is; own = owns.own (_, refl); fits = owns.fits }
   fault_case (Cp path attr stripe bytes) given other is owns = inl record { is = is; own = owns.own (_, refl); fits = owns.fits }
-  fault_case (Verify path against) given other is owns = is
-  fault_case (Read path offset count) given other is owns = is
-  fault_case (Check entries) given other is owns = is
   fault_case Fsck given other is owns = absurd (other refl)
+  fault_case e given other is owns = is
 
   -- a refusal
   refused_case : (cmd : Cmd) (given : Reply) → HasWish cmd → IsDamagedClient origin damage host given ⊎ IsDamagedLong origin damage host given → IsDamagedAnswer origin damage host cmd given
-  refused_case Logplay given wish is = absurd (let none = wish.1 in cc)
-  refused_case Mount given wish is = absurd (let none = wish.1 in cc)
   refused_case (Mkdir path attr) given wish is = inr is
   refused_case (Creat path size attr stripe fill) given wish is = inr is
   refused_case (Cp path attr stripe bytes) given wish is = inr is
-  refused_case (Verify path against) given wish is = absurd (let none = wish.1 in cc)
-  refused_case (Read path offset count) given wish is = absurd (let none = wish.1 in cc)
-  refused_case (Check entries) given wish is = absurd (let none = wish.1 in cc)
-  refused_case Fsck given wish is = absurd (let none = wish.1 in cc)
+  refused_case e given wish is = absurd (let none = wish.1 in cc)
 
   own_fault : (own : Damage) (given : Reply) → own ≡ damage → IsFaultAnswer own given → IsFaultAnswer damage given
   own_fault own given e is = subst (λ (d : Damage). IsFaultAnswer d given) e is
 
   damaged_ruled : (gate : ℕ) (cmd : Cmd) (given : Reply) → Fits cmd given → OwnsFault cmd host (Bad origin damage gate) given → ReplyAllowed given host (Bad origin damage gate) → IsDamagedAnswer origin damage host cmd given
-  damaged_ruled gate cmd (reply.Appended seq) fits owns says = absurd says
   damaged_ruled gate cmd (reply.NotAppended (cause.NotMaster me master)) fits owns says =
       refused_case cmd _ fits (inl record {
         master = master;
@@ -259,21 +210,6 @@ module _ (origin : Origin) (damage : Damage) (host : HostPast) where
       })
   damaged_ruled gate cmd (reply.NotAppended (cause.LongPath limit)) fits owns says =
       refused_case cmd _ fits (inr record { params = says.params; super = says.super; limit = limit; names = says.names; is = refl })
-  damaged_ruled gate cmd (reply.NotAppended cause.BadStripe) fits owns says = absurd says
-  damaged_ruled gate cmd (reply.NotAppended (cause.Exists kind)) fits owns says = absurd says
-  damaged_ruled gate cmd (reply.NotAppended cause.NoParent) fits owns says = absurd says
-  damaged_ruled gate cmd (reply.NotAppended cause.ParentIsFile) fits owns says = absurd says
-  damaged_ruled gate cmd (reply.NotAppended (cause.LogFull slots)) fits owns says = absurd says
-  damaged_ruled gate cmd (reply.NotAppended (cause.NoSpace units)) fits owns says = absurd says
-  damaged_ruled gate cmd (reply.Played m tree) fits owns says = absurd says
-  damaged_ruled gate cmd (reply.Mounted m) fits owns says = absurd says
-  damaged_ruled gate cmd (reply.Same m) fits owns says = absurd says
-  damaged_ruled gate cmd (reply.Differs m offset found wanted) fits owns says = absurd says
-  damaged_ruled gate cmd (reply.Length m size wanted) fits owns says = absurd says
-  damaged_ruled gate cmd (reply.Bytes m bytes) fits owns says = absurd says
-  damaged_ruled gate cmd (reply.NotFound m) fits owns says = absurd says
-  damaged_ruled gate cmd (reply.IsDirectory m) fits owns says = absurd says
-  damaged_ruled gate cmd (reply.Checks m checked) fits owns says = absurd says
   damaged_ruled gate cmd (reply.Reports report) fits owns says = subst (λ (c : Cmd). IsDamagedAnswer origin damage host c (reply.Reports report)) (sym fits) (ap reply.Reports says)
   damaged_ruled gate cmd (reply.NoSuperblock fault) fits owns says =
       fault_case cmd _ fits (own_fault (past.NoSuperblock fault) (reply.NoSuperblock fault) says refl)
@@ -283,6 +219,7 @@ module _ (origin : Origin) (damage : Damage) (host : HostPast) where
       }
   damaged_ruled gate cmd (reply.BadHeader fault) fits owns says = fault_case cmd _ fits (own_fault (past.BadHeader fault) (reply.BadHeader fault) says refl) (owns.header fault refl)
   damaged_ruled gate cmd (reply.BadSlot i reason) fits owns says = fault_case cmd _ fits (own_fault (past.BadSlot i reason) (reply.BadSlot i reason) says refl) (owns.slot i reason refl)
+  damaged_ruled gate cmd e fits owns says = absurd says
 
 pub ruled : (state : State) (host : HostPast) (cmd : Cmd) (given : Reply) → host.cmd ≡ Some cmd → Fits cmd given → OwnsFault cmd host state given → ReplyAllowed given host state → IsRuled state host cmd given
 ruled (Sound p history pending) host cmd given told fits owns says = sound_ruled p history pending host cmd given told fits says

@@ -27,7 +27,7 @@ use Rattle.fam_journal.specs.Laws.{NoneEnds}
 use Rattle.fam_journal.specs.Machines.{Done, Fails, HostState, Machines, Operation, Outcome, Passes, TaskState, cut, host_done, machine_of, notes_of, op_done, operation, served, task_done}
 use Rattle.fam_journal.specs.Notes.{Note}
 use Rattle.fam_journal.specs.Past as past
-use Rattle.fam_journal.specs.Past.{Bad, Damage, FewLines, Origin, Past, State, first_past, past_behind, past_of}
+use Rattle.fam_journal.specs.Past.{Bad, Damage, FewLines, Origin, Past, State, first_past, past_of}
 use Rattle.fam_journal.specs.View.{HostView}
 use Rattle.fam_journal.proofs.Calls.Keeping.{same_cache}
 use Rattle.fam_journal.proofs.Calls.MkfsRows.{whole}
@@ -76,10 +76,7 @@ cut_memory h m (Some failure) x is = (failure, refl, sym (ap (λ (z : Done). z.l
 -- its notes end no history
 row_ends : (h : ℕ) (note : row.RowNote) → NoneEnds (notes_of h note)
 row_ends h row.Quiet = tt
-row_ends h row.Mark = (refl, tt)
-row_ends h (row.Found n) = (refl, tt)
-row_ends h (row.Writing seq e) = (refl, tt)
-row_ends h (row.Answer reply) = (refl, tt)
+row_ends h e = (refl, tt)
 
 served_ends : (h : ℕ) (m : Machines) (host : HostState) (t : TaskState) (op : Op) (o : Option row.RowNote) (x : Done) → served h m host t op o ≡ Some x → NoneEnds x.notes
 served_ends h m host t op None x is = absurd cc
@@ -161,17 +158,14 @@ module _ (start : Image) (state : Machines) (journal : List Note) (kept : Reache
   act_stays (call.Makes name request) h host at (inl x) = make_stays h host at request.halt _ request.force x
   act_stays (call.Makes name request) h host at (inr x) =
       ap memory_in x.left ∙ read_stays (machine_of state host) kept.held.normal (λ l below dirty. nothing_sent start state journal kept origin damage gate is h host at l dirty)
-  act_stays (call.Begins name cmd) h host at x = ap memory_in x.1
   act_stays (call.Steps name) h host at x = (operation_stays start h state journal kept origin damage gate is notes new x).memory
   act_stays (call.Finishes name) h host at x = operates_stay start h x.count state journal kept origin damage gate is notes new x.does
-  act_stays (call.Stops name) h host at x = ap memory_in x.1
-  act_stays (call.Halts name) h host at x = ap memory_in x.1
-  act_stays (call.Umounts name) h host at x = ap memory_in x.1
   act_stays (call.Moves name line move) h host at (inl x) =
       ap memory_in x.left ∙ moved_still (machine_of state host) kept.held.normal (nothing_sent start state journal kept origin damage gate is h host at) move line
   act_stays (call.Moves name line move) h host at (inr x) =
       ap memory_in x.left ∙ move_failed_still (machine_of state host) kept.held.normal (nothing_sent start state journal kept origin damage gate is h host at) move line x.through x.image x.fails
   act_stays (call.Refuses name cause) h host at x = absurd x
+  act_stays e h host at x = ap memory_in x.1
 
   acts_of_stay : (c : Call) → ActsOf c state notes new → new.memory ≡ state.memory
   acts_of_stay c x = by_number (number_of (name_of c) state) x
@@ -187,14 +181,7 @@ module _ (start : Image) (state : Machines) (journal : List Note) (kept : Reache
   acts_stay : (c : Call) → Acts c state notes new → new.memory ≡ state.memory
   acts_stay (call.Declares name uuid) x = ap memory_in x.1
   acts_stay (call.Refuses name cause) x = ap memory_in x.1
-  acts_stay (call.Makes name request) x = acts_of_stay (call.Makes name request) x
-  acts_stay (call.Begins name cmd) x = acts_of_stay (call.Begins name cmd) x
-  acts_stay (call.Steps name) x = acts_of_stay (call.Steps name) x
-  acts_stay (call.Finishes name) x = acts_of_stay (call.Finishes name) x
-  acts_stay (call.Stops name) x = acts_of_stay (call.Stops name) x
-  acts_stay (call.Halts name) x = acts_of_stay (call.Halts name) x
-  acts_stay (call.Umounts name) x = acts_of_stay (call.Umounts name) x
-  acts_stay (call.Moves name line move) x = acts_of_stay (call.Moves name line move) x
+  acts_stay e x = acts_of_stay e x
 
   pub does_stay : (c : Call) → Does c state notes new → new.memory ≡ state.memory
   does_stay c x = by_refusal (refusal_of c state) x

@@ -8,7 +8,6 @@ use Rattle.fam_base.specs.declared.cmd.Cmd.{Cmd}
 use Rattle.fam_base.specs.declared.cmd.Cmd.TheVariants as cmd
 use Rattle.fam_base.specs.declared.entry.Entry.{Entry}
 use Rattle.fam_base.specs.declared.entry.Params.{Params}
-use Rattle.fam_machine.specs.MkfsRequest.{mkfs_request}
 use Rattle.fam_format.specs.declared.faults.SuperFault.{SuperFault}
 use Rattle.fam_machine.specs.declared.op.Op.{Op}
 use Rattle.fam_machine.specs.Operations.{Breaking, Failure, failed}
@@ -148,16 +147,13 @@ module _ (old : Machines) (a b : List Note) (m n : Machines) (clean_a : IsFaultl
   one_act_at (call.Makes name request) h host (inl x) (inr y) = absurd (met_or_made request.force _ y.other (goes_free old m a request.halt h _ request.force host x) y.unforced y.stands)
   one_act_at (call.Makes name request) h host (inr x) (inl y) = absurd (met_or_made request.force _ x.other (goes_free old n b request.halt h _ request.force host y) x.unforced x.stands)
   one_act_at (call.Makes name request) h host (inr x) (inr y) = one_meeting h _ request.force name host x y
-  one_act_at (call.Begins name c) h host x y = same_by x.0 x.1 y.0 y.1
   one_act_at (call.Steps name) h host x y = one_operation h old a b m n x y clean_a clean_b
   one_act_at (call.Finishes name) h host x y = one_complete h old a b m n x y clean_a clean_b
-  one_act_at (call.Stops name) h host x y = same_by x.0 x.1 y.0 y.1
-  one_act_at (call.Halts name) h host x y = same_by x.0 x.1 y.0 y.1
-  one_act_at (call.Umounts name) h host x y = same_by x.0 x.1 y.0 y.1
   one_act_at (call.Moves name line move) h host (inl x) (inl y) = same_by x.notes_are x.left y.notes_are y.left
   one_act_at (call.Moves name line move) h host (inl x) (inr y) = absurd (not_clean _ b y.notes_are refl clean_b)
   one_act_at (call.Moves name line move) h host (inr x) y = absurd (not_clean _ a x.notes_are refl clean_a)
   one_act_at (call.Refuses name cause) h host x y = absurd x
+  one_act_at e h host x y = same_by x.0 x.1 y.0 y.1
 
   at_host : (c : Call) (h : ℕ) (o : Option HostState) → OnHost o (λ host. ActsAt c h host old a m) → OnHost o (λ host. ActsAt c h host old b n) → Same a b m n
   at_host c h None x y = absurd x
@@ -290,8 +286,6 @@ module _ (one_listing : OneListing) where
       record { notes_are = x.notes_are ∙ ap (λ (c : Refusal). Rattle.fam_journal.specs.Notes.Refused name c ∷ []) e ∙ sym y.notes_are; states_are = x.same ∙ sym y.same }
 
   one_event : (files : Files) (e : Event) (old : Session) (a b : List Note) (m n : Session) → IsFaultless a → IsFaultless b → DoesEvent files e old a m → DoesEvent files e old b n → AreSame a b m n
-  one_event files (event.Host name uuid) old a b m n clean_a clean_b x y = one_plain files old a b m n clean_a clean_b (call.Declares name uuid) x y
-  one_event files (event.Mkfs name fs unit log format force halt) old a b m n clean_a clean_b x y = one_plain files old a b m n clean_a clean_b (call.Makes name (mkfs_request fs unit log format force halt)) x y
   one_event files (event.Begin name what) old a b m n clean_a clean_b (inl x) (inl y) = one_begun files old a b m n clean_a clean_b name what x y
   one_event files (event.Begin name what) old a b m n clean_a clean_b (inl x) (inr y) = absurd (begun_or_refused files name what old a b m n x y)
   one_event files (event.Begin name what) old a b m n clean_a clean_b (inr x) (inl y) = absurd (begun_or_refused files name what old b a n m y x)
@@ -304,13 +298,7 @@ module _ (one_listing : OneListing) where
   one_event files (event.Step name count) old a b m n clean_a clean_b (inl x) (inr y) = absurd (steps_or_not count name old a b m n x y)
   one_event files (event.Step name count) old a b m n clean_a clean_b (inr x) (inl y) = absurd (steps_or_not count name old b a n m y x)
   one_event files (event.Step name count) old a b m n clean_a clean_b (inr x) (inr y) = one_not_step name old a b m n x y
-  one_event files (event.Finish name) old a b m n clean_a clean_b x y = one_plain files old a b m n clean_a clean_b (call.Finishes name) x y
-  one_event files (event.Stop name) old a b m n clean_a clean_b x y = one_plain files old a b m n clean_a clean_b (call.Stops name) x y
-  one_event files (event.Halt name) old a b m n clean_a clean_b x y = one_plain files old a b m n clean_a clean_b (call.Halts name) x y
-  one_event files (event.Umount name) old a b m n clean_a clean_b x y = one_plain files old a b m n clean_a clean_b (call.Umounts name) x y
-  one_event files (event.Evict name line) old a b m n clean_a clean_b x y = one_plain files old a b m n clean_a clean_b (call.Moves name line.0 _) x y
-  one_event files (event.Leak name line mask) old a b m n clean_a clean_b x y = one_plain files old a b m n clean_a clean_b (call.Moves name line.0 _) x y
-  one_event files (event.Fetch name line mask) old a b m n clean_a clean_b x y = one_plain files old a b m n clean_a clean_b (call.Moves name line.0 _) x y
+  one_event files e old a b m n clean_a clean_b x y = one_plain files old a b m n clean_a clean_b _ x y
 
   -- all events
   pub one_journal : (files : Files) (events : List Event) (old : Session) (a b : List Note) (m n : Session) → IsFaultless a → IsFaultless b → Follows files events old a m → Follows files events old b n → AreSame a b m n

@@ -19,7 +19,7 @@ use Rattle.fam_rules.specs.Asks.{File}
 use Rattle.fam_rules.specs.Reply.{Reply}
 use Rattle.fam_journal.specs.Laws.{IsOwn}
 use Rattle.fam_journal.proofs.Settled.ReplyCases.{replied_by}
-use Rattle.fam_journal.specs.Notes.{Answer, Replied, MediaFault, Note, Host, Made, Cut, Start, Mark, Found, Writes, Answered, Stop, Halt, Umount, Refused}
+use Rattle.fam_journal.specs.Notes.{Answer, Replied, MediaFault, Note, Made, Cut, Found, Writes, Answered}
 use Rattle.fam_journal.specs.Past.{Damage, FewLines, NoSuperblock, Given, Halted, Origin, State, Bad, Sound, Past, acknowledges, ended, finds, first_past, first_state, past_after, past_behind, past_of, pends, replied, shows, state_after, state_read, with_pending}
 
 -- no sound state is bad
@@ -63,18 +63,12 @@ module _ (i : Image) (d : Damage) (g : ℕ) where
   was_cut false s e = absurd cc
 
   was_before : (x : Past) (note : Note) → state_after x note ≡ Bad (Given i) d g → x.state ≡ Bad (Given i) d g
-  was_before x (Host name uuid) e = e
   was_before x (Made h p) e = absurd (no_bad e)
   was_before x (Cut h k) e = was_cut (nat_lt k first_sent) x.state e
-  was_before x (Start h cmd) e = e
-  was_before x (Mark h) e = e
   was_before x (Found h n) e = was_found n x.state e
   was_before x (Writes h seq entry) e = was_pending _ x.state e
   was_before x (Answered h answer) e = was_ended answer x.state e
-  was_before x (Stop h) e = e
-  was_before x (Halt h) e = e
-  was_before x (Umount h) e = e
-  was_before x (Refused name cause) e = e
+  was_before x c e = e
 
   was_first : (notes : List Note) (x : Past) → (past_behind x notes).state ≡ Bad (Given i) d g → x.state ≡ Bad (Given i) d g
   was_first [] x e = e
@@ -93,9 +87,7 @@ module _ (start image : Image) (damage : Damage) (gate : ℕ) where
 
   read_own : (r : Reading) → image_in (state_read start r) ≡ start
   read_own (read.NoSuperblock fault) = refl
-  read_own (read.BadHeader fault) = refl
-  read_own (read.BadSlot i reason) = refl
-  read_own (read.Sound p entries) = refl
+  read_own e = refl
 
   first_own : (few : Bool) → image_in (if few then Bad (Given start) (FewLines (length start)) 0 else state_read start (reading start)) ≡ start
   first_own true = refl

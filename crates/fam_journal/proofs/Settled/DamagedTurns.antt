@@ -36,16 +36,11 @@ replied_bad i d g = replied_by (λ f. f (Bad i d g) ≡ Bad i d g) refl (λ m. r
 
 turn_keeps_bad : (image : Lines) (turn : Turn) (d : Damage) → turn_settles turn (settled_bad image d) ≡ settled_bad image d
 turn_keeps_bad image turn (FewLines lines) = refl
-turn_keeps_bad image turn (past.NoSuperblock fault) = refl
-turn_keeps_bad image turn (past.BadHeader fault) = refl
-turn_keeps_bad image turn (past.BadSlot i reason) = refl
+turn_keeps_bad image turn e = refl
 
 pub bad_stays : (start : Image) (hosts : List HostPast) (h : ℕ) (i : Origin) (d : Damage) (g : ℕ) (turn : Turn) → (past_behind (record { start = start; state = Bad i d g; hosts = hosts }) (notes_of h (note_of turn))).state ≡ Bad i d g
-bad_stays start hosts h i d g (Goes next) = refl
-bad_stays start hosts h i d g (Marks next) = refl
-bad_stays start hosts h i d g (Finds n next) = refl
-bad_stays start hosts h i d g (Writes seq e next) = refl
 bad_stays start hosts h i d g (Ends given) = replied_bad i d g given
+bad_stays start hosts h i d g e = refl
 
 pub bad_settles : (now : Lines) (start : Image) (hosts : List HostPast) (h : ℕ) (i : Origin) (d : Damage) (g : ℕ) (turn : Turn)
     → settled_of (past_behind (record { start = start; state = Bad i d g; hosts = hosts }) (notes_of h (note_of turn))).state now ≡ turn_settles turn (settled_of (Bad i d g) now)
@@ -102,27 +97,12 @@ module _ (first start : Image) (state : State) (hosts : List HostPast) (h : ℕ)
     super = subst (HasSuper a.params) (sym state_is) (super_by a.params (reading_of (line_at start) have) a.super refl);
     names = names_long a.params t told limit cmd_is me a.is;
   }
-  reply_legal (reply.NotAppended refused.BadStripe) a = absurd a
-  reply_legal (reply.NotAppended (refused.Exists kind)) a = absurd a
-  reply_legal (reply.NotAppended refused.NoParent) a = absurd a
-  reply_legal (reply.NotAppended refused.ParentIsFile) a = absurd a
-  reply_legal (reply.NotAppended (refused.LogFull slots)) a = absurd a
-  reply_legal (reply.NotAppended (refused.NoSpace units)) a = absurd a
   reply_legal (reply.Reports report) a =
       subst (λ (s : State). ReportAllowed report told s) (sym state_is) (report_by report (reading_of (line_at start) have) refl a)
   reply_legal (reply.NoSuperblock fault) a = super_fault (reading_of (line_at start) have) (reply.NoSuperblock fault) refl a
   reply_legal (reply.BadHeader fault) a = super_fault (reading_of (line_at start) have) (reply.BadHeader fault) refl a
   reply_legal (reply.BadSlot i reason) a = super_fault (reading_of (line_at start) have) (reply.BadSlot i reason) refl a
-  reply_legal (reply.Appended seq) a = absurd a
-  reply_legal (reply.Played m tree) a = absurd a
-  reply_legal (reply.Mounted m) a = absurd a
-  reply_legal (reply.Same m) a = absurd a
-  reply_legal (reply.Differs m offset found wanted) a = absurd a
-  reply_legal (reply.Length m size wanted) a = absurd a
-  reply_legal (reply.Bytes m bytes) a = absurd a
-  reply_legal (reply.NotFound m) a = absurd a
-  reply_legal (reply.IsDirectory m) a = absurd a
-  reply_legal (reply.Checks m checked) a = absurd a
+  reply_legal e a = absurd a
 
   pub damaged_legal : (turn : Turn) → MaySayBad turn (line_at start) have t → LegalBehind (record { start = first; state = state; hosts = hosts }) (notes_of h (note_of turn))
   damaged_legal (Goes next) may = tt
@@ -147,12 +127,6 @@ module _ (first : Image) (now : Lines) (have : ℕ) (damage : Damage) (gate : �
   reply_cleared : (given : Reply) → MayReplyBad given now have t → ReplyAllowed given told (Bad Halted damage gate)
   reply_cleared (reply.NotAppended (refused.NotMaster own master)) a = absurd (not_super now a.params (super.NoSuper 0) have a.super none)
   reply_cleared (reply.NotAppended (refused.LongPath limit)) a = absurd (not_super now a.params (super.NoSuper 0) have a.super none)
-  reply_cleared (reply.NotAppended refused.BadStripe) a = absurd a
-  reply_cleared (reply.NotAppended (refused.Exists kind)) a = absurd a
-  reply_cleared (reply.NotAppended refused.NoParent) a = absurd a
-  reply_cleared (reply.NotAppended refused.ParentIsFile) a = absurd a
-  reply_cleared (reply.NotAppended (refused.LogFull slots)) a = absurd a
-  reply_cleared (reply.NotAppended (refused.NoSpace units)) a = absurd a
   reply_cleared (reply.Reports report) a = a ∙ report_cleared now have cleared.word
   reply_cleared (reply.NoSuperblock fault) a =
       let same : Some (reply.NoSuperblock fault) ≡ Some (reply.NoSuperblock (super.NoSuper 0)) = sym a ∙ ap fault_of none in
@@ -160,16 +134,7 @@ module _ (first : Image) (now : Lines) (have : ℕ) (damage : Damage) (gate : �
       ap past.NoSuperblock fault_is ∙ sym cleared.damage_is
   reply_cleared (reply.BadHeader fault) a = absurd (let same : Some (reply.BadHeader fault) ≡ Some (reply.NoSuperblock (super.NoSuper 0)) = sym a ∙ ap fault_of none in cc)
   reply_cleared (reply.BadSlot i reason) a = absurd (let same : Some (reply.BadSlot i reason) ≡ Some (reply.NoSuperblock (super.NoSuper 0)) = sym a ∙ ap fault_of none in cc)
-  reply_cleared (reply.Appended seq) a = absurd a
-  reply_cleared (reply.Played m tree) a = absurd a
-  reply_cleared (reply.Mounted m) a = absurd a
-  reply_cleared (reply.Same m) a = absurd a
-  reply_cleared (reply.Differs m offset found wanted) a = absurd a
-  reply_cleared (reply.Length m size wanted) a = absurd a
-  reply_cleared (reply.Bytes m bytes) a = absurd a
-  reply_cleared (reply.NotFound m) a = absurd a
-  reply_cleared (reply.IsDirectory m) a = absurd a
-  reply_cleared (reply.Checks m checked) a = absurd a
+  reply_cleared e a = absurd a
 
   pub cleared_legal : (turn : Turn) → MaySayBad turn now have t → LegalBehind (record { start = first; state = Bad Halted damage gate; hosts = hosts }) (notes_of h (note_of turn))
   cleared_legal (Goes next) may = tt

@@ -1,8 +1,6 @@
 -- Paths for which a slot has no room: what the protocol says of a task's is what the journal says of its host's; and the
 -- task goes on behind the superblock only where it has none.
-use Rattle.std.proofs.Common.{◌≡◌, ◌≤◌, ℕ, Bool, true, false, List, length, Option, Some, None, refl, ap, sym, ◌∙◌, subst, arith}
-use Rattle.std.specs.Prelude.{nat_le, if◌then◌else◌}
-use Rattle.std.proofs.lemmas.Bool.Decides.{nat_tests}
+use Rattle.std.proofs.Common.{◌≡◌, ◌≤◌, ℕ, List, length, Option, Some, None, ap, sym, ◌∙◌, subst, arith}
 use Rattle.std.proofs.lemmas.Option.{same_Some}
 use Rattle.fam_base.specs.declared.cmd.Cmd.{Cmd}
 use Rattle.fam_base.specs.declared.entry.Params.{Params}
@@ -15,9 +13,9 @@ use Rattle.fam_commands.proofs.Steps.Ties.{TieAt}
 use Rattle.fam_commands.specs.Task.{Task}
 use Rattle.fam_commands.specs.Turns.{host_refusal}
 use Rattle.fam_rules.specs.declared.answers.Refused.{Refused}
-use Rattle.fam_rules.specs.declared.answers.Refused.TheVariants as cause
 use Rattle.fam_rules.specs.Decide.{Wish, first_refusal, length_refusal, master_refusal, wish_of}
-use Rattle.fam_rules.specs.DecideLaws.{FitsSlot, IsTooLong}
+use Rattle.fam_rules.specs.DecideLaws.{IsTooLong}
+use Rattle.fam_rules.proofs.RefusalTests.{length_none}
 use Rattle.fam_protocol.specs.After.{NamesLongPath}
 use Rattle.fam_journal.specs.Legal.{NamesLong}
 use Rattle.fam_journal.specs.Past.{HostPast}
@@ -31,18 +29,11 @@ behind_none : (first behind : Option Refused) → first_refusal first behind ≡
 behind_none None behind none = none
 behind_none (Some refused) behind none = absurd cc
 
-fits_slot : (p : Params) (path : List ℕ) → length_refusal p path ≡ None → FitsSlot p path
-fits_slot p path none = by_test (nat_le (length path) (geometry p).path_limit) refl none
-  where
-    by_test : (b : Bool) → nat_le (length path) (geometry p).path_limit ≡ b → (if b then None else Some (cause.LongPath (geometry p).path_limit)) ≡ None → FitsSlot p path
-    by_test true is none = grind (arith, nat_tests, is)
-    by_test false is none = absurd cc
-
 pub none_long : (p : Params) (cmd : Cmd) (me : List ℕ) (told : HostPast) (limit : ℕ) → told.cmd ≡ Some cmd → host_refusal (wish_of cmd) p me ≡ None → NamesLong p told limit → ⊥
 none_long p cmd me told limit cmd_is free names =
     let wished : wish_of cmd ≡ Some names.wish = ap wish_of (same_Some cmd names.cmd (sym cmd_is ∙ names.told)) ∙ names.wished in
     let goes : host_refusal (Some names.wish) p me ≡ None = ap (λ (o : Option Wish). host_refusal o p me) (sym wished) ∙ free in
-    let fits : length names.wish.path ≤ (geometry p).path_limit = fits_slot p names.wish.path (behind_none (master_refusal p me) (length_refusal p names.wish.path) goes) in
+    let fits : length names.wish.path ≤ (geometry p).path_limit = length_none p names.wish.path (behind_none (master_refusal p me) (length_refusal p names.wish.path) goes) names.is.format in
     absurd (omega (arith, fits, names.is.long, names.is.limit_is))
 
 -- the host may go on, behind the superblock
@@ -61,11 +52,4 @@ behind_free at.DropGate t words made behind tie = tie.0.head.host
 behind_free at.Gate t words made behind tie = tie.0.head.host
 behind_free (at.Check i) t words made behind tie = tie.0.gated.log.head.host
 behind_free at.Decide t words made behind tie = tie.0.gated.log.head.host
-behind_free (at.StoreData j k) t words made behind tie = tie.0.slots.gated.log.head.host
-behind_free (at.SendData j) t words made behind tie = tie.0.slots.gated.log.head.host
-behind_free (at.StoreSlot j k) t words made behind tie = tie.0.slots.gated.log.head.host
-behind_free (at.SendSlot j) t words made behind tie = tie.0.slots.gated.log.head.host
-behind_free at.StoreGate t words made behind tie = tie.0.slots.gated.log.head.host
-behind_free at.FenceSlot t words made behind tie = tie.0.slots.gated.log.head.host
-behind_free at.SendGate t words made behind tie = tie.0.slots.gated.log.head.host
-behind_free at.FenceGate t words made behind tie = tie.0.slots.gated.log.head.host
+behind_free e t words made behind tie = tie.0.slots.gated.log.head.host

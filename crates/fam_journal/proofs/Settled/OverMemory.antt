@@ -36,9 +36,7 @@ module _ (now : Lines) (lines : ℕ) (hosts : Hosts) (shared : SharedState) wher
 -- of a sound file system nothing is asked of memory
 bad_known : (now : Lines) (d : Damage) (p : Params) (all : List File) (settled : ℕ) → settled_bad now d ≡ Known p all settled → ⊥
 bad_known now (FewLines few) p all settled is = cc
-bad_known now (past.NoSuperblock fault) p all settled is = cc
-bad_known now (past.BadHeader fault) p all settled is = cc
-bad_known now (past.BadSlot i reason) p all settled is = cc
+bad_known now e p all settled is = cc
 
 pub known_free : (s : State) (now : Lines) (p : Params) (all : List File) (settled : ℕ) → settled_of s now ≡ Known p all settled → IfHalted s now
 known_free (Sound q history pending) now p all settled is = tt

@@ -52,14 +52,6 @@ pub record OwnsFault (cmd : Cmd) (host : HostPast) (state : State) (given : Repl
 -- Such an answer is given behind the superblock.
 
 behind_or : (p : Phase) → IsBeforeWrites p ⊎ IsBehindSuper p
-behind_or at.DropMagic = inl tt
-behind_or at.Magic = inl tt
-behind_or (at.Drop part j) = inl tt
-behind_or (at.Word part j k) = inl tt
-behind_or at.DropGate = inl tt
-behind_or at.Gate = inl tt
-behind_or (at.Check i) = inl tt
-behind_or at.Decide = inl tt
 behind_or (at.StoreData j k) = inr tt
 behind_or (at.SendData j) = inr tt
 behind_or (at.StoreSlot j k) = inr tt
@@ -68,6 +60,7 @@ behind_or at.StoreGate = inr tt
 behind_or at.FenceSlot = inr tt
 behind_or at.SendGate = inr tt
 behind_or at.FenceGate = inr tt
+behind_or e = inl tt
 
 module _ (t : Task) (word : ℕ) (given : Reply) (is : turn_given t word ≡ Ends given) where
   says_end : IsBeforeWrites t.phase → EndsAt t.phase t.cmd given
@@ -102,14 +95,7 @@ behind_known at.DropGate image have h t s behind a = a.2.super
 behind_known at.Gate image have h t s behind a = a.2.super
 behind_known (at.Check i) image have h t s behind a = a.0.header.super
 behind_known at.Decide image have h t s behind a = a.header.super
-behind_known (at.StoreData j k) image have h t s behind a = absurd a
-behind_known (at.SendData j) image have h t s behind a = absurd a
-behind_known (at.StoreSlot j k) image have h t s behind a = absurd a
-behind_known (at.SendSlot j) image have h t s behind a = absurd a
-behind_known at.StoreGate image have h t s behind a = absurd a
-behind_known at.FenceSlot image have h t s behind a = absurd a
-behind_known at.SendGate image have h t s behind a = absurd a
-behind_known at.FenceGate image have h t s behind a = absurd a
+behind_known e image have h t s behind a = absurd a
 
 module _ (lines : ℕ) (hosts : Hosts) (shared : SharedState) (h : ℕ) (r : Run) (run : hosts.run h ≡ Some r) (behind : IsBehindSuper r.task.phase) where
   known : (image : Image) → IsDamaged (line_at image) lines hosts shared → ReadsSuper (line_at image) (line_bytes * lines) r.task

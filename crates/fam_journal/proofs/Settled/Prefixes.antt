@@ -10,13 +10,13 @@ use Rattle.fam_format.specs.declared.faults.SuperFault.TheVariants as super
 use Rattle.fam_machine.specs.Mkfs.{first_sent}
 use Rattle.fam_rules.specs.Asks.{File, entries_of}
 use Rattle.fam_protocol.proofs.Settled.Lists.{entries_count}
-use Rattle.fam_rules.specs.Reply.{Reply, Appended, NotAppended, Played, Mounted, Same, Differs, Length, Bytes, NotFound, IsDirectory, Checks, Reports, NoSuperblock, BadHeader, BadSlot}
+use Rattle.fam_rules.specs.Reply.{Reply, Played, Mounted, Same, Differs, Length, Bytes, NotFound, IsDirectory, Checks, Reports, NoSuperblock}
 use Rattle.fam_journal.proofs.Settled.DamagedTurns.{replied_bad}
 use Rattle.fam_journal.proofs.Settled.ReplyCases.{replied_by}
 use Rattle.fam_journal.specs.Laws.{IsFree, IsPrefix, NoneEnds, TwoAnswers, entries_at, first_entries, history_at, second_entries}
 use Rattle.fam_journal.specs.Ends.{ends_history}
 use Rattle.fam_journal.specs.Legal.{Legal, OfHost, ReplyAllowed, WritesAllowed}
-use Rattle.fam_journal.specs.Notes.{Answer, Replied, MediaFault, Note, Host, Made, Cut, Start, Mark, Found, Writes, Answered, Stop, Halt, Umount, Refused}
+use Rattle.fam_journal.specs.Notes.{Answer, Replied, MediaFault, Note, Made, Cut, Found, Writes, Answered}
 use Rattle.fam_journal.specs.Past as past
 use Rattle.fam_journal.specs.Past.{Halted, HostPast, Origin, Past, State, Bad, Sound, acknowledges, count_of, ended, finds, first_past, past_after, past_behind, past_of, pends, replied, reported_count, shows, shows_count, state_after, with_pending}
 use Rattle.fam_journal.proofs.Settled.Journals.{legal_rest, past_both}
@@ -78,18 +78,12 @@ module _ (m : ℕ) where
   cut_keeps false s other within = absurd cc
 
   note_keeps : (x : Past) (note : Note) → ends_history note ≡ false → m ≤ length (history_at x.state) → Keeps m x.state (state_after x note)
-  note_keeps x (Host name uuid) other within = keeps_same m x.state within
   note_keeps x (Made h p) other within = absurd cc
   note_keeps x (Cut h k) other within = cut_keeps (nat_lt k first_sent) x.state other within
-  note_keeps x (Start h cmd) other within = keeps_same m x.state within
-  note_keeps x (Mark h) other within = keeps_same m x.state within
   note_keeps x (Found h n) other within = finds_keeps n x.state within
   note_keeps x (Writes h seq e) other within = pends_keeps _ x.state within
   note_keeps x (Answered h answer) other within = answer_keeps answer x.state within
-  note_keeps x (Stop h) other within = keeps_same m x.state within
-  note_keeps x (Halt h) other within = keeps_same m x.state within
-  note_keeps x (Umount h) other within = keeps_same m x.state within
-  note_keeps x (Refused name cause) other within = keeps_same m x.state within
+  note_keeps x e other within = keeps_same m x.state within
 
   notes_keep : (notes : List Note) (x : Past) → NoneEnds notes → m ≤ length (history_at x.state) → Keeps m x.state (past_behind x notes).state
   notes_keep [] x none within = keeps_same m x.state within
@@ -102,23 +96,16 @@ module _ (m : ℕ) where
 
 module _ where
   note_bad : (x : Past) (i : Origin) (d : Rattle.fam_journal.specs.Past.Damage) (g : ℕ) (note : Note) → ends_history note ≡ false → x.state ≡ Bad i d g → state_after x note ≡ Bad i d g
-  note_bad x i d g (Host name uuid) other is = is
   note_bad x i d g (Made h p) other is = absurd cc
   note_bad x i d g (Cut h k) other is = cut_bad (nat_lt k first_sent) x.state other is
     where
       cut_bad : (early : Bool) (s : State) → not early ≡ false → s ≡ Bad i d g → (if early then s else Bad Halted (past.NoSuperblock (super.NoSuper 0)) 0) ≡ Bad i d g
       cut_bad true s other is = is
       cut_bad false s other is = absurd cc
-  note_bad x i d g (Start h cmd) other is = is
-  note_bad x i d g (Mark h) other is = is
   note_bad x i d g (Found h n) other is = ap (finds n) is
   note_bad x i d g (Writes h seq e) other is = ap (pends _) is
   note_bad x i d g (Answered h (Replied given)) other is = ap (replied given) is ∙ replied_bad i d g given
-  note_bad x i d g (Answered h (MediaFault at)) other is = is
-  note_bad x i d g (Stop h) other is = is
-  note_bad x i d g (Halt h) other is = is
-  note_bad x i d g (Umount h) other is = is
-  note_bad x i d g (Refused name cause) other is = is
+  note_bad x i d g e other is = is
 
   pub notes_bad : (notes : List Note) (x : Past) (i : Origin) (d : Rattle.fam_journal.specs.Past.Damage) (g : ℕ) → NoneEnds notes → x.state ≡ Bad i d g → (past_behind x notes).state ≡ Bad i d g
   notes_bad [] x i d g none is = is
@@ -142,11 +129,7 @@ module _ (p : Params) (history : List File) (pending : Option File) where
       let count : length (entries_of (take a.m (with_pending history pending))) ≡ a.m = entries_count a.m (with_pending history pending) a.bounds.high in
       let read : length (entries_of (take a.m (with_pending history pending))) ≡ m = Rattle.std.proofs.lemmas.Option.same_Some _ m (sym (ap reported_count a.is.log) ∙ is) in
       omega (arith, count, read, a.bounds.high)
-  bound told (Appended seq) m a is = absurd cc
-  bound told (NotAppended why) m a is = absurd cc
-  bound told (NoSuperblock fault) m a is = absurd cc
-  bound told (BadHeader fault) m a is = absurd cc
-  bound told (BadSlot seq reason) m a is = absurd cc
+  bound told e m a is = absurd cc
 
   -- behind it these entries are in the history
   record Settled (m : ℕ) (s : State) : Type 0 where
@@ -179,11 +162,7 @@ counted (NotFound n) m s is = ap (λ k. shows k s) (Rattle.std.proofs.lemmas.Opt
 counted (IsDirectory n) m s is = ap (λ k. shows k s) (Rattle.std.proofs.lemmas.Option.same_Some n m is)
 counted (Checks n checked) m s is = ap (λ k. shows k s) (Rattle.std.proofs.lemmas.Option.same_Some n m is)
 counted (Reports report) m s is = ap (λ (o : Option ℕ). shows_count o s) is
-counted (Appended seq) m s is = absurd cc
-counted (NotAppended why) m s is = absurd cc
-counted (NoSuperblock fault) m s is = absurd cc
-counted (BadHeader fault) m s is = absurd cc
-counted (BadSlot seq reason) m s is = absurd cc
+counted e m s is = absurd cc
 
 -- with the pending entry behind
 entries_prefix : (m : ℕ) (s : State) → m ≤ length (history_at s) → take m (entries_at s) ≡ take m (history_at s)

@@ -1,7 +1,7 @@
 -- What a reply settles is nothing, what so many entries show, or an entry that is acknowledged. So what holds of these
 -- three holds of every reply.
 use Rattle.std.proofs.Common.{ℕ, Option, Some, None}
-use Rattle.fam_rules.specs.Reply.{Reply, Appended, NotAppended, Played, Mounted, Same, Differs, Length, Bytes, NotFound, IsDirectory, Checks, Reports, NoSuperblock, BadHeader, BadSlot}
+use Rattle.fam_rules.specs.Reply.{Reply, Appended, Played, Mounted, Same, Differs, Length, Bytes, NotFound, IsDirectory, Checks, Reports}
 use Rattle.fam_journal.specs.Past.{State, acknowledges, replied, reported_count, shows, shows_count}
 
 module _ (P : (State → State) → Type 0) (nothing : P (λ s. s)) (shown : (m : ℕ) → P (shows m)) (acknowledged : (seq : ℕ) → P (acknowledges seq)) where
@@ -11,7 +11,6 @@ module _ (P : (State → State) → Type 0) (nothing : P (λ s. s)) (shown : (m 
 
   pub replied_by : (given : Reply) → P (replied given)
   replied_by (Appended seq) = acknowledged seq
-  replied_by (NotAppended why) = nothing
   replied_by (Played m tree) = shown m
   replied_by (Mounted m) = shown m
   replied_by (Same m) = shown m
@@ -22,6 +21,4 @@ module _ (P : (State → State) → Type 0) (nothing : P (λ s. s)) (shown : (m 
   replied_by (IsDirectory m) = shown m
   replied_by (Checks m checked) = shown m
   replied_by (Reports report) = counted_by (reported_count report.log)
-  replied_by (NoSuperblock fault) = nothing
-  replied_by (BadHeader fault) = nothing
-  replied_by (BadSlot seq reason) = nothing
+  replied_by e = nothing

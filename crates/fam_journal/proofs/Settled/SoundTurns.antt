@@ -115,12 +115,7 @@ module _ (p : Params) (history : List File) (pending : Option File) (start : Ima
   cause_allowed : (why : Refused) → MayRefuse why sys t all (length history) → CauseAllowed why told (Sound p history pending)
   cause_allowed (refused.NotMaster own other) a = record { me_is = a.me_is ∙ sym me; master_is = ap Some (sym a.master_is); other = a.other }
   cause_allowed (refused.LongPath limit) a = record { params = p; super = refl; names = names_long p t told limit cmd_is me a }
-  cause_allowed refused.BadStripe a = decided (Err refused.BadStripe) (sym a.settled_is) a.is
-  cause_allowed (refused.Exists kind) a = decided (Err (refused.Exists kind)) (sym a.settled_is) a.is
-  cause_allowed refused.NoParent a = decided (Err refused.NoParent) (sym a.settled_is) a.is
-  cause_allowed refused.ParentIsFile a = decided (Err refused.ParentIsFile) (sym a.settled_is) a.is
-  cause_allowed (refused.LogFull slots) a = decided (Err (refused.LogFull slots)) (sym a.settled_is) a.is
-  cause_allowed (refused.NoSpace units) a = decided (Err (refused.NoSpace units)) (sym a.settled_is) a.is
+  cause_allowed e a = decided (Err e) (sym a.settled_is) a.is
 
   bounds_of : (m : ℕ) (o : Option ℕ) → told.floor ≡ o → IsAtLeast o m → m ≤ length all → InBounds told m all
   bounds_of m None is low high = absurd low
@@ -137,19 +132,11 @@ module _ (p : Params) (history : List File) (pending : Option File) (start : Ima
       subst (λ (s : State). Rattle.fam_journal.specs.Legal.AppendedAllowed seq told s) (sym (acknowledged p history seq pending a.count))
       record { entry = a.file.entry; named = a.named; count = a.count; last = ap (option_map (λ (f : File). f.entry)) a.last }
   reply_allowed (NotAppended why) a = cause_allowed why a
-  reply_allowed (Played m tree) a = asked (Played m tree) a
-  reply_allowed (Mounted m) a = asked (Mounted m) a
-  reply_allowed (Same m) a = asked (Same m) a
-  reply_allowed (Differs m offset found wanted) a = asked (Differs m offset found wanted) a
-  reply_allowed (Length m size wanted) a = asked (Length m size wanted) a
-  reply_allowed (Bytes m bytes) a = asked (Bytes m bytes) a
-  reply_allowed (NotFound m) a = asked (NotFound m) a
-  reply_allowed (IsDirectory m) a = asked (IsDirectory m) a
-  reply_allowed (Checks m checked) a = asked (Checks m checked) a
   reply_allowed (Reports report) a = reported report a
   reply_allowed (NoSuperblock fault) a = absurd a
   reply_allowed (BadHeader fault) a = absurd a
   reply_allowed (BadSlot seq reason) a = absurd a
+  reply_allowed e a = asked e a
 
   of_host : (P : HostPast → Type 0) → P told → OfHost (slice_get hosts h) P
   of_host P is = subst (λ (o : Option HostPast). OfHost o P) (sym host_is) is

@@ -1,9 +1,9 @@
 //! Events of a mailbox's script, done one by one.
 
-ghost use Rattle.std.specs.Prelude.{◌≡◌, List, Option, Some, ℕ};
+ghost use Rattle.std.specs.Prelude.{◌≡◌, List, ℕ};
 ghost use Rattle.fam_base.specs.Image.{Image};
 ghost use Rattle.fam_media.specs.Causes.{IsSteady};
-ghost use Rattle.fam_media.specs.States.{MediaState, change};
+ghost use Rattle.fam_media.specs.States.{change};
 ghost use Rattle.fam_mail.specs.Calls.{WorldFits};
 ghost use Rattle.fam_mail.specs.Follows.{IsSoundEvent, IsSoundAsk};
 ghost use Rattle.fam_mail.specs.Happens.{EventSays, HasRun, RunsOn, outcome};

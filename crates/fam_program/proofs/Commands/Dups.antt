@@ -1,19 +1,21 @@
 -- Copies of file systems, as the clause of the top call tells them.
 use Rattle.std.proofs.Common.{◌≡◌, ◌≤◌, ℕ, List, Option, Some, None, Result, inl, inr, refl, sym, ap, subst, arith}
-use Rattle.std.specs.Prelude.{◌&&◌, Bool, true, false, IfErr, IsTrue}
+use Rattle.std.specs.Prelude.{◌&&◌, Bool, true, false, IfErr, IsTrue, OnOk, Ok, Err}
 use Rattle.std.proofs.lemmas.Bool.{false≢true}
 use Rattle.fam_base.specs.declared.entry.Params.{Params}
 use Rattle.fam_dup.specs.declared.fault.DupFault.{DupFault}
-use Rattle.fam_dup.specs.Ends.{AreAsked, DupEnds, IsCaused, NamesLine}
+use Rattle.fam_dup.specs.Ends.{AreAsked, DupEnds, IsAskedIn, IsCaused, NamesLine, from_counted, to_counted}
+use Rattle.fam_dup.specs.Findings.{FaultClass, class_of}
 use Rattle.fam_format.specs.Params.{is_format, is_log_length, is_unit}
 use Rattle.fam_journal.specs.declared.refusal.Refusal.TheVariants as why
 use Rattle.fam_machine.specs.declared.request.MkfsRequest.{MkfsRequest}
 use Rattle.fam_machine.specs.Mkfs.{asked, is_geometry}
+use Rattle.fam_media.specs.Outside.{IfModelled}
 use Rattle.fam_media.specs.States.{MediaState}
 use Rattle.fam_outcomes.specs.declared.status.Status.{Status}
 use Rattle.fam_outcomes.specs.declared.status.Status.TheVariants as status
 use Rattle.fam_outcomes.specs.Programs.{memory_line, usage_line}
-use Rattle.fam_program.specs.Dups.{BadSizes, CopyAsked, CopyOutOfMemory, CopyOutside, DupTop, EarlyCopy, HasBadSizes, IsEarlyCopy, NoCopy, OfImages, PutDup, PutMade, copy_params, early_copy_status, early_copy_text, refused_line}
+use Rattle.fam_program.specs.Dups.{BadSizes, CopyAsked, CopyOutOfMemory, CopyOutside, DupTop, EarlyCopy, HasBadSizes, IsEarlyCopy, NoCopy, OfImages, PutDup, PutMade, copy_params, counted_behind, early_copy_status, early_copy_text, refused_line}
 use Rattle.fam_program.specs.Puts.{Put}
 
 both_true : (a b : Bool) → (a && b) ≡ true → (a ≡ true) × (b ≡ true)
@@ -54,21 +56,40 @@ module _ (wanted : Option CopyAsked) (out : CopyOutside) (given : Status) (from 
 
 -- A copy was tried, with these parameters.
 
+-- the count of an image that counts exactly
+counted : (behind : FaultClass → ℕ → ℕ) (ended : Result ℕ DupFault) (exact : Bool) (old new : ℕ) → OnOk ended (exact ≡ true → new ≡ old)
+    → IfErr ended (λ fault. exact ≡ true → new ≡ behind (class_of fault) old) → exact ≡ true → new ≡ counted_behind behind ended old
+counted behind (Ok count) exact old new quiet told is = quiet is
+counted behind (Err fault) exact old new quiet told is = told is
+
 module _ (copy : CopyAsked) (out : CopyOutside) (given : Status) (good : is_geometry copy.request.unit copy.request.log ≡ true) (p : Params) (is : p ≡ copy_params copy out.lines) where
+  -- what the copy says of the line of a fault, and of faults that came
+  pub record Told (ended : Result ℕ DupFault) : Type 0 where
+    pub asked : IfErr ended (λ fault. IfModelled out.from.old.image (λ source. IfModelled out.to.old.image (λ old. IsAskedIn source old out.to.new.image p copy.request.force fault)))
+    pub quiet_from : OnOk ended (out.from_exact ≡ true → out.from.new.faults ≡ out.from.old.faults)
+    pub quiet_to : OnOk ended (out.to_exact ≡ true → out.to.new.faults ≡ out.to.old.faults)
+    pub counted_from : IfErr ended (λ fault. out.from_exact ≡ true → out.from.new.faults ≡ from_counted (class_of fault) out.from.old.faults)
+    pub counted_to : IfErr ended (λ fault. out.to_exact ≡ true → out.to.new.faults ≡ to_counted (class_of fault) out.to.old.faults)
+
   pub copy_tried : (ended : Result ℕ DupFault)
       → OfImages out (λ source old new. DupEnds source old new p copy.request.force ended)
       → IfErr ended (λ fault. IsCaused out.from.old.faults out.from.new.faults out.to.old.faults out.to.new.faults fault)
       → IfErr ended (λ fault. NamesLine out.from_lines out.lines fault)
+      → Told ended
       → PutDup ended out.sink given
       → out.from.new.image ≡ out.from.old.image → out.from.old.faults ≤ out.from.new.faults → out.to.old.faults ≤ out.to.new.faults → out.sink.old.faults ≤ out.sink.new.faults
       → DupTop (Some copy) out given
-  copy_tried ended ends caused named put same from to sink = record {
+  copy_tried ended ends caused named told put same from to sink = record {
     shows = inr record {
       good = good;
       ended = ended;
       ends = subst (λ (q : Params). OfImages out (λ source old new. DupEnds source old new q copy.request.force ended)) is ends;
       caused = caused;
       named = named;
+      asked =
+          subst (λ (q : Params). IfErr ended (λ fault. IfModelled out.from.old.image (λ source. IfModelled out.to.old.image (λ old. IsAskedIn source old out.to.new.image q copy.request.force fault)))) is told.asked;
+      counted_from = counted from_counted ended out.from_exact out.from.old.faults out.from.new.faults told.quiet_from told.counted_from;
+      counted_to = counted to_counted ended out.to_exact out.to.old.faults out.to.new.faults told.quiet_to told.counted_to;
       put = put;
     };
     same = same;

@@ -18,7 +18,7 @@ use Rattle.fam_journal.specs.Calls.{has_name, may_begin, number_of}
 use Rattle.fam_journal.specs.Ends.{is_answer_note}
 use Rattle.fam_journal.specs.EventForms.{FollowsForm, StartForm, UnfitNotes}
 use Rattle.fam_journal.specs.Forms.{ActsForm, AtForm, CompletesForm, DirtyForm, FormByRefusal, HostActsForm, HostForm, OfHostForm, OfRunning, OfTask, OperationsForm, TaskForm, TaskNote, forms_after, forms_behind, made_note, refusal_told, runs_form, shown_form, shown_forms}
-use Rattle.fam_journal.specs.Notes.{Note, Host, Made, Cut, Start, Mark, Found, Writes, Answered, Stop, Halt, Umount, Refused}
+use Rattle.fam_journal.specs.Notes.{Note, Host, Made, Start, Answered, Refused}
 use Rattle.fam_outcomes.specs.Programs.{ends_command, ends_mkfs, last_passes}
 use Rattle.fam_outcomes.specs.Statuses.{last_stops, note_stops}
 use Rattle.fam_machine.specs.Mkfs.{asked}
@@ -28,18 +28,9 @@ use Rattle.fam_events.proofs.Running.{step_runs}
 -- A note that stops.
 
 stops_end : (note : Note) → note_stops note ≡ true → ends_command note ≡ true
-stops_end (Host name uuid) h = cc
-stops_end (Made host p) h = cc
-stops_end (Cut host k) h = cc
-stops_end (Start host cmd) h = cc
-stops_end (Mark host) h = cc
-stops_end (Found host n) h = cc
-stops_end (Writes host seq entry) h = cc
 stops_end (Answered host answer) h = refl
-stops_end (Stop host) h = cc
-stops_end (Halt host) h = cc
-stops_end (Umount host) h = cc
 stops_end (Refused name cause) h = refl
+stops_end e h = cc
 
 pub stopped_end : (journal : List Note) → last_stops journal ≡ true → last_passes ends_command journal ≡ true
 stopped_end [] h = cc
@@ -64,18 +55,8 @@ of_runs (Some f) P x = by_task f.task x
     by_task (Some t) x = refl
 
 answer_ends : (note : Note) → not (is_answer_note note || false) ≡ false → ends_command note ≡ true
-answer_ends (Host name uuid) h = cc
-answer_ends (Made host p) h = cc
-answer_ends (Cut host k) h = cc
-answer_ends (Start host cmd) h = cc
-answer_ends (Mark host) h = cc
-answer_ends (Found host n) h = cc
-answer_ends (Writes host seq entry) h = cc
 answer_ends (Answered host answer) h = refl
-answer_ends (Stop host) h = cc
-answer_ends (Halt host) h = cc
-answer_ends (Umount host) h = cc
-answer_ends (Refused name cause) h = cc
+answer_ends e h = cc
 
 operations_end : (h : ℕ) (hosts : List HostForm) (notes : List Note) → runs_form (slice_get hosts h) ≡ true → OperationsForm h hosts notes → runs_form (slice_get (forms_behind hosts notes) h) ≡ false → last_passes ends_command notes ≡ true
 operations_end h hosts [] runs x done = cc

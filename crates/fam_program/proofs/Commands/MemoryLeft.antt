@@ -77,14 +77,6 @@ choose true x y a c = a
 choose false x y a c = c
 
 writes_on : (p : Phase) (t : Task) (word : ℕ) → (IsBeforeWrites p → ⊥) → WritesOn (turn_at p t word)
-writes_on at.DropMagic t word writing = absurd (writing tt)
-writes_on at.Magic t word writing = absurd (writing tt)
-writes_on (at.Drop part j) t word writing = absurd (writing tt)
-writes_on (at.Word part j k) t word writing = absurd (writing tt)
-writes_on at.DropGate t word writing = absurd (writing tt)
-writes_on at.Gate t word writing = absurd (writing tt)
-writes_on (at.Check i) t word writing = absurd (writing tt)
-writes_on at.Decide t word writing = absurd (writing tt)
 writes_on (at.StoreData j k) t word writing = choose (nat_lt k last_word) (at.StoreData j (k + 1)) (at.SendData j) (λ x. x) (λ x. x)
 writes_on (at.SendData j) t word writing = choose (nat_lt (j + 1) (lines_of (size_of t.entry))) (at.StoreData (j + 1) 0) (at.StoreSlot 0 0) (λ x. x) (λ x. x)
 writes_on (at.StoreSlot j k) t word writing = choose (nat_lt k last_word) (at.StoreSlot j (k + 1)) (at.SendSlot j) (λ x. x) (λ x. x)
@@ -93,6 +85,7 @@ writes_on at.FenceSlot t word writing = λ x. x
 writes_on at.StoreGate t word writing = λ x. x
 writes_on at.SendGate t word writing = λ x. x
 writes_on at.FenceGate t word writing = (t.gate, refl)
+writes_on e t word writing = absurd (writing tt)
 
 -- A fault of the media in an operation before the first store sends nothing.
 
@@ -121,14 +114,7 @@ module _ (through : Breaking) (m : Machine) (clean : IsClean m.cache) (x : Failu
   fails_same at.Gate t before is = brought_same _ m _ x is
   fails_same (at.Check i) t before is = absurd cc
   fails_same at.Decide t before is = absurd cc
-  fails_same (at.StoreData j k) t before is = absurd before
-  fails_same (at.SendData j) t before is = absurd before
-  fails_same (at.StoreSlot i k) t before is = absurd before
-  fails_same (at.SendSlot i) t before is = absurd before
-  fails_same at.FenceSlot t before is = absurd before
-  fails_same at.StoreGate t before is = absurd before
-  fails_same at.SendGate t before is = absurd before
-  fails_same at.FenceGate t before is = absurd before
+  fails_same e t before is = absurd before
 
 -- Operations of a host's task up to its answer.
 

@@ -11,7 +11,7 @@ use Rattle.fam_journal.specs.declared.refusal.Refusal.TheVariants as why
 use Rattle.fam_journal.specs.Ends.{IsFaultless, cause_faults, faults_of, is_answer_note, note_faults}
 use Rattle.fam_journal.specs.EventForms.{EventPartForm}
 use Rattle.fam_journal.specs.Forms.{HostForm, OfRunning, OfTask, OperationsForm, TaskForm, TaskNote, forms_after, forms_behind, forms_of, runs_form}
-use Rattle.fam_journal.specs.Notes.{Note, Host, Made, Cut, Start, Mark, Found, Writes, Answered, Stop, Halt, Umount, Refused, Replied, MediaFault}
+use Rattle.fam_journal.specs.Notes.{Note, Host, Start, Answered, Refused, MediaFault}
 use Rattle.fam_outcomes.specs.Programs.{last_passes, without_last}
 use Rattle.fam_outcomes.specs.Statuses.{note_stops}
 use Rattle.fam_journal.proofs.Runs.Unique.{faults_both}
@@ -29,69 +29,25 @@ use Rattle.fam_program.proofs.Runs.Stops.{of_none, or_parts}
 
 -- one that stops no run
 go_faults : (note : Note) → note_stops note ≡ false → note_faults note ≡ 0
-go_faults (Host name uuid) is = refl
-go_faults (Made host p) is = refl
-go_faults (Cut host k) is = refl
-go_faults (Start host cmd) is = refl
-go_faults (Mark host) is = refl
-go_faults (Found host n) is = refl
-go_faults (Writes host seq entry) is = refl
-go_faults (Answered host (Replied given)) is = refl
 go_faults (Answered host (MediaFault line)) is = absurd cc
-go_faults (Stop host) is = refl
-go_faults (Halt host) is = refl
-go_faults (Umount host) is = refl
 go_faults (Refused name cause) is = absurd cc
+go_faults e is = refl
 
 -- one for whose line memory is wanted
 long_cause : (cause : Refusal) → is_short (Refused [] cause) ≡ false → cause_faults cause ≡ 0
-long_cause why.NoHost is = refl
-long_cause (why.SameHost host) is = refl
-long_cause why.TooManyHosts is = refl
-long_cause (why.BadGeometry unit log) is = refl
-long_cause (why.TooSmall need have) is = refl
-long_cause (why.ImageSmall lines) is = refl
-long_cause (why.Busy host) is = refl
-long_cause (why.Dirty host) is = refl
-long_cause (why.HasSuper uuid) is = refl
-long_cause why.Idle is = refl
-long_cause (why.NoLine at lines) is = refl
-long_cause (why.NoFile name) is = refl
-long_cause (why.CopyLimit sum) is = refl
-long_cause (why.BadListing at) is = refl
 long_cause (why.MediaFault at) is = absurd cc
-long_cause why.Mounted is = refl
-long_cause why.NotMounted is = refl
+long_cause e is = refl
 
 long_faults : (note : Note) → is_short note ≡ false → note_faults note ≡ 0
-long_faults (Host name uuid) is = refl
-long_faults (Made host p) is = refl
-long_faults (Cut host k) is = refl
-long_faults (Start host cmd) is = refl
-long_faults (Mark host) is = refl
-long_faults (Found host n) is = refl
-long_faults (Writes host seq entry) is = refl
-long_faults (Answered host (Replied given)) is = refl
 long_faults (Answered host (MediaFault line)) is = absurd cc
-long_faults (Stop host) is = refl
-long_faults (Halt host) is = refl
-long_faults (Umount host) is = refl
 long_faults (Refused name cause) is = long_cause cause is
+long_faults e is = refl
 
 -- one of a command that isn't its answer
 quiet_faults : (h : ℕ) (o : Option HostForm) (note : Note) → OfRunning o (λ me t. TaskNote h me t note) → is_answer_note note ≡ false → note_faults note ≡ 0
-quiet_faults h o (Host name uuid) x is = refl
-quiet_faults h o (Made host p) x is = refl
-quiet_faults h o (Cut host k) x is = refl
-quiet_faults h o (Start host cmd) x is = refl
-quiet_faults h o (Mark host) x is = refl
-quiet_faults h o (Found host n) x is = refl
-quiet_faults h o (Writes host seq entry) x is = refl
 quiet_faults h o (Answered host answer) x is = absurd cc
-quiet_faults h o (Stop host) x is = refl
-quiet_faults h o (Halt host) x is = refl
-quiet_faults h o (Umount host) x is = refl
 quiet_faults h o (Refused name cause) x is = absurd (of_none o x)
+quiet_faults h o e x is = refl
 
 -- Notes that tell none.
 
@@ -147,19 +103,11 @@ running_faultless h hosts (note ∷ notes) x runs =
 part_faultless : (e : Event) → IsShotEvent e → (lines : ℕ) (hosts : List HostForm) (notes : List Note) → EventPartForm e lines hosts notes → IsFaultless notes
 part_faultless (event.Host name uuid) is lines hosts notes x = absurd x
 part_faultless (event.Mkfs name fs unit log format force halt) is lines hosts notes x = absurd x
-part_faultless (event.Begin name what) is lines hosts notes x = absurd is
 part_faultless (event.Run name what) is lines hosts notes x =
     let rest = running_faultless x.host (forms_after hosts (Start x.host x.cmd)) x.rest x.follow.operations x.follow.runs in
     let all : IsFaultless (Start x.host x.cmd ∷ x.rest) = omega (arith, rest) in
     ap faults_of x.notes_are ∙ all
-part_faultless (event.Step name count) is lines hosts notes x = absurd is
-part_faultless (event.Finish name) is lines hosts notes x = absurd is
-part_faultless (event.Stop name) is lines hosts notes x = absurd is
-part_faultless (event.Halt name) is lines hosts notes x = absurd is
-part_faultless (event.Umount name) is lines hosts notes x = absurd is
-part_faultless (event.Evict name line) is lines hosts notes x = absurd is
-part_faultless (event.Leak name line mask) is lines hosts notes x = absurd is
-part_faultless (event.Fetch name line mask) is lines hosts notes x = absurd is
+part_faultless e is lines hosts notes x = absurd is
 
 cut_faultless : (e : Event) → IsShotEvent e → (lines : ℕ) (hosts : List HostForm) (notes : List Note) → FormOfPart e lines hosts notes → IsFaultless notes
 cut_faultless e is lines hosts notes (inl none) = ap faults_of none

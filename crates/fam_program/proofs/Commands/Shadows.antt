@@ -5,6 +5,7 @@ use Rattle.fam_format.specs.Tree.{Tree}
 use Rattle.fam_grammar.specs.Scripts.{script_events}
 use Rattle.fam_shadow.specs.declared.fault.ShadowFault.{ShadowFault}
 use Rattle.fam_shadow.specs.declared.fault.ShadowFault.TheVariants as why
+use Rattle.fam_shadow.specs.Calls.{CallsMade}
 use Rattle.fam_shadow.specs.Shadows.{Becomes, FaultCaused, ShadowEnds}
 use Rattle.fam_storm.specs.Storm.{storm}
 use Rattle.fam_outcomes.specs.declared.status.Status.{Status}
@@ -54,25 +55,25 @@ module _ (out : Outside) (shade : ShadeChange) (given : Status) (later : NoneFal
   module _ (name me : List ℕ) (journal : List Note) where
     -- the tree that was shown
     shadowed : HasStopped out (alone_events name me logplay) journal → (m : ℕ) (tree : Tree) → shown_tree journal ≡ Some (m, tree) → (written : Result (Unit {0}) ShadowFault)
-        → Becomes shade.old.nodes shade.new.nodes (ShadowEnds tree written) → IfErr written (FaultCaused tree shade.old.faults shade.new.faults)
+        → Becomes shade.old.nodes shade.new.nodes (ShadowEnds tree written) → IfErr written (FaultCaused tree shade.old.faults shade.new.faults) → CallsMade tree shade written
         → Put (shadow_status written) (shadow_text m written) out.sink given ⊎ Put status.OutOfMemory memory_line out.sink given → ShadowTop (Some me) out shade given
-    shadowed x m tree shown written becomes caused (inl put) = record {
+    shadowed x m tree shown written becomes caused calls (inl put) = record {
       text = shadow_text m written;
       own = shadow_status written;
-      shows = inr (inl record { events = take x.count (alone_events name me logplay); journal = journal; ended = x.ended; whole = stopped_whole name me logplay out journal x; m = m; tree = tree; shown = shown; written = written; becomes = becomes; caused = caused; says = inl (refl, refl) });
+      shows = inr (inl record { events = take x.count (alone_events name me logplay); journal = journal; ended = x.ended; whole = stopped_whole name me logplay out journal x; m = m; tree = tree; shown = shown; written = written; becomes = becomes; caused = caused; calls = calls; says = inl (refl, refl) });
       later = later;
       put = put_alone out (shadow_text m written) (shadow_status written) given (shadow_own written) put;
     }
-    shadowed x m tree shown written becomes caused (inr put) = record {
+    shadowed x m tree shown written becomes caused calls (inr put) = record {
       text = memory_line;
       own = status.OutOfMemory;
-      shows = inr (inl record { events = take x.count (alone_events name me logplay); journal = journal; ended = x.ended; whole = stopped_whole name me logplay out journal x; m = m; tree = tree; shown = shown; written = written; becomes = becomes; caused = caused; says = inr (refl, refl) });
+      shows = inr (inl record { events = take x.count (alone_events name me logplay); journal = journal; ended = x.ended; whole = stopped_whole name me logplay out journal x; m = m; tree = tree; shown = shown; written = written; becomes = becomes; caused = caused; calls = calls; says = inr (refl, refl) });
       later = later;
       put = put_alone out memory_line status.OutOfMemory given memory_own put;
     }
 
     pub shadowed_top : (ended : Result (Unit {0}) EventFault) → ShotEnded ended out (alone_events name me logplay) journal → IsOk ended → (m : ℕ) (tree : Tree) → shown_tree journal ≡ Some (m, tree) → (written : Result (Unit {0}) ShadowFault)
-        → Becomes shade.old.nodes shade.new.nodes (ShadowEnds tree written) → IfErr written (FaultCaused tree shade.old.faults shade.new.faults)
+        → Becomes shade.old.nodes shade.new.nodes (ShadowEnds tree written) → IfErr written (FaultCaused tree shade.old.faults shade.new.faults) → CallsMade tree shade written
         → Put (shadow_status written) (shadow_text m written) out.sink given ⊎ Put status.OutOfMemory memory_line out.sink given → ShadowTop (Some me) out shade given
     shadowed_top (Ok done) x ok = shadowed x
     shadowed_top (Err fault) x ok = absurd (cc (ok))

@@ -1,5 +1,5 @@
 -- The tree that the last note shows.
-use Rattle.std.proofs.Common.{◌≡◌, List, [], ◌∷◌, ◌++◌, length, None, refl, arith}
+use Rattle.std.proofs.Common.{◌≡◌, List, [], ◌∷◌, ◌++◌, refl}
 use Rattle.fam_notes.specs.declared.note.Note.{Note as Kept}
 use Rattle.fam_notes.specs.Notes.{note_view, notes_view}
 use Rattle.fam_program.specs.Shadows.{shown_tree, tree_in}
@@ -8,7 +8,3 @@ pub shown_behind : (front : List Kept) (last : Kept) → shown_tree (notes_view 
 shown_behind [] last = refl
 shown_behind (note ∷ []) last = refl
 shown_behind (note ∷ next ∷ front) last = shown_behind (next ∷ front) last
-
-pub none_shown : (notes : List Kept) → length notes ≡ 0 → shown_tree (notes_view notes) ≡ None
-none_shown [] none = refl
-none_shown (note ∷ notes) none = absurd (omega (arith, none))

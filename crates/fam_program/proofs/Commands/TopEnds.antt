@@ -21,7 +21,7 @@ use Rattle.fam_journal.specs.Ends.{AllDone, Ending, IsFaultless, EndsOutOfMemory
 use Rattle.fam_journal.specs.EventForms.{FollowsForm}
 use Rattle.fam_journal.specs.Follows.{SourceEnd}
 use Rattle.fam_journal.specs.Names.{NameDeclared}
-use Rattle.fam_journal.specs.Notes.{Answer, Replied, MediaFault, Note, Host, Made, Cut, Start, Mark, Found, Writes, Answered, Stop, Halt, Umount, Refused}
+use Rattle.fam_journal.specs.Notes.{Answer, Replied, MediaFault, Note, Host, Answered, Refused}
 use Rattle.fam_outcomes.specs.Programs.{IsWholeRun, LeavesImage, Makes, MakesParents, OneShot, Runs, ShotPuts, Single, ShotRuns, SparesImage, TopEnds, done_status, ends_command, ends_mkfs, ends_shot, last_passes, memory_line, path_prefixes, shot_events, shot_status, source_line}
 use Rattle.fam_outcomes.specs.Runs.{EndsBroken, IsPut, NoneFalls, Outside}
 use Rattle.fam_outcomes.specs.Statuses.{answer_status, cause_status, is_checked_equal, last_status, last_stops, note_status, parents_status, reply_status, sound_status}
@@ -42,37 +42,18 @@ use Rattle.fam_program.proofs.Runs.OneText.{done_wants, media_own, memory_own, p
 -- The statuses: none of a note is that of a sink that failed, or of want of memory.
 
 abbrev is_lost : Status → Bool
-is_lost status.Done = false
-is_lost status.Refused = false
-is_lost status.Usage = false
-is_lost status.BadScript = false
-is_lost status.MediaFault = false
-is_lost status.SourceFault = false
 is_lost status.SinkFault = true
 is_lost status.OutOfMemory = true
-is_lost status.Damaged = false
-is_lost status.ShadeFault = false
+is_lost e = false
 
 sound_told : (t : Bool) → is_lost (sound_status t) ≡ false
 sound_told true = refl
 sound_told false = refl
 
 reply_told : (r : Reply) → is_lost (reply_status r) ≡ false
-reply_told (reply.Appended seq) = refl
-reply_told (reply.NotAppended refused) = refl
-reply_told (reply.Played m tree) = refl
-reply_told (reply.Mounted m) = refl
-reply_told (reply.Same m) = refl
-reply_told (reply.Differs m offset found wanted) = refl
-reply_told (reply.Length m size wanted) = refl
-reply_told (reply.Bytes m bytes) = refl
-reply_told (reply.NotFound m) = refl
-reply_told (reply.IsDirectory m) = refl
 reply_told (reply.Checks m checked) = sound_told (is_checked_equal checked)
 reply_told (reply.Reports report) = sound_told (is_sound_report report)
-reply_told (reply.NoSuperblock fault) = refl
-reply_told (reply.BadHeader fault) = refl
-reply_told (reply.BadSlot seq reason) = refl
+reply_told e = refl
 
 answer_told : (a : Answer) → is_lost (answer_status a) ≡ false
 answer_told (Replied given) = reply_told given
@@ -80,36 +61,12 @@ answer_told (MediaFault at) = refl
 
 cause_told : (c : Refusal) → is_lost (cause_status c) ≡ false
 cause_told why.NoHost = refl
-cause_told (why.SameHost host) = refl
-cause_told why.TooManyHosts = refl
-cause_told (why.BadGeometry unit log) = refl
-cause_told (why.TooSmall need have) = refl
-cause_told (why.ImageSmall lines) = refl
-cause_told (why.Busy host) = refl
-cause_told (why.Dirty host) = refl
-cause_told (why.HasSuper uuid) = refl
-cause_told why.Idle = refl
-cause_told (why.NoLine at lines) = refl
-cause_told (why.NoFile name) = refl
-cause_told (why.CopyLimit sum) = refl
-cause_told (why.BadListing at) = refl
-cause_told (why.MediaFault at) = refl
-cause_told why.Mounted = refl
-cause_told why.NotMounted = refl
+cause_told e = refl
 
 note_told : (note : Note) → is_lost (note_status note) ≡ false
-note_told (Host name uuid) = refl
-note_told (Made host p) = refl
-note_told (Cut host k) = refl
-note_told (Start host cmd) = refl
-note_told (Mark host) = refl
-note_told (Found host n) = refl
-note_told (Writes host seq entry) = refl
 note_told (Answered host answer) = answer_told answer
-note_told (Stop host) = refl
-note_told (Halt host) = refl
-note_told (Umount host) = refl
 note_told (Refused name cause) = cause_told cause
+note_told e = refl
 
 last_told : (journal : List Note) → is_lost (last_status journal) ≡ false
 last_told [] = refl
@@ -128,7 +85,7 @@ done_told (Makes request) journal = last_told journal
 done_told (Runs what) journal = last_told journal
 done_told (MakesParents path attr) journal = parents_told journal
 
-done_own : (shot : OneShot) (journal : List Note) → IsOwn (done_status shot journal)
+pub done_own : (shot : OneShot) (journal : List Note) → IsOwn (done_status shot journal)
 done_own shot journal e = absurd (let told : false ≡ true = sym (done_told shot journal) ∙ ap is_lost e in cc)
 
 -- What is spared where no memory is left.
@@ -138,7 +95,7 @@ own_spares (Makes request) own out other = tt
 own_spares (Runs what) own out other = λ e. absurd (other e)
 own_spares (MakesParents path attr) own out other = tt
 
-done_spares : (shot : OneShot) (journal : List Note) (out : Outside) → SparesImage shot (done_status shot journal) out
+pub done_spares : (shot : OneShot) (journal : List Note) (out : Outside) → SparesImage shot (done_status shot journal) out
 done_spares shot journal out = own_spares shot (done_status shot journal) out (λ e. absurd (let told : false ≡ true = sym (done_told shot journal) ∙ ap is_lost e in cc))
 
 -- a run of one command

@@ -99,7 +99,6 @@ module _ (b : Base) (count : ℕ) (n m : Now) (far : Far b count n) (e : Event) 
 
   -- the media failed in a mkfs
   broken_caused : (e : Event) → slice_get b.events count ≡ Some e → (lines : ℕ) (hosts : List HostForm) (notes : List Note) → EventBreaksForm e lines hosts notes → m.world.journal ≡ n.world.journal ++ notes → EndsBroken b.events m.world.journal
-  broken_caused (event.Host name uuid) at lines hosts notes form joined = absurd form
   broken_caused (event.Mkfs name fs unit log format force halt) at lines hosts notes form joined = record {
     count = count;
     event = event.Mkfs name fs unit log format force halt;
@@ -110,16 +109,7 @@ module _ (b : Base) (count : ℕ) (n m : Now) (far : Far b count n) (e : Event) 
     of_mkfs = refl;
     is = joined ∙ ap (λ (ns : List Note). n.world.journal ++ ns) form.1.1;
   }
-  broken_caused (event.Begin name what) at lines hosts notes form joined = absurd form
-  broken_caused (event.Run name what) at lines hosts notes form joined = absurd form
-  broken_caused (event.Step name k) at lines hosts notes form joined = absurd form
-  broken_caused (event.Finish name) at lines hosts notes form joined = absurd form
-  broken_caused (event.Stop name) at lines hosts notes form joined = absurd form
-  broken_caused (event.Halt name) at lines hosts notes form joined = absurd form
-  broken_caused (event.Umount name) at lines hosts notes form joined = absurd form
-  broken_caused (event.Evict name line) at lines hosts notes form joined = absurd form
-  broken_caused (event.Leak name line mask) at lines hosts notes form joined = absurd form
-  broken_caused (event.Fetch name line mask) at lines hosts notes form joined = absurd form
+  broken_caused e at lines hosts notes form joined = absurd form
 
   -- where image and files are modelled
   pub record BrokenOn (start : Image) (files : Files) : Type 0 where

@@ -17,7 +17,7 @@ use Rattle.fam_journal.specs.Calls.{may_begin, number_of}
 use Rattle.fam_journal.specs.EventForms.{EventBreaksForm, EventForm, EventPartForm, StartForm, UnfitNotes}
 use Rattle.fam_journal.specs.Forms.{ActsForm, AnswerForm, AtForm, CompletesForm, DirtyForm, FormByRefusal, HostActsForm, HostForm, OfHostForm, OfRunning, OfTask, OperationsForm, UnfinishedForm, TaskForm, TaskNote, forms_after, keeps_behind, made_note, refusal_told, shown_forms}
 use Rattle.fam_journal.specs.Members.{changed_at}
-use Rattle.fam_journal.specs.Notes.{Answer, Note, Host, Made, Cut, Start, Mark, Found, Writes, Answered, Stop, Halt, Umount, Refused}
+use Rattle.fam_journal.specs.Notes.{Answer, Note, Host, Start, Answered, Refused}
 use Rattle.fam_outcomes.specs.Programs.{without_last}
 use Rattle.fam_outcomes.specs.Statuses.{last_stops, note_stops}
 use Rattle.fam_journal.proofs.Calls.Members.{changed_here}
@@ -62,19 +62,10 @@ not_answered answer h host hosts P same x =
 
 -- a note behind which another one comes doesn't stop
 goes_behind : (h : ℕ) (hosts : List HostForm) (note next : Note) → OfRunning (slice_get hosts h) (λ me t. TaskNote h me t note) → OfRunning (slice_get (forms_after hosts note) h) (λ me t. TaskNote h me t next) → note_stops note ≡ false
-goes_behind h hosts (Host name uuid) next x y = refl
-goes_behind h hosts (Made host p) next x y = refl
-goes_behind h hosts (Cut host k) next x y = refl
-goes_behind h hosts (Start host cmd) next x y = refl
-goes_behind h hosts (Mark host) next x y = refl
-goes_behind h hosts (Found host n) next x y = refl
-goes_behind h hosts (Writes host seq entry) next x y = refl
 goes_behind h hosts (Answered host answer) next x y =
     absurd (not_answered answer h host hosts (λ me t. TaskNote h me t next) (of_here (slice_get hosts h) (λ me t. AnswerForm me t.cmd t.stage answer) host h x) y)
-goes_behind h hosts (Stop host) next x y = refl
-goes_behind h hosts (Halt host) next x y = refl
-goes_behind h hosts (Umount host) next x y = refl
 goes_behind h hosts (Refused name cause) next x y = absurd (of_none (slice_get hosts h) x)
+goes_behind h hosts e next x y = refl
 
 operations_go : (h : ℕ) (hosts : List HostForm) (notes : List Note) → OperationsForm h hosts notes → GoesOn notes
 operations_go h hosts [] x = refl
@@ -123,31 +114,15 @@ module _ (name : List ℕ) (request : MkfsRequest) (lines : ℕ) (hosts : List H
 pub step_goes : (e : Event) → IsShotEvent e → (lines : ℕ) (hosts : List HostForm) (notes : List Note) → EventForm e lines hosts notes → GoesOn notes
 step_goes (event.Host name uuid) is lines hosts notes x = declared name uuid notes (refusal_told (call.Declares name uuid) lines hosts) x
 step_goes (event.Mkfs name fs unit log format force halt) is lines hosts notes x = made name (mkfs_request fs unit log format force halt) lines hosts notes (refusal_told (call.Makes name (mkfs_request fs unit log format force halt)) lines hosts) x
-step_goes (event.Begin name what) is lines hosts notes x = absurd is
 step_goes (event.Run name what) is lines hosts notes x = begun name what lines hosts notes (may_begin name (mounts what) (shown_forms lines hosts)) x
-step_goes (event.Step name count) is lines hosts notes x = absurd is
-step_goes (event.Finish name) is lines hosts notes x = absurd is
-step_goes (event.Stop name) is lines hosts notes x = absurd is
-step_goes (event.Halt name) is lines hosts notes x = absurd is
-step_goes (event.Umount name) is lines hosts notes x = absurd is
-step_goes (event.Evict name line) is lines hosts notes x = absurd is
-step_goes (event.Leak name line mask) is lines hosts notes x = absurd is
-step_goes (event.Fetch name line mask) is lines hosts notes x = absurd is
+step_goes e is lines hosts notes x = absurd is
 
 -- a part of an event
 part_goes : (e : Event) → IsShotEvent e → (lines : ℕ) (hosts : List HostForm) (notes : List Note) → EventPartForm e lines hosts notes → GoesOn notes
 part_goes (event.Host name uuid) is lines hosts notes x = absurd x
 part_goes (event.Mkfs name fs unit log format force halt) is lines hosts notes x = absurd x
-part_goes (event.Begin name what) is lines hosts notes x = absurd is
 part_goes (event.Run name what) is lines hosts notes x = started name what lines hosts notes UnfinishedForm (λ h fs ns y. y.operations) x
-part_goes (event.Step name count) is lines hosts notes x = absurd is
-part_goes (event.Finish name) is lines hosts notes x = absurd is
-part_goes (event.Stop name) is lines hosts notes x = absurd is
-part_goes (event.Halt name) is lines hosts notes x = absurd is
-part_goes (event.Umount name) is lines hosts notes x = absurd is
-part_goes (event.Evict name line) is lines hosts notes x = absurd is
-part_goes (event.Leak name line mask) is lines hosts notes x = absurd is
-part_goes (event.Fetch name line mask) is lines hosts notes x = absurd is
+part_goes e is lines hosts notes x = absurd is
 
 pub cut_goes : (e : Event) → IsShotEvent e → (lines : ℕ) (hosts : List HostForm) (notes : List Note) → FormOfPart e lines hosts notes → GoesOn notes
 cut_goes e is lines hosts notes (inl none) = ap (λ (ns : List Note). list_any note_stops (without_last ns)) none
@@ -192,15 +167,5 @@ none_stops (note ∷ next ∷ notes) goes last =
 
 -- a mkfs in which the media failed has one note
 pub breaks_goes : (e : Event) (lines : ℕ) (hosts : List HostForm) (notes : List Note) → EventBreaksForm e lines hosts notes → GoesOn notes
-breaks_goes (event.Host name uuid) lines hosts notes x = absurd x
 breaks_goes (event.Mkfs name fs unit log format force halt) lines hosts notes x = alone (Refused name (why.MediaFault (record { 0 = x.1.0 }))) notes x.1.1
-breaks_goes (event.Begin name what) lines hosts notes x = absurd x
-breaks_goes (event.Run name what) lines hosts notes x = absurd x
-breaks_goes (event.Step name count) lines hosts notes x = absurd x
-breaks_goes (event.Finish name) lines hosts notes x = absurd x
-breaks_goes (event.Stop name) lines hosts notes x = absurd x
-breaks_goes (event.Halt name) lines hosts notes x = absurd x
-breaks_goes (event.Umount name) lines hosts notes x = absurd x
-breaks_goes (event.Evict name line) lines hosts notes x = absurd x
-breaks_goes (event.Leak name line mask) lines hosts notes x = absurd x
-breaks_goes (event.Fetch name line mask) lines hosts notes x = absurd x
+breaks_goes e lines hosts notes x = absurd x

@@ -5,7 +5,7 @@ use Rattle.fam_media.specs.States.{ShelfChange, SinkChange}
 use Rattle.fam_sources.specs.declared.sourced.SourceEnd.TheVariants as end
 use Rattle.fam_journal.specs.declared.event.Event.{Event}
 use Rattle.fam_outcomes.specs.declared.status.Status.{Status}
-use Rattle.fam_journal.specs.Ends.{AllDone, Ending, EndsOutOfMemory, EndsOutOfMemoryBroken, MkfsFails, SinkFails, SourceFails}
+use Rattle.fam_journal.specs.Ends.{AllDone, Ending, SourceFails}
 use Rattle.fam_journal.specs.Follows.{Faulted, Short}
 use Rattle.fam_journal.specs.Notes.{Note}
 use Rattle.fam_outcomes.specs.Programs.{Early, EarlyOutOfMemory, IsEarly, PutsTold, Script, TopEnds, early_status, early_text}
@@ -40,10 +40,7 @@ module _ (shelf : ShelfChange) (s : SinkChange) (name : List ℕ) (lines faults 
 
   early_own : (fault : ScriptFault) → IsOwn (early_status (early_of name fault))
   early_own NoFile e = absurd cc
-  early_own (TooLong size) e = absurd cc
-  early_own (Ended end) e = absurd cc
-  early_own (BadLine line column) e = absurd cc
-  early_own OutOfMemory e = absurd cc
+  early_own c e = absurd cc
 
   module _ (falls : NoneFalls unrun) (given : Status) where
     early_top : (early : Early) → IsOwn (early_status early) → IsEarly script_events storm (Some (Script name)) unrun early → Put (early_status early) (early_text early) s given → TopEnds script_events storm (Some (Script name)) unrun given
@@ -65,21 +62,13 @@ module _ (out : Outside) (shelf shorts : ℕ) (shelf_before : shelf ≤ out.shel
   before = record out { shelf = record { old = record { files = out.shelf.old.files; faults = shelf; shorts = shorts }; new = out.shelf.new } }
 
   caused_before : (ending : Ending) (events : List Event) (journal : List Note) → IsCaused ending events journal out → IsCaused ending events journal before
-  caused_before AllDone events journal x = x
-  caused_before MkfsFails events journal x = x
   caused_before (SourceFails Faulted) events journal x = omega (arith, x, shelf_before)
   caused_before (SourceFails (Short size got)) events journal x = (let rose = x.0 in omega (arith, rose, shorts_before), x.1)
-  caused_before EndsOutOfMemory events journal x = x
-  caused_before EndsOutOfMemoryBroken events journal x = x
-  caused_before SinkFails events journal x = x
+  caused_before e events journal x = x
 
   told_before : (ending : Ending) (events : List Event) (journal : List Note) → PutsTold ending events journal out → PutsTold ending events journal before
   told_before AllDone events journal x = x
-  told_before MkfsFails events journal x = x
-  told_before (SourceFails end) events journal x = x
-  told_before EndsOutOfMemory events journal x = x
-  told_before EndsOutOfMemoryBroken events journal x = x
-  told_before SinkFails events journal x = x
+  told_before e events journal x = x
 
   pub ran_before : (events : List Event) (given : Status) → ScriptRan events out given → ScriptRan events before given
   ran_before events given x = record {

@@ -2,7 +2,7 @@
 use Rattle.std.proofs.Common.{◌≡◌, ℕ, ◌+◌, ◌-◌, ◌<◌, get_or, List, [], ◌∷◌, ◌++◌, length, take, drop, refl, ap, sym, ◌∙◌, subst, arith}
 use Rattle.std.proofs.lemmas.List.{append-nil, append_assoc, drop-map, length-append, length-drop, map_more, take-append-drop, take-map, take_all}
 use Rattle.fam_journal.specs.Names.{NameDeclared, declared_after}
-use Rattle.fam_journal.specs.Notes.{Note, Host, Made, Cut, Start, Mark, Found, Writes, Answered, Stop, Halt, Umount, Refused}
+use Rattle.fam_journal.specs.Notes.{Note, Host}
 use Rattle.fam_outcomes.specs.Texts.{names_after, names_behind, note_line, render_behind}
 use Rattle.fam_notes.specs.declared.note.Note.{Note as Kept}
 use Rattle.fam_notes.specs.Notes.{note_view, notes_view}
@@ -14,17 +14,7 @@ notes_from kept from journal is =
 -- a note declares as many hosts as it adds names
 name_count : (names : List (List ℕ)) (note : Note) → length (names_after names note) ≡ declared_after (length names) note
 name_count names (Host name uuid) = length-append names (name ∷ [])
-name_count names (Made host p) = refl
-name_count names (Cut host k) = refl
-name_count names (Start host cmd) = refl
-name_count names (Mark host) = refl
-name_count names (Found host n) = refl
-name_count names (Writes host seq entry) = refl
-name_count names (Answered host answer) = refl
-name_count names (Stop host) = refl
-name_count names (Halt host) = refl
-name_count names (Umount host) = refl
-name_count names (Refused name cause) = refl
+name_count names e = refl
 
 named_rest : (names : List (List ℕ)) (a b : List Note) → NameDeclared (length names) (a ++ b) → NameDeclared (length (names_behind names a)) b
 named_rest names [] b named = named

@@ -23,7 +23,7 @@ use Rattle.fam_commands.specs.declared.phase.Phase.{Phase}
 use Rattle.fam_commands.specs.declared.phase.Phase.TheVariants as at
 use Rattle.fam_commands.specs.Kept.{used}
 use Rattle.fam_commands.specs.Task.{Task, part_count, part_line}
-use Rattle.fam_commands.specs.Turns.{Turn, Goes, Marks, Finds, Writes, Ends, slots_read, slot_or_decide, magic_turn, host_refusal, host_turn, super_turn, header_turn, gate_loaded, finds_or_goes, gate_turn, join_turn, slot_turn, survey_turn, check_turn, decide_turn, line_or, line_turn, with_word, word_turn}
+use Rattle.fam_commands.specs.Turns.{Turn, Goes, Ends, slots_read, slot_or_decide, magic_turn, host_refusal, host_turn, super_turn, header_turn, gate_loaded, finds_or_goes, gate_turn, join_turn, slot_turn, survey_turn, check_turn, decide_turn, line_or, line_turn, with_word, word_turn}
 use Rattle.fam_rules.specs.declared.answers.Refused.TheVariants as refused
 use Rattle.fam_rules.specs.Decide.{Wish, wish_of, early_refusal}
 use Rattle.fam_rules.specs.Place.{line_bytes}
@@ -126,8 +126,8 @@ module _ (image : Lines) (have : ℕ) (uuid : ℕ → Option (List ℕ)) (host :
       test : (w : Wish) → wish_of t.cmd ≡ Some w → EarlyCases p t.me w.path → Turned (host_turn t p (early_refusal p t.me w.path))
       test w wish (may_ask same short passed) = rw passed (record { may = tt; task = goes (λ v is. same) })
       test w wish (another other refusal) = rw refusal (record { may = record { params = p; super = super; me_is = refl; master_is = refl; other = other }; task = tt })
-      test w wish (too_long same long refusal) =
-          rw refusal (record { may = record { params = p; super = super; is = record { wish = w; wished = wish; is = record { master = same; limit_is = refl; long = long } } }; task = tt })
+      test w wish (too_long first same long refusal) =
+          rw refusal (record { may = record { params = p; super = super; is = record { wish = w; wished = wish; is = record { format = first; master = same; limit_is = refl; long = long } } }; task = tt })
 
       go : (o : Option Wish) → wish_of t.cmd ≡ o → Turned (host_turn t p (host_refusal o p t.me))
       go None e = record { may = tt; task = goes (λ w is. absurd cc) }
@@ -308,21 +308,15 @@ module _ (image : Lines) (have : ℕ) (uuid : ℕ → Option (List ℕ)) (host :
 module _ (t : Task) (phase : Phase) (words : List ℕ) where
   line_moved : (part : Part) (j : ℕ) → part_line (record t { phase = phase; words = words }) part j ≡ part_line t part j
   line_moved Superblock j = refl
-  line_moved Header j = refl
-  line_moved (Slot i) j = refl
-  line_moved FileLines j = refl
+  line_moved e j = refl
 
   lines_moved : (part : Part) → part_count (record t { phase = phase; words = words }) part ≡ part_count t part
   lines_moved Superblock = refl
-  lines_moved Header = refl
-  lines_moved (Slot i) = refl
-  lines_moved FileLines = refl
+  lines_moved e = refl
 
   words_moved : (image : Lines) (part : Part) → part_words image (record t { phase = phase; words = words }) part ≡ part_words image t part
   words_moved image Superblock = refl
-  words_moved image Header = refl
-  words_moved image (Slot i) = refl
-  words_moved image FileLines = refl
+  words_moved image e = refl
 
 -- Of a task, an answer goes by its host and its command alone.
 module _ (image : Lines) (have : ℕ) (t t' : Task) (same : t.me ≡ t'.me) (asks : t.cmd ≡ t'.cmd) where
@@ -331,35 +325,13 @@ module _ (image : Lines) (have : ℕ) (t t' : Task) (same : t.me ≡ t'.me) (ask
   reply_moved (NotAppended (refused.LongPath limit)) a = record {
     params = a.params;
     super = a.super;
-    is = record { wish = a.is.wish; wished = ap wish_of (sym asks) ∙ a.is.wished; is = record { master = sym same ∙ a.is.is.master; limit_is = a.is.is.limit_is; long = a.is.is.long } };
+    is = record { wish = a.is.wish; wished = ap wish_of (sym asks) ∙ a.is.wished; is = record { format = a.is.is.format; master = sym same ∙ a.is.is.master; limit_is = a.is.is.limit_is; long = a.is.is.long } };
   }
-  reply_moved (NotAppended refused.BadStripe) a = a
-  reply_moved (NotAppended (refused.Exists kind)) a = a
-  reply_moved (NotAppended refused.NoParent) a = a
-  reply_moved (NotAppended refused.ParentIsFile) a = a
-  reply_moved (NotAppended (refused.LogFull slots)) a = a
-  reply_moved (NotAppended (refused.NoSpace units)) a = a
-  reply_moved (reply.Appended seq) a = a
-  reply_moved (reply.Played m tree) a = a
-  reply_moved (reply.Mounted m) a = a
-  reply_moved (reply.Same m) a = a
-  reply_moved (reply.Differs m offset found wanted) a = a
-  reply_moved (reply.Length m size wanted) a = a
-  reply_moved (reply.Bytes m bytes) a = a
-  reply_moved (reply.NotFound m) a = a
-  reply_moved (reply.IsDirectory m) a = a
-  reply_moved (reply.Checks m checked) a = a
-  reply_moved (reply.Reports report) a = a
-  reply_moved (reply.NoSuperblock fault) a = a
-  reply_moved (reply.BadHeader fault) a = a
-  reply_moved (reply.BadSlot seq reason) a = a
+  reply_moved e a = a
 
   may_moved : (turn : Turn) → MaySayBad turn image have t → MaySayBad turn image have t'
-  may_moved (Goes next) a = a
-  may_moved (Marks next) a = a
-  may_moved (Finds n next) a = a
-  may_moved (Writes seq e next) a = a
   may_moved (Ends r) a = reply_moved r a
+  may_moved e a = a
 
 module _ (image : Lines) (have : ℕ) (uuid : ℕ → Option (List ℕ)) (host : ℕ) (s : SharedState)
     (t : Task) (bare : Bare image have t.cmd) (me : uuid host ≡ Some t.me) (lines : line_bytes * t.lines ≡ have) where

@@ -2,7 +2,7 @@
 use Rattle.std.proofs.Common.{ℕ, zero, suc, ◌≡◌, ◌≢◌, ◌⊎◌, inl, inr, ◌+◌, ◌-◌, List, [], ◌∷◌, ◌++◌, Option, Some, None, refl, sym, ◌∙◌, ap, subst}
 use Rattle.std.specs.Prelude.{Result, Ok, Err}
 use Rattle.fam_base.specs.declared.cmd.Cmd.{Cmd}
-use Rattle.fam_base.specs.declared.cmd.Cmd.TheVariants.{Logplay, Mount, Mkdir, Creat, Cp, Verify, Read, Check, Fsck}
+use Rattle.fam_base.specs.declared.cmd.Cmd.TheVariants.{Fsck}
 use Rattle.fam_base.specs.declared.entry.Params.{Params}
 use Rattle.fam_base.specs.declared.entry.Entry.{Entry}
 use Rattle.fam_format.specs.declared.faults.SuperFault.{SuperFault}
@@ -32,15 +32,8 @@ pub record Plays (cmd : Cmd) : Type 0 where
 
 -- a command is a check of the whole file system, or one of the others
 pub fsck_or_plays : (cmd : Cmd) → (cmd ≡ Fsck) ⊎ Plays cmd
-fsck_or_plays Logplay = inr (record { other = λ e. absurd (cc); slots = λ t is. rw is refl; opens = λ image have i t r. r; closes = λ image have i t r. r; super = λ f. refl; log = λ f. refl; check = λ t i. refl })
-fsck_or_plays Mount = inr (record { other = λ e. absurd (cc); slots = λ t is. rw is refl; opens = λ image have i t r. r; closes = λ image have i t r. r; super = λ f. refl; log = λ f. refl; check = λ t i. refl })
-fsck_or_plays (Mkdir path attr) = inr (record { other = λ e. absurd (cc); slots = λ t is. rw is refl; opens = λ image have i t r. r; closes = λ image have i t r. r; super = λ f. refl; log = λ f. refl; check = λ t i. refl })
-fsck_or_plays (Creat path size attr stripe fill) = inr (record { other = λ e. absurd (cc); slots = λ t is. rw is refl; opens = λ image have i t r. r; closes = λ image have i t r. r; super = λ f. refl; log = λ f. refl; check = λ t i. refl })
-fsck_or_plays (Cp path attr stripe bytes) = inr (record { other = λ e. absurd (cc); slots = λ t is. rw is refl; opens = λ image have i t r. r; closes = λ image have i t r. r; super = λ f. refl; log = λ f. refl; check = λ t i. refl })
-fsck_or_plays (Verify path against) = inr (record { other = λ e. absurd (cc); slots = λ t is. rw is refl; opens = λ image have i t r. r; closes = λ image have i t r. r; super = λ f. refl; log = λ f. refl; check = λ t i. refl })
-fsck_or_plays (Read path offset count) = inr (record { other = λ e. absurd (cc); slots = λ t is. rw is refl; opens = λ image have i t r. r; closes = λ image have i t r. r; super = λ f. refl; log = λ f. refl; check = λ t i. refl })
-fsck_or_plays (Check listing) = inr (record { other = λ e. absurd (cc); slots = λ t is. rw is refl; opens = λ image have i t r. r; closes = λ image have i t r. r; super = λ f. refl; log = λ f. refl; check = λ t i. refl })
 fsck_or_plays Fsck = inl refl
+fsck_or_plays c = inr (record { other = λ e. absurd (cc); slots = λ t is. rw is refl; opens = λ image have i t r. r; closes = λ image have i t r. r; super = λ f. refl; log = λ f. refl; check = λ t i. refl })
 
 -- that check reads all slots
 pub slots_fsck : (t : Task) → t.cmd ≡ Fsck → slots_read t ≡ t.params.slots

@@ -22,14 +22,7 @@ module _ (image : Lines) (have host h : ℕ) (t : Task) (s s' : SharedState) (fr
   phase_moved at.Gate a = (a.0, a.1, a.2, fresh gate_line a.3)
   phase_moved (at.Check i) a = a
   phase_moved at.Decide a = a
-  phase_moved (at.StoreData j k) a = absurd a
-  phase_moved (at.SendData j) a = absurd a
-  phase_moved (at.StoreSlot j k) a = absurd a
-  phase_moved (at.SendSlot j) a = absurd a
-  phase_moved at.StoreGate a = absurd a
-  phase_moved at.FenceSlot a = absurd a
-  phase_moved at.SendGate a = absurd a
-  phase_moved at.FenceGate a = absurd a
+  phase_moved e a = absurd a
 
 -- a cache moves at a line
 module _ (image : Lines) (have host line : ℕ) (s s' : SharedState) (transfer : TransfersAt host line s s') (still : Still image have s) where

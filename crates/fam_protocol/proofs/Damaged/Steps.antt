@@ -45,14 +45,7 @@ module _ (image : Lines) (have host : ℕ) (s s' : SharedState) (word : ℕ) (t 
   moved_by at.Gate a done = inl (gate_line, load_transfer host gate_line 0 s s' word done)
   moved_by (at.Check i) a done = inr done
   moved_by at.Decide a done = inr done
-  moved_by (at.StoreData j k) a done = absurd a
-  moved_by (at.SendData j) a done = absurd a
-  moved_by (at.StoreSlot j k) a done = absurd a
-  moved_by (at.SendSlot j) a done = absurd a
-  moved_by at.StoreGate a done = absurd a
-  moved_by at.FenceSlot a done = absurd a
-  moved_by at.SendGate a done = absurd a
-  moved_by at.FenceGate a done = absurd a
+  moved_by e a done = absurd a
 
 module _ (image : Lines) (have host : ℕ) (s s' : SharedState) (still : Still image have s) (moved : Moved host s s') where
   -- the image is as it was
@@ -96,14 +89,7 @@ module _ (image : Lines) (have : ℕ) (uuid : ℕ → Option (List ℕ)) (host :
   says at.Gate a done = gate_says image have uuid host s' t bare me lines word a.0 a.1 a.2 (loads gate_line 0 a.3 done)
   says (at.Check i) a done = slot_says image have uuid host s' t bare me lines i a.0 a.1 (a.2 ∙ slot_words_are image t i)
   says at.Decide a done = decide_says image have uuid host s' t bare me lines a
-  says (at.StoreData j k) a done = absurd a
-  says (at.SendData j) a done = absurd a
-  says (at.StoreSlot j k) a done = absurd a
-  says (at.SendSlot j) a done = absurd a
-  says at.StoreGate a done = absurd a
-  says at.FenceSlot a done = absurd a
-  says at.SendGate a done = absurd a
-  says at.FenceGate a done = absurd a
+  says e a done = absurd a
 
 module _ (image : Lines) (have : ℕ) (uuid : ℕ → Option (List ℕ)) (host : ℕ) (s s' : SharedState) (word : ℕ) (t : Task) (still : Still image have s)
     (holds : BadTaskHolds image have uuid host t s) (done : Operates (op_of t) host s s' word) where

@@ -5,7 +5,7 @@ use Rattle.std.specs.List.{range_with_len}
 use Rattle.std.proofs.lemmas.List.{take_all}
 use Rattle.std.proofs.lemmas.List.FromFn.{length-map-range_with_len, take-map-range_with_len, map-range_with_len_more}
 use Rattle.fam_base.specs.declared.cmd.Cmd.{Cmd}
-use Rattle.fam_base.specs.declared.cmd.Cmd.TheVariants.{Logplay, Mount, Mkdir, Creat, Cp, Verify, Read, Check, Fsck}
+use Rattle.fam_base.specs.declared.cmd.Cmd.TheVariants.{Verify}
 use Rattle.fam_format.specs.Reading.{Lines}
 use Rattle.fam_commands.specs.declared.phase.Part.{Part}
 use Rattle.fam_commands.specs.declared.phase.Part.TheVariants.{Superblock, Header, Slot, File as FileLines}
@@ -26,14 +26,7 @@ kept_all (Verify path against) Superblock j meta = refl
 kept_all (Verify path against) Header j meta = refl
 kept_all (Verify path against) (Slot i) j meta = refl
 kept_all (Verify path against) FileLines j meta = absurd meta
-kept_all Logplay part j meta = refl
-kept_all Mount part j meta = refl
-kept_all (Mkdir path attr) part j meta = refl
-kept_all (Creat path size attr stripe fill) part j meta = refl
-kept_all (Cp path attr stripe bytes) part j meta = refl
-kept_all (Read path offset count) part j meta = refl
-kept_all (Check listing) part j meta = refl
-kept_all Fsck part j meta = refl
+kept_all e part j meta = refl
 
 none_left_out : (n z : ℕ) (words : List ℕ) → z ≡ 0 → take (n - z) (drop z words) ≡ take n words
 none_left_out n z words none =

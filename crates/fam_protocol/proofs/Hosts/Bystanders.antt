@@ -166,19 +166,7 @@ module _ (image : ℕ → List ℕ) (have host : ℕ) (t : Task) (s : SharedStat
 
   -- a task on a damaged image
   pub bad_phase_kept : (phase : Phase) → AtDamagedPhase phase image have host t s → AtDamagedPhase phase image have host t (with_copies s copy)
-  bad_phase_kept at.DropMagic h = h
   bad_phase_kept at.Magic h = (h.0, still_fresh 0 h.1)
-  bad_phase_kept (at.Drop part j) h = h
   bad_phase_kept (at.Word part j k) (known, below, within, fresh, loaded) = (known, below, within, still_fresh (part_line t part j) fresh, loaded)
-  bad_phase_kept at.DropGate h = h
   bad_phase_kept at.Gate h = (h.0, h.1, h.2, still_fresh gate_line h.3)
-  bad_phase_kept (at.Check i) h = h
-  bad_phase_kept at.Decide h = h
-  bad_phase_kept (at.StoreData j k) h = h
-  bad_phase_kept (at.SendData j) h = h
-  bad_phase_kept (at.StoreSlot j k) h = h
-  bad_phase_kept (at.SendSlot j) h = h
-  bad_phase_kept at.StoreGate h = h
-  bad_phase_kept at.FenceSlot h = h
-  bad_phase_kept at.SendGate h = h
-  bad_phase_kept at.FenceGate h = h
+  bad_phase_kept e h = h

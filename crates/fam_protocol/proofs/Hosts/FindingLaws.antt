@@ -151,12 +151,7 @@ module _ (sys : System) (r : Run) (all : List File) (settled : ℕ) where
   refused_by : (why : Refused) → IsOfDecision why → MayRefuse why sys r.task all settled → RefusesWhole sys.params r.task all settled why
   refused_by (refused.NotMaster me master) has may = absurd has
   refused_by (refused.LongPath limit) has may = absurd has
-  refused_by refused.BadStripe has may = may
-  refused_by (refused.Exists kind) has may = may
-  refused_by refused.NoParent has may = may
-  refused_by refused.ParentIsFile has may = may
-  refused_by (refused.LogFull slots) has may = may
-  refused_by (refused.NoSpace units) has may = may
+  refused_by e has may = may
 
   no_fault_by : (reply : Reply) → MayReply reply sys r all settled → IsOfFault reply → ⊥
   no_fault_by (NoSuperblock fault) may has = may
@@ -186,12 +181,7 @@ module _ (image : Lines) (have : ℕ) (t : Task) where
   not_refused_by : (r : Refused) → MayReplyBad (NotAppended r) image have t → IsOfDecision r → ⊥
   not_refused_by (refused.NotMaster me master) may has = absurd has
   not_refused_by (refused.LongPath limit) may has = absurd has
-  not_refused_by refused.BadStripe may has = may
-  not_refused_by (refused.Exists kind) may has = may
-  not_refused_by refused.NoParent may has = may
-  not_refused_by refused.ParentIsFile may has = may
-  not_refused_by (refused.LogFull slots) may has = may
-  not_refused_by (refused.NoSpace units) may has = may
+  not_refused_by e may has = may
 
 -- The laws.
 

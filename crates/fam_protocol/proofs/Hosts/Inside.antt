@@ -50,12 +50,9 @@ AsksWithin lines Digest = ⊤
 
 -- so it is inside a machine's image of so many lines, of which all that its cache has to send are lines
 inside_of : (op : Op) (m : Machine) (lines : ℕ) → length m.image ≡ lines → ((l : ℕ) → IsDirty (cell_at m.cache l) → l < lines) → AsksWithin lines op → IsInImage op m
-inside_of (Load line k) m lines same dirty within = omega (arith, same, within)
-inside_of (Store line k value) m lines same dirty within = omega (arith, same, within)
-inside_of (WriteBack line) m lines same dirty within = omega (arith, same, within)
 inside_of Fence m lines same dirty within = λ l is. omega (arith, same, dirty l (asked_dirty (cell_at m.cache l) is))
-inside_of (Invalidate line) m lines same dirty within = omega (arith, same, within)
 inside_of Digest m lines same dirty within = tt
+inside_of e m lines same dirty within = omega (arith, same, within)
 
 module _ (lines : ℕ) (enough : least_lines ≤ lines) (p : Params) (sound : SoundParams p) (device : p.device ≤ line_bytes * lines) where
   slot_within : (i j : ℕ) → i < p.slots → j < (geometry p).lines → slot_line p i j < lines
@@ -108,12 +105,8 @@ module _ (lines : ℕ) (enough : least_lines ≤ lines) (sys : System) (s : Shar
       (wanted_line t.cmd f.file.entry.size j (subst (λ (o : Option Entry). j < wanted_lines t.cmd (size_of o)) f.entry within))
 
   pub at_within : (p : Phase) → AtPhase p sys host floor t s all settled → AsksWithin lines (op_at t p)
-  at_within at.DropMagic holds = omega (arith, enough)
-  at_within at.Magic holds = omega (arith, enough)
   at_within (at.Drop part j) holds = part_within part j holds.0 holds.1
   at_within (at.Word part j k) holds = part_within part j holds.0 holds.1
-  at_within at.DropGate holds = omega (arith, enough)
-  at_within at.Gate holds = omega (arith, enough)
   at_within (at.Check i) holds = tt
   at_within at.Decide holds = tt
   at_within (at.StoreData j k) holds =
@@ -126,10 +119,9 @@ module _ (lines : ℕ) (enough : least_lines ≤ lines) (sys : System) (s : Shar
   at_within (at.SendSlot j) holds =
       let w = holds.writing in
       subst (λ (q : Params). slot_line q t.gate j < lines) (sym w.params) (slot_within lines enough sys.params core.head.sound device_within t.gate j (omega (arith, w.pending, core.room)) holds.line)
-  at_within at.StoreGate holds = omega (arith, enough)
   at_within at.FenceSlot holds = tt
-  at_within at.SendGate holds = omega (arith, enough)
   at_within at.FenceGate holds = tt
+  at_within e holds = omega (arith, enough)
 
 -- on a damaged image
 module _ (image : Lines) (lines : ℕ) (enough : least_lines ≤ lines) (limit : line_bytes * lines ≤ device_limit) (host : ℕ) (t : Task) (s : SharedState) where
@@ -162,14 +154,7 @@ module _ (image : Lines) (lines : ℕ) (enough : least_lines ≤ lines) (limit :
   bad_within at.Gate holds = omega (arith, enough)
   bad_within (at.Check i) holds = tt
   bad_within at.Decide holds = tt
-  bad_within (at.StoreData j k) holds = absurd holds
-  bad_within (at.SendData j) holds = absurd holds
-  bad_within (at.StoreSlot j k) holds = absurd holds
-  bad_within (at.SendSlot j) holds = absurd holds
-  bad_within at.StoreGate holds = absurd holds
-  bad_within at.FenceSlot holds = absurd holds
-  bad_within at.SendGate holds = absurd holds
-  bad_within at.FenceGate holds = absurd holds
+  bad_within e holds = absurd holds
 
 -- wherever a task stands
 within : (settled : Settled) (lines : ℕ) (hosts : Hosts) (s : SharedState) → line_bytes * lines ≤ device_limit → InvariantBy settled lines hosts s → (h : ℕ) (r : Run) → hosts.run h ≡ Some r → AsksWithin lines (op_of r.task)

@@ -133,16 +133,13 @@ module _ (lines : ℕ) (hosts : Hosts) (host line : ℕ) (s s' : SharedState) (t
 
 -- on a damaged image no mount has its reply: where the host kept nothing it keeps nothing
 keeps_none : (turn : Turn) (image : Lines) (have : ℕ) (t : Task) → MaySayBad turn image have t → kept_after turn t None ≡ None
-keeps_none (Goes next) image have t may = refl
-keeps_none (Marks next) image have t may = refl
-keeps_none (Finds n next) image have t may = refl
-keeps_none (Writes seq e next) image have t may = refl
 keeps_none (Ends reply) image have t may = by_reply reply may
   where
     by_reply : (r : Reply) → MayReplyBad r image have t → kept_by r (read_by t) None ≡ None
     by_reply (Played m tree) may' = refl
     by_reply (Mounted m) may' = absurd may'
     by_reply other may' = refl
+keeps_none e image have t may = refl
 
 -- So do lines that are sent, and the media's failure behind them.
 invariant_sent : (lines : ℕ) (hosts : Hosts) (host : ℕ) (sent : List ℕ) (s s' : SharedState) → Sends host sent s s' → hosts.uuid host ≢ None → (settled : Settled) → Invariant settled lines hosts s → Invariant settled lines hosts s'
@@ -199,11 +196,8 @@ module _ (lines host word : ℕ) (r : Run) (old new : Hosts) (s s' : SharedState
     sys = record { params = p; have = line_bytes * lines; uuid = old.uuid; master = is.master }
 
     known_mine : (t : Turn) (q : Run) (all' : List File) (settled' : ℕ) → run_after t settled r ≡ Some q → TaskContinues t sys host (floor_after t settled r.floor) s' all' settled' → TaskHolds sys host q.floor q.task s' all' settled'
-    known_mine (Goes t) q all' settled' e on = subst (λ (x : Run). TaskHolds sys host x.floor x.task s' all' settled') (same_Some _ q e) on
-    known_mine (Marks t) q all' settled' e on = subst (λ (x : Run). TaskHolds sys host x.floor x.task s' all' settled') (same_Some _ q e) on
-    known_mine (Finds n t) q all' settled' e on = subst (λ (x : Run). TaskHolds sys host x.floor x.task s' all' settled') (same_Some _ q e) on
-    known_mine (Writes seq e' t) q all' settled' e on = subst (λ (x : Run). TaskHolds sys host x.floor x.task s' all' settled') (same_Some _ q e) on
     known_mine (Ends reply) q all' settled' e on = absurd (no_run e)
+    known_mine c q all' settled' e on = subst (λ (x : Run). TaskHolds sys host x.floor x.task s' all' settled') (same_Some _ q e) on
 
     after : After turn sys host r.floor r.named r.task s' all settled
     unfolding turn sys
@@ -228,10 +222,6 @@ module _ (lines host word : ℕ) (r : Run) (old new : Hosts) (s s' : SharedState
 
         -- what a logplay lists and what a mount has read is the history's front
         listed : (k : Option Kept) (turn' : Turn) → turn_at r.task.phase r.task word ≡ turn' → Tells r.task r.task.phase turn' → KeepsPrefix p (list_after turn' all) (settled_after turn' settled) k → KeepsPrefix p (list_after turn' all) (settled_after turn' settled) (kept_after turn' r.task k)
-        listed k (Goes next) at tells keeps = keeps
-        listed k (Marks next) at tells keeps = keeps
-        listed k (Finds n next) at tells keeps = keeps
-        listed k (Writes seq e' next) at tells keeps = keeps
         listed k (Ends reply) at tells keeps = by_reply reply k at tells keeps
           where
             by_reply : (reply' : Reply) (k' : Option Kept) → turn_at r.task.phase r.task word ≡ Ends reply' → ReplyTells r.task r.task.phase reply' → KeepsPrefix p all (settled_after (Ends reply') settled) k' → KeepsPrefix p all (settled_after (Ends reply') settled) (kept_by reply' (read_by r.task) k')
@@ -239,6 +229,7 @@ module _ (lines host word : ℕ) (r : Run) (old new : Hosts) (s s' : SharedState
             by_reply (Played m tree) (Some k') at' tells' keeps' = played_keeps sys host r.floor r.task s all settled m tells' (is.tasks host r steps.is).phase
             by_reply (Mounted m) k' at' tells' keeps' = played_keeps sys host r.floor r.task s all settled m tells' (is.tasks host r steps.is).phase
             by_reply other k' at' tells' keeps' = keeps'
+        listed k e at tells keeps = keeps
 
         kept : (h : ℕ) → Same h host → KeepsPrefix p (list_after (turn_at r.task.phase r.task word) all) (settled_after (turn_at r.task.phase r.task word) settled) (new.kept h)
         kept h (inl e) =
@@ -312,11 +303,8 @@ step_keeps host word settled r old new s s' steps keeps h q run = by_host (same 
     turn_is = given_turn r.task.phase r.task word refl
 
     goes_on : (turn : Turn) → Tells r.task r.task.phase turn → run_after turn (settled_count settled) r ≡ Some q → q.task.kept ≡ kept_after turn r.task r.task.kept
-    goes_on (Goes next) tells is = ap (λ (x : Run). x.task.kept) (sym (same_Some _ q is)) ∙ tells
-    goes_on (Marks next) tells is = ap (λ (x : Run). x.task.kept) (sym (same_Some _ q is)) ∙ tells
-    goes_on (Finds n next) tells is = ap (λ (x : Run). x.task.kept) (sym (same_Some _ q is)) ∙ tells
-    goes_on (Writes seq e next) tells is = ap (λ (x : Run). x.task.kept) (sym (same_Some _ q is)) ∙ tells
     goes_on (Ends reply) tells is = absurd (no_run is)
+    goes_on e tells is = ap (λ (x : Run). x.task.kept) (sym (same_Some _ q is)) ∙ tells
 
     by_host : Same h host → q.task.kept ≡ new.kept h
     by_host (inl e) =

@@ -4,7 +4,7 @@ use Rattle.std.specs.Prelude.{nat_le, slice_get, get_or, Option, Some, None}
 use Rattle.std.specs.Int.{div_ceil}
 use Rattle.std.proofs.lemmas.Option.{slice_get_cases}
 use Rattle.fam_base.specs.declared.cmd.Cmd.{Cmd}
-use Rattle.fam_base.specs.declared.cmd.Cmd.TheVariants.{Logplay, Mount, Mkdir, Creat, Cp, Verify, Read, Check, Fsck}
+use Rattle.fam_base.specs.declared.cmd.Cmd.TheVariants.{Logplay}
 use Rattle.fam_base.specs.declared.entry.Entry.{Entry}
 use Rattle.fam_format.specs.Layout.{log_line, slot_line, geometry}
 use Rattle.fam_machine.specs.OneLine.{IsDirty}
@@ -26,14 +26,7 @@ counted_line size j lt = omega (arith, lt)
 -- the wanted bytes end within the file
 pub wanted_within : (cmd : Cmd) (size : ℕ) → wanted_end cmd size ≤ size
 wanted_within Logplay size = omega arith
-wanted_within Mount size = omega arith
-wanted_within (Mkdir path attr) size = omega arith
-wanted_within (Creat path n attr stripe fill) size = omega arith
-wanted_within (Cp path attr stripe bytes) size = omega arith
-wanted_within (Verify path against) size = omega arith
-wanted_within (Read path offset count) size = omega arith
-wanted_within (Check listing) size = omega arith
-wanted_within Fsck size = omega arith
+wanted_within e size = omega arith
 
 -- a wanted line of a file holds a byte of it
 pub wanted_line : (cmd : Cmd) (size j : ℕ) → j < wanted_lines cmd size → line_bytes * (first_line cmd + j) < size

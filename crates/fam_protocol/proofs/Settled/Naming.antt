@@ -52,11 +52,4 @@ module _ (r q : Run) (settled : ℕ) where
   named_kept at.FenceSlot word at_phase holds is has = named_on (holds tt) at.StoreGate is
   named_kept at.SendGate word at_phase holds is has = named_on (holds tt) at.FenceGate is
   named_kept at.FenceGate word at_phase holds is has = absurd (cc)
-  named_kept at.DropMagic word at_phase holds is has = named_before at.DropMagic word tt at_phase is has
-  named_kept at.Magic word at_phase holds is has = named_before at.Magic word tt at_phase is has
-  named_kept (at.Drop part j) word at_phase holds is has = named_before (at.Drop part j) word tt at_phase is has
-  named_kept (at.Word part j k) word at_phase holds is has = named_before (at.Word part j k) word tt at_phase is has
-  named_kept at.DropGate word at_phase holds is has = named_before at.DropGate word tt at_phase is has
-  named_kept at.Gate word at_phase holds is has = named_before at.Gate word tt at_phase is has
-  named_kept (at.Check i) word at_phase holds is has = named_before (at.Check i) word tt at_phase is has
-  named_kept at.Decide word at_phase holds is has = named_before at.Decide word tt at_phase is has
+  named_kept e word at_phase holds is has = named_before e word tt at_phase is has

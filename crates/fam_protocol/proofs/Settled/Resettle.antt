@@ -3,7 +3,7 @@ use Rattle.std.proofs.Common.{ℕ, ◌≤◌, ◌≡◌, ◌≢◌, inl, inr, Li
 use Rattle.std.specs.Prelude.{Some, Option}
 use Rattle.std.proofs.lemmas.Option.{same_Some}
 use Rattle.fam_base.specs.declared.cmd.Cmd.{Cmd}
-use Rattle.fam_base.specs.declared.cmd.Cmd.TheVariants.{Logplay, Mount, Mkdir, Creat, Cp, Verify, Read, Check, Fsck}
+use Rattle.fam_base.specs.declared.cmd.Cmd.TheVariants.{Check, Fsck}
 use Rattle.fam_format.specs.Layout.{gate_line}
 use Rattle.fam_commands.specs.declared.phase.Part.{Part}
 use Rattle.fam_commands.specs.declared.phase.Part.TheVariants.{Superblock, Header, Slot, File as FileLines}
@@ -59,11 +59,8 @@ module _ (sys : System) (s : SharedState) (all : List File) (settled : ℕ) (cor
 
     phase_raised : (p : Phase) → AtPhase p sys h floor t s all settled → AtPhase p sys h floor t s all (max settled m)
     unfolding writing_raised
-    phase_raised at.DropMagic k = k
-    phase_raised at.Magic k = k
     phase_raised (at.Drop part j) k = (on_raised part j k.0, k.1, k.2)
     phase_raised (at.Word part j i) k = (on_raised part j k.0, k.1, k.2, k.3)
-    phase_raised at.DropGate k = k
     phase_raised at.Gate k = (k.0, k.1, k.2, record { low = at_least_more floor settled (max settled m) (omega arith) k.3.low; copy = k.3.copy; masters = k.3.masters })
     phase_raised (at.Check i) k = (k.0, slot_raised i k.1, k.2)
     phase_raised at.Decide k = (k.0, all_raised k.1)
@@ -73,8 +70,7 @@ module _ (sys : System) (s : SharedState) (all : List File) (settled : ℕ) (cor
     phase_raised (at.SendSlot j) k = record { writing = writing_raised k.writing; line = k.line; contents = k.contents; before = k.before; here = k.here }
     phase_raised at.StoreGate k = record { writing = writing_raised k.writing; contents = k.contents; slot = k.slot }
     phase_raised at.FenceSlot k = record { writing = writing_raised k.writing; contents = k.contents; slot = k.slot }
-    phase_raised at.SendGate k = k
-    phase_raised at.FenceGate k = k
+    phase_raised e k = k
 
     pub task_raised : TaskHolds sys h floor t s all settled → TaskHolds sys h floor t s all (max settled m)
     task_raised holds = record { command = holds.command; me = holds.me; lines = holds.lines; phase = phase_raised t.phase holds.phase }
@@ -104,14 +100,7 @@ module _ (sys : System) (s : SharedState) (all : List File) (settled : ℕ) (cor
 
         go : (c : Cmd) → t.cmd ≡ c → HasRead c i t all → HasRead c i t all'
         go Fsck e v = surveyed v
-        go Logplay e v = played (below (rw e refl)) v
-        go Mount e v = played (below (rw e refl)) v
-        go (Mkdir path attr) e v = played (below (rw e refl)) v
-        go (Creat path size attr stripe fill) e v = played (below (rw e refl)) v
-        go (Cp path attr stripe bytes) e v = played (below (rw e refl)) v
-        go (Verify path against) e v = played (below (rw e refl)) v
-        go (Read path offset count) e v = played (below (rw e refl)) v
-        go (Check listing) e v = played (below (rw e refl)) v
+        go c e v = played (below (rw e refl)) v
 
     low_gate : KnowsGate h floor t s all settled → t.gate ≤ top_of sys s
     low_gate g = omega (arith, g.high, core.order)
@@ -153,13 +142,10 @@ module _ (sys : System) (s : SharedState) (all : List File) (settled : ℕ) (cor
     phase_relisted (at.Check i) k = (k.0, slot_relisted i k.0 k.1, k.2)
     phase_relisted at.Decide k = (k.0, all_relisted k.0 k.1)
     phase_relisted (at.StoreData j i) k = absurd (other k.1.writing.master)
-    phase_relisted (at.SendData j) k = absurd (other k.writing.master)
     phase_relisted (at.StoreSlot j i) k = absurd (other k.1.writing.master)
-    phase_relisted (at.SendSlot j) k = absurd (other k.writing.master)
-    phase_relisted at.StoreGate k = absurd (other k.writing.master)
-    phase_relisted at.FenceSlot k = absurd (other k.writing.master)
     phase_relisted at.SendGate k = absurd (other k.master)
     phase_relisted at.FenceGate k = absurd (other k.0.master)
+    phase_relisted e k = absurd (other k.writing.master)
 
     pub task_relisted : TaskHolds sys h floor t s all settled → TaskHolds sys h floor t s all' settled'
     task_relisted holds = record { command = holds.command; me = holds.me; lines = holds.lines; phase = phase_relisted t.phase holds.phase }

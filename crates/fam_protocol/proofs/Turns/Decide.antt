@@ -121,12 +121,7 @@ module _ (sys : System) (host : ℕ) (floor : Option ℕ) (named : Option Named)
     may_refuse : (r : Refused) → decide_wish t.params t.me t.entries w ≡ Err r → MayRefuse r sys (commanded t cmd) all settled
     may_refuse (refused.NotMaster a b) e = absurd ((refused_for sys.params t.me (entries_of all) w (refused.NotMaster a b) (decided _ e)).2 me_is)
     may_refuse (refused.LongPath limit) e = record { wish = w; wished = asks; is = refused_for sys.params t.me (entries_of all) w (refused.LongPath limit) (decided _ e) }
-    may_refuse refused.BadStripe e = record { settled_is = settled_is; is = decides _ e }
-    may_refuse (refused.Exists kind) e = record { settled_is = settled_is; is = decides _ e }
-    may_refuse refused.NoParent e = record { settled_is = settled_is; is = decides _ e }
-    may_refuse refused.ParentIsFile e = record { settled_is = settled_is; is = decides _ e }
-    may_refuse (refused.LogFull slots) e = record { settled_is = settled_is; is = decides _ e }
-    may_refuse (refused.NoSpace units) e = record { settled_is = settled_is; is = decides _ e }
+    may_refuse c e = record { settled_is = settled_is; is = decides _ e }
 
     top_is : top_of sys s ≡ t.gate
     top_is = omega (arith, core.order, core.high, core.low, settled_is, whole)

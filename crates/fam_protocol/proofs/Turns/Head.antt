@@ -110,9 +110,9 @@ module _ (sys : System) (host : ℕ) (floor : Option ℕ) (named : Option Named)
   host_decides t w is none asks (may_ask same short passed) = rw passed (host_goes t (Some w) is none asks (λ v e. core.named.only host (is.me ∙ ap Some same)))
   host_decides t w is none asks (another other refusal) =
       rw refusal (ends sys host floor named s all settled core t (NotAppended (NotMaster t.me sys.params.master)) (record { me_is = refl; master_is = refl; other = other }) (omega arith))
-  host_decides t w is none asks (too_long same long refusal) =
+  host_decides t w is none asks (too_long first same long refusal) =
       let limit : ℕ = (geometry sys.params).path_limit in
-      rw refusal (ends sys host floor named s all settled core t (NotAppended (LongPath limit)) (record { wish = w; wished = asks; is = record { master = same; limit_is = refl; long = long } }) (omega arith))
+      rw refusal (ends sys host floor named s all settled core t (NotAppended (LongPath limit)) (record { wish = w; wished = asks; is = record { format = first; master = same; limit_is = refl; long = long } }) (omega arith))
 
   host_turned : (t : Task) (wish : Option Wish) → IsTask sys host t → NoSlot t → wish_of t.cmd ≡ wish → After (host_turn t sys.params (host_refusal wish sys.params t.me)) sys host floor named t s all settled
   host_turned t None is none asks = host_goes t None is none asks (λ w e. absurd (cc))

@@ -9,7 +9,7 @@ use Rattle.fam_commands.specs.declared.phase.Phase.{Phase}
 use Rattle.fam_commands.specs.Task.{Task, part_count, part_line}
 use Rattle.fam_commands.specs.Turns.{slots_read, Turn, Goes, Marks, Finds, Writes, Ends}
 use Rattle.fam_rules.specs.Asks.{File}
-use Rattle.fam_rules.specs.Reply.{Reply, Appended, NotAppended, Played, Mounted, Same, Differs, Length, Bytes, NotFound, IsDirectory, Checks, Reports, NoSuperblock, BadHeader, BadSlot}
+use Rattle.fam_rules.specs.Reply.{Reply, Appended, NotAppended, Reports, NoSuperblock, BadHeader, BadSlot}
 use Rattle.fam_rules.specs.declared.answers.Refused.{Refused}
 use Rattle.fam_rules.specs.declared.answers.Refused.TheVariants as refused
 use Rattle.fam_rules.specs.Place.{line_bytes}
@@ -34,16 +34,12 @@ module _ (t : Task) (p : Phase) (w : List ℕ) where
   -- a part has as many lines
   pub count_moved : (part : Part) → part_count (moved t p w) part ≡ part_count t part
   count_moved Superblock = refl
-  count_moved Header = refl
-  count_moved (Slot i) = refl
-  count_moved FileLines = refl
+  count_moved e = refl
 
   -- the words that were loaded are told by the new ones
   pub loaded_moved : (part : Part) (memory : ℕ → List ℕ) (j k : ℕ) → w ≡ loaded memory t part j k → HasLoaded memory (moved t p w) part j k
   loaded_moved Superblock memory j k h = h
-  loaded_moved Header memory j k h = h
-  loaded_moved (Slot i) memory j k h = h
-  loaded_moved FileLines memory j k h = h
+  loaded_moved e memory j k h = h
 
   -- which lines are sure doesn't change
   pub sure_moved : (part : Part) → IsStable (moved t p w) part → IsStable t part
@@ -55,9 +51,7 @@ module _ (t : Task) (p : Phase) (w : List ℕ) where
   -- nor what is known of a line that is being read
   pub reading_moved : (part : Part) (host j k : ℕ) (s : SharedState) → (IsStable t part → Fresh (s.memory (part_line t part j)) (s.copy host (part_line t part j)) × (w ≡ loaded s.memory t part j k)) → IsBeingRead host (moved t p w) part j k s
   reading_moved Superblock host j k s h = h
-  reading_moved Header host j k s h = h
-  reading_moved (Slot i) host j k s h = h
-  reading_moved FileLines host j k s h = h
+  reading_moved e host j k s h = h
 
   -- how many slots are read, by the command
   slots_by : (cmd : Cmd) → slots_read (record t { cmd = cmd; phase = p; words = w }) ≡ slots_read (record t { cmd = cmd })
@@ -116,12 +110,7 @@ module _ (t : Task) (p : Phase) (w : List ℕ) where
     may_refuse_moved : (r : Refused) → MayRefuse r sys (moved t p w) all settled → MayRefuse r sys t all settled
     may_refuse_moved (refused.NotMaster me master) h = record { me_is = h.me_is; master_is = h.master_is; other = h.other }
     may_refuse_moved (refused.LongPath limit) h = record { wish = h.wish; wished = h.wished; is = h.is }
-    may_refuse_moved refused.BadStripe h = refused_moved refused.BadStripe h
-    may_refuse_moved (refused.Exists kind) h = refused_moved (refused.Exists kind) h
-    may_refuse_moved refused.NoParent h = refused_moved refused.NoParent h
-    may_refuse_moved refused.ParentIsFile h = refused_moved refused.ParentIsFile h
-    may_refuse_moved (refused.LogFull slots) h = refused_moved (refused.LogFull slots) h
-    may_refuse_moved (refused.NoSpace units) h = refused_moved (refused.NoSpace units) h
+    may_refuse_moved e h = refused_moved e h
 
     may_reply_moved : (reply : Reply) → MayReply reply sys (record { task = moved t p w; floor = floor; named = named }) all settled → MayReply reply sys (record { task = t; floor = floor; named = named }) all settled
     may_reply_moved (Appended seq) h = record { count = h.count; file = h.file; last = h.last; named = h.named; entry = h.entry }
@@ -130,15 +119,7 @@ module _ (t : Task) (p : Phase) (w : List ℕ) where
     may_reply_moved (NoSuperblock fault) h = h
     may_reply_moved (BadHeader fault) h = h
     may_reply_moved (BadSlot seq reason) h = h
-    may_reply_moved (Played m tree) h = asked_moved (Played m tree) h
-    may_reply_moved (Mounted m) h = asked_moved (Mounted m) h
-    may_reply_moved (Same m) h = asked_moved (Same m) h
-    may_reply_moved (Differs m offset found wanted) h = asked_moved (Differs m offset found wanted) h
-    may_reply_moved (Length m size wanted) h = asked_moved (Length m size wanted) h
-    may_reply_moved (Bytes m bytes) h = asked_moved (Bytes m bytes) h
-    may_reply_moved (NotFound m) h = asked_moved (NotFound m) h
-    may_reply_moved (IsDirectory m) h = asked_moved (IsDirectory m) h
-    may_reply_moved (Checks m checked) h = asked_moved (Checks m checked) h
+    may_reply_moved e h = asked_moved e h
 
     may_say_moved : (turn : Turn) → MaySay turn sys (record { task = moved t p w; floor = floor; named = named }) all settled → MaySay turn sys (record { task = t; floor = floor; named = named }) all settled
     may_say_moved (Goes next) h = tt

@@ -52,13 +52,7 @@ module _ (sys : System) (host : ℕ) (floor : Option ℕ) (named : Option Named)
   file_by : (cmd : Cmd) (j : ℕ) (t : Task) → IsTask sys host (commanded t cmd) → OnPart FileLines j sys host floor (commanded t cmd) s all settled → j < part_count (commanded t cmd) FileLines → HasLoaded s.memory (commanded t cmd) FileLines j 8 → After (file_turn cmd (commanded t cmd) j) sys host floor named (commanded t cmd) s all settled
   file_by (Verify path against) j t is on within has = verify_line sys host floor named s all settled core t path against (reads_log (Verify path against) (λ e. cc)) j is on.0 on.1 within has
   file_by (Read path offset count) j t is on within has = read_line sys host floor named s all settled core t path offset count (reads_log (Read path offset count) (λ e. cc)) j is on.0 on.1 within has
-  file_by Logplay j t is on within has = absurd (no_file Logplay on.1.file.path refl on.1.file.wanted)
-  file_by Mount j t is on within has = absurd (no_file Mount on.1.file.path refl on.1.file.wanted)
-  file_by (Mkdir path attr) j t is on within has = absurd (no_file (Mkdir path attr) on.1.file.path refl on.1.file.wanted)
-  file_by (Creat path size attr stripe fill) j t is on within has = absurd (no_file (Creat path size attr stripe fill) on.1.file.path refl on.1.file.wanted)
-  file_by (Cp path attr stripe bytes) j t is on within has = absurd (no_file (Cp path attr stripe bytes) on.1.file.path refl on.1.file.wanted)
-  file_by (Check listing) j t is on within has = absurd (no_file (Check listing) on.1.file.path refl on.1.file.wanted)
-  file_by Fsck j t is on within has = absurd (no_file Fsck on.1.file.path refl on.1.file.wanted)
+  file_by e j t is on within has = absurd (no_file e on.1.file.path refl on.1.file.wanted)
 
   -- a line of a part was loaded
   line : (part : Part) (j : ℕ) (t : Task) → IsTask sys host t → OnPart part j sys host floor t s all settled → j < part_count t part → (IsStable t part → HasLoaded s.memory t part j 8) → After (line_turn t part j) sys host floor named t s all settled

@@ -1,6 +1,6 @@
 //! Making a file system.
 
-ghost use Rattle.std.specs.Prelude.{◌≡◌, ◌*◌, ◌<◌, ◌≤◌, ◌++◌, ◌∷◌, [], OnErr, vec_capacity, Bool, None, Some, ℕ, List, IfErr, IfOk, IfSome, IsErrOf, IsTrue, OnOk, option_map, vec_len};
+ghost use Rattle.std.specs.Prelude.{◌≡◌, ◌*◌, ◌<◌, ◌≤◌, ◌++◌, ◌∷◌, [], OnErr, vec_capacity, None, Some, ℕ, List, IfErr, IfOk, IfSome, IsErrOf, IsTrue, OnOk, option_map, vec_len};
 ghost use Rattle.fam_format.specs.Params.{is_format};
 ghost use Rattle.fam_rules.specs.Place.{line_bytes};
 ghost use Rattle.fam_machine.specs.Mkfs.{early_refusal};

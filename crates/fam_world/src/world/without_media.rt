@@ -106,7 +106,7 @@ impl World {
     }
 
     /// Begins a command on a host, on an image of so many lines, with what the host keeps of the log. It is refused as
-    /// `may_begin` says.
+    /// `may_begin` says. That the command is one as the laws of journals ask of a begin, `is_command` says.
     pub fn begin(&mut self, lines: u64, name: &HostName, cmd: &Cmd) -> Result<(), WorldFault>
         requires command { IsSoundCmd cmd.now }
         requires most { lines ≤ most_lines }

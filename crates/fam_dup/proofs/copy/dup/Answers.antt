@@ -8,12 +8,14 @@ use Rattle.fam_rules.specs.Place.{line_bytes}
 use Rattle.fam_rules.specs.Written.{put_lines}
 use Rattle.fam_dup.specs.Ends.{NamesLine}
 use Rattle.fam_dup.specs.Findings.{class_of, finding}
-use Rattle.fam_dup.specs.Lines.{AreCut, copy_puts}
+use Rattle.fam_dup.specs.Lines.{AreCut, AreCutAt, copy_puts}
 use Rattle.fam_dup.proofs.Cutting.{cut_others, cut_reads, cut_some}
 use Rattle.fam_dup.proofs.Failing.{failure_cause, failure_later}
 use Rattle.fam_dup.proofs.Finding.{copied_to, entries_or, failed_ends, free_to, large_from, left_alone, names_found, small_from, sound_from, wanted_memory}
 use Rattle.fam_dup.proofs.Following.{copies_follow}
 use Rattle.fam_dup.proofs.Whole.{whole_copy}
+use Rattle.fam_dup.specs.Ends.{IsStep, from_counted, to_counted}
+use Rattle.fam_dup.proofs.Asking.{asked_cut, asked_from, asked_memory, asked_none, asked_to, from_unasked, own_from, own_to, to_unasked, wanted_from, wanted_to}
 use Rattle.fam_dup.proofs.copy.dup.Goals as goal
 
 pub returns-then-lines-lt-LEAST_LINES-clause-ends : goal.returns-then-lines-lt-LEAST_LINES-clause-ends
@@ -97,9 +99,10 @@ returns-in_err-write_copy-clause-ends g c =
     rw (q.1, q.2) (λ source told old is.
     let enough : least_lines ≤ length source = omega (arith, c.if-lines-lt-LEAST_LINES.false, c.lines-lines.ensures.count, g.met.M.Media.modelled c.args.from.now source told) in
     let fits : p.device ≤ line_bytes * length old = omega (arith, c.requires.asked.device, g.met.N.Media.modelled c.args.to.now old is) in
-    let cut : AreCut (copy_puts (line_at source) p s.entries k.entries) (Some old) new =
-    subst (λ (r : Params). AreCut (copy_puts (line_at source) r s.entries k.entries) (Some old) new) c.in_ok-copies.ensures.params
-    (subst (λ (o : Option Image). AreCut (copy_puts (line_at source) k.params s.entries k.entries) o new) (t.same ∙ is) (e.puts source (c.in_ok-source.ensures.same ∙ told))) in
+    let at_cut : AreCutAt (IsStep s.entries k.entries c.in_err-write_copy.field-0.0) (copy_puts (line_at source) p s.entries k.entries) (Some old) new =
+    subst (λ (r : Params). AreCutAt (IsStep s.entries k.entries c.in_err-write_copy.field-0.0) (copy_puts (line_at source) r s.entries k.entries) (Some old) new) c.in_ok-copies.ensures.params
+    (subst (λ (o : Option Image). AreCutAt (IsStep s.entries k.entries c.in_err-write_copy.field-0.0) (copy_puts (line_at source) k.params s.entries k.entries) o new) (t.same ∙ is) (e.puts source (c.in_ok-source.ensures.same ∙ told))) in
+    let cut = at_cut.cut in
     let after = cut_some (copy_puts (line_at source) p s.entries k.entries) old new cut in
     let left : AreCut (copy_puts (line_at source) p s.entries k.entries) (Some old) (Some after.0) = subst (λ (o : Option Image). AreCut (copy_puts (line_at source) p s.entries k.entries) (Some old) o) after.1 cut in (
       after.0,
@@ -153,3 +156,106 @@ returns-in_err-write_copy-clause-line g c =
     rw (q.1, q.2)
     (subst (λ (n : ℕ). NamesLine n (g.N.Media.size c.args.to.now) e.field-0.0) c.in_ok-source.ensures.steady.size
     (subst (λ (n : ℕ). NamesLine (g.M.Media.size c.read_source.new.from) n e.field-0.0) c.in_ok-check_target.ensures.steady.size e.ensures.line))
+
+-- The line that a fault names.
+
+pub returns-in_err-source-clause-asked : goal.returns-in_err-source-clause-asked
+returns-in_err-source-clause-asked g c =
+    let e = c.in_err-source.ensures in
+    let q = err_from_is_err_and c.from_residual.result c.from_residual.ensures.1 in
+    rw (q.1, q.2) (λ source told old is. asked_from source old _ c.args.params.now c.args.force c.in_err-source.field-0.0 _ _ is e.cause (e.asked source told))
+
+pub returns-in_err-check_target-clause-asked : goal.returns-in_err-check_target-clause-asked
+returns-in_err-check_target-clause-asked g c =
+    let e = c.in_err-check_target.ensures in
+    let q = err_from_is_err_and c.from_residual-in_err-check_target.result c.from_residual-in_err-check_target.ensures.1 in
+    rw (q.1, q.2) (λ source told old is. asked_to source old _ c.args.params.now c.args.force c.in_err-check_target.field-0.0 _ _ (e.same ∙ is) e.cause e.asked)
+
+pub returns-in_err-copies-clause-asked : goal.returns-in_err-copies-clause-asked
+returns-in_err-copies-clause-asked g c =
+    let q = err_from_is_err_and c.from_residual-in_err-copies.result c.from_residual-in_err-copies.ensures.1 in
+    rw (q.1, q.2) (λ source told old is. asked_none source old _ c.args.params.now c.args.force c.in_err-copies.field-0.0 c.in_err-copies.ensures.own)
+
+pub returns-in_err-buffer-clause-asked : goal.returns-in_err-buffer-clause-asked
+returns-in_err-buffer-clause-asked g c =
+    let q = err_from_is_err_and c.from_residual-in_err-buffer.result c.from_residual-in_err-buffer.ensures.1 in
+    rw (q.1, q.2) (λ source told old is. asked_memory source old _ c.args.params.now c.args.force c.in_err-buffer.field-0.0 c.in_err-buffer.ensures.full)
+
+pub returns-in_err-write_copy-clause-asked : goal.returns-in_err-write_copy-clause-asked
+returns-in_err-write_copy-clause-asked g c =
+    let p = c.args.params.now in
+    let force = c.args.force in
+    let s = c.in_ok-source.source in
+    let k = c.in_ok-copies.copies in
+    let t = c.in_ok-check_target.ensures in
+    let e = c.in_err-write_copy.ensures in
+    let f = c.in_err-write_copy.field-0.0 in
+    let q = err_from_is_err_and c.from_residual-in_err-write_copy.result c.from_residual-in_err-write_copy.ensures.1 in
+    let new : Option Image = (g.N.Media.state c.write_copy.new.to).image in
+    rw (q.1, q.2) (λ source told old is.
+    let enough : least_lines ≤ length source = omega (arith, c.if-lines-lt-LEAST_LINES.false, c.lines-lines.ensures.count, g.met.M.Media.modelled c.args.from.now source told) in
+    asked_cut source old new p force f (record {
+      entries = s.entries;
+      copies = k.entries;
+      found = copied_to source old p force s.params s.entries enough (c.in_ok-source.ensures.told source told) (t.free old is) k.entries c.in_ok-copies.ensures.told;
+      cut = subst (λ (r : Params). AreCutAt (IsStep s.entries k.entries f) (copy_puts (line_at source) r s.entries k.entries) (Some old) new) c.in_ok-copies.ensures.params
+          (subst (λ (o : Option Image). AreCutAt (IsStep s.entries k.entries f) (copy_puts (line_at source) k.params s.entries k.entries) o new) (t.same ∙ is) (e.puts source (c.in_ok-source.ensures.same ∙ told)));
+    }))
+
+-- How often a media that counts exactly has failed.
+
+pub returns-in_err-source-clause-counted_to : goal.returns-in_err-source-clause-counted_to
+returns-in_err-source-clause-counted_to g c =
+    let f = c.in_err-source.field-0.0 in
+    let e = c.in_err-source.ensures in
+    let q = err_from_is_err_and c.from_residual.result c.from_residual.ensures.1 in
+    rw (q.1, q.2) (λ exact. to_unasked _ _ _ (class_of f) e.cause)
+
+pub returns-in_err-check_target-clause-counted_from : goal.returns-in_err-check_target-clause-counted_from
+returns-in_err-check_target-clause-counted_from g c =
+    let f = c.in_err-check_target.field-0.0 in
+    let e = c.in_err-check_target.ensures in
+    let q = err_from_is_err_and c.from_residual-in_err-check_target.result c.from_residual-in_err-check_target.ensures.1 in
+    rw (q.1, q.2) (λ exact. c.in_ok-source.ensures.quiet exact ∙ from_unasked _ _ _ (class_of f) e.cause)
+
+pub returns-in_err-copies-clause-counted_from : goal.returns-in_err-copies-clause-counted_from
+returns-in_err-copies-clause-counted_from g c =
+    let f = c.in_err-copies.field-0.0 in
+    let e = c.in_err-copies.ensures in
+    let q = err_from_is_err_and c.from_residual-in_err-copies.result c.from_residual-in_err-copies.ensures.1 in
+    rw (q.1, q.2) (λ exact. c.in_ok-source.ensures.quiet exact ∙ own_from _ (class_of f) e.own)
+
+pub returns-in_err-copies-clause-counted_to : goal.returns-in_err-copies-clause-counted_to
+returns-in_err-copies-clause-counted_to g c =
+    let f = c.in_err-copies.field-0.0 in
+    let e = c.in_err-copies.ensures in
+    let q = err_from_is_err_and c.from_residual-in_err-copies.result c.from_residual-in_err-copies.ensures.1 in
+    rw (q.1, q.2) (λ exact. c.in_ok-check_target.ensures.quiet exact ∙ own_to _ (class_of f) e.own)
+
+pub returns-in_err-buffer-clause-counted_from : goal.returns-in_err-buffer-clause-counted_from
+returns-in_err-buffer-clause-counted_from g c =
+    let f = c.in_err-buffer.field-0.0 in
+    let e = c.in_err-buffer.ensures in
+    let q = err_from_is_err_and c.from_residual-in_err-buffer.result c.from_residual-in_err-buffer.ensures.1 in
+    rw (q.1, q.2) (λ exact. c.in_ok-source.ensures.quiet exact ∙ wanted_from _ (class_of f) e.full)
+
+pub returns-in_err-buffer-clause-counted_to : goal.returns-in_err-buffer-clause-counted_to
+returns-in_err-buffer-clause-counted_to g c =
+    let f = c.in_err-buffer.field-0.0 in
+    let e = c.in_err-buffer.ensures in
+    let q = err_from_is_err_and c.from_residual-in_err-buffer.result c.from_residual-in_err-buffer.ensures.1 in
+    rw (q.1, q.2) (λ exact. c.in_ok-check_target.ensures.quiet exact ∙ wanted_to _ (class_of f) e.full)
+
+pub returns-in_err-write_copy-clause-counted_from : goal.returns-in_err-write_copy-clause-counted_from
+returns-in_err-write_copy-clause-counted_from g c =
+    let f = c.in_err-write_copy.field-0.0 in
+    let e = c.in_err-write_copy.ensures in
+    let q = err_from_is_err_and c.from_residual-in_err-write_copy.result c.from_residual-in_err-write_copy.ensures.1 in
+    rw (q.1, q.2) (λ exact. e.counted_from exact ∙ ap (from_counted (class_of f)) (c.in_ok-source.ensures.quiet exact))
+
+pub returns-in_err-write_copy-clause-counted_to : goal.returns-in_err-write_copy-clause-counted_to
+returns-in_err-write_copy-clause-counted_to g c =
+    let f = c.in_err-write_copy.field-0.0 in
+    let e = c.in_err-write_copy.ensures in
+    let q = err_from_is_err_and c.from_residual-in_err-write_copy.result c.from_residual-in_err-write_copy.ensures.1 in
+    rw (q.1, q.2) (λ exact. e.counted_to exact ∙ ap (to_counted (class_of f)) (c.in_ok-check_target.ensures.quiet exact))

@@ -5,10 +5,11 @@ use Rattle.fam_base.specs.Image.{line_at}
 use Rattle.fam_rules.specs.Content.{file_words}
 use Rattle.fam_rules.specs.Written.{file_line, file_puts, lines_of}
 use Rattle.fam_rules.proofs.Puts.{puts_from}
-use Rattle.fam_dup.specs.Lines.{AreCut, ArePut, bytes_in}
+use Rattle.fam_dup.specs.Lines.{AreCutAt, ArePut, bytes_in}
 use Rattle.fam_dup.specs.Runs.{part_puts}
 use Rattle.fam_dup.specs.Passes.{ArePassed}
 use Rattle.fam_dup.proofs.Passing.{pass_none}
+use Rattle.fam_dup.specs.Ends.{IsFileStep}
 use Rattle.fam_dup.proofs.RunPuts.{run_cut_short, run_part}
 use Rattle.fam_dup.proofs.Rows.{row_end}
 use Rattle.fam_dup.proofs.files.copy_file.Goals as goal
@@ -25,6 +26,8 @@ loop-j-init g c =
       within = search rules;
       buffer = search rules;
       same = search rules;
+      quiet_from = search rules;
+      quiet_to = search rules;
       steady_from = search rules;
       steady_to = search rules;
     }
@@ -35,10 +38,10 @@ returns-in_err-copy_run-clause-puts g c = λ image told.
     let copy = c.args.copy.now in
     let bytes : List ℕ = bytes_in (line_at image) c.args.entry.now in
     let p = err_from_is_err_and c.from_residual.result c.from_residual.ensures.1 in
-    rw p.1
+    rw (p.1, p.2)
     (run_cut_short (file_line copy) (file_words bytes) (file_puts copy bytes) c.loop-j.j c.run_of-count.result c.lines_of-lines.result (g.N.Media.state c.args.to.now).image (g.N.Media.state c.loop-j.to).image (g.N.Media.state c.copy_run.new.to).image
     (omega (arith, c.run_of-count.ensures.most, c.min.ensures, v.within)) (v.passed image told)
-    (subst (λ (n : ℕ). AreCut (part_puts copy bytes c.loop-j.j n) (g.N.Media.state c.loop-j.to).image (g.N.Media.state c.copy_run.new.to).image) (length-take-le c.run_of-count.result c.loop-j.buffer (omega (arith, c.run_of-count.ensures.most, c.min.ensures))) (c.in_err-copy_run.ensures.puts image (v.same ∙ told))))
+    (subst (λ (n : ℕ). AreCutAt (IsFileStep c.args.entry.now copy c.in_err-copy_run.field-0.0) (part_puts copy bytes c.loop-j.j n) (g.N.Media.state c.loop-j.to).image (g.N.Media.state c.copy_run.new.to).image) (length-take-le c.run_of-count.result c.loop-j.buffer (omega (arith, c.run_of-count.ensures.most, c.min.ensures))) (c.in_err-copy_run.ensures.puts image (v.same ∙ told))))
 
 pub loop-j-preserved : goal.loop-j-preserved
 loop-j-preserved g c =
@@ -55,6 +58,8 @@ loop-j-preserved g c =
       within = fits;
       buffer = search rules;
       same = e.same ∙ v.same;
+      quiet_from = λ exact. e.quiet_from exact ∙ v.quiet_from exact;
+      quiet_to = λ exact. e.quiet_to exact ∙ v.quiet_to exact;
       steady_from = record { size = e.steady_from.size ∙ v.steady_from.size; later = omega (arith, e.steady_from.later, v.steady_from.later) };
       steady_to = record { size = e.steady_to.size ∙ v.steady_to.size; later = omega (arith, e.steady_to.later, v.steady_to.later) };
     }

@@ -1,4 +1,4 @@
-use Rattle.std.proofs.Common.{◌≡◌, ◌-◌, ◌≤◌, length}
+use Rattle.std.proofs.Common.{◌≡◌, true, ◌-◌, ◌≤◌, length}
 use Rattle.fam_base.specs.Image.{line_at}
 use Rattle.fam_media.specs.Causes.{IsSteady}
 use Rattle.fam_media.specs.Outside.{IfModelled}
@@ -18,6 +18,8 @@ invariant-loop-j g l = record {
   within : l.j ≤ l.lines;
   buffer : length l.buffer ≡ length l.fn.buffer;
   same : (g.M.Media.state l.from).image ≡ (g.M.Media.state l.fn.from).image;
+  quiet_from : g.M.Media.exact ≡ true → (g.M.Media.state l.from).faults ≡ (g.M.Media.state l.fn.from).faults;
+  quiet_to : g.N.Media.exact ≡ true → (g.N.Media.state l.to).faults ≡ (g.N.Media.state l.fn.to).faults;
   steady_from : IsSteady g.M.Media.size g.M.Media.state l.fn.from l.from;
   steady_to : IsSteady g.N.Media.size g.N.Media.state l.fn.to l.to;
 }

@@ -1,10 +1,11 @@
-use Rattle.std.proofs.Common.{◌+◌, ◌∙◌, List, Option, drop, subst, arith, rules}
+use Rattle.std.proofs.Common.{◌+◌, ◌∙◌, List, Option, drop, subst, inr, arith, rules}
 use Rattle.std.proofs.lemmas.Result.{err_from_is_err_and}
 use Rattle.fam_base.specs.Image.{Image, line_at}
 use Rattle.fam_rules.specs.Written.{Put, file_puts}
+use Rattle.fam_dup.specs.Ends.{IsStep}
 use Rattle.fam_dup.specs.Lines.{bytes_in, files_puts}
 use Rattle.fam_dup.specs.Passes.{ArePassed}
-use Rattle.fam_dup.proofs.Passing.{pass_all, pass_cut, pass_none, pass_part}
+use Rattle.fam_dup.proofs.Passing.{cut_as, pass_all, pass_cut, pass_none, pass_part}
 use Rattle.fam_dup.proofs.Rows.{files_at, files_end}
 use Rattle.fam_dup.proofs.files.copy_files.Goals as goal
 
@@ -37,6 +38,8 @@ loop-seq-init g c = record {
   passed = λ image told. pass_none (files_puts (line_at image) c.args.source.now.entries c.args.copies.now.entries) (g.N.Media.state c.args.to.now).image;
   buffer = search rules;
   same = search rules;
+  quiet_from = search rules;
+  quiet_to = search rules;
   steady_from = search rules;
   steady_to = search rules;
 }
@@ -59,6 +62,8 @@ loop-seq-preserved g c =
           (e.puts image (v.same ∙ told));
       buffer = e.buffer ∙ v.buffer;
       same = e.same ∙ v.same;
+      quiet_from = λ exact. e.quiet_from exact ∙ v.quiet_from exact;
+      quiet_to = λ exact. e.quiet_to exact ∙ v.quiet_to exact;
       steady_from = record { size = e.steady_from.size ∙ v.steady_from.size; later = omega (arith, e.steady_from.later, v.steady_from.later) };
       steady_to = record { size = e.steady_to.size ∙ v.steady_to.size; later = omega (arith, e.steady_to.later, v.steady_to.later) };
     }
@@ -74,10 +79,11 @@ returns-in_err-copy_file-clause-puts g c = λ image told.
     let old : Option Image = (g.N.Media.state c.args.to.now).image in
     let mid : Option Image = (g.N.Media.state c.loop-seq.to).image in
     let p = err_from_is_err_and c.from_residual.result c.from_residual.ensures.1 in
-    rw p.1
+    rw (p.1, p.2)
     (pass_cut all mine rest old mid (g.N.Media.state c.copy_file.new.to).image
     (subst (λ (l : List Put). ArePassed all l old mid) (files_at (line_at image) entries copies c.loop-seq.seq c.entry_at-entry.result c.entry_at-copy.result c.entry_at-entry.ensures.at c.entry_at-copy.ensures.at) (v.passed image told))
-    (c.in_err-copy_file.ensures.puts image (v.same ∙ told)))
+    (cut_as {By = IsStep entries copies c.in_err-copy_file.field-0.0} _ _ _ (λ put at. record { step = inr (c.loop-seq.seq, c.entry_at-entry.result, c.entry_at-copy.result, c.entry_at-entry.ensures.at, c.entry_at-copy.ensures.at, at) })
+    (c.in_err-copy_file.ensures.puts image (v.same ∙ told))))
 
 pub returns-clause-puts : goal.returns-clause-puts
 returns-clause-puts g c = λ image told.

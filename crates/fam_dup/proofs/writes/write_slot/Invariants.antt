@@ -1,4 +1,4 @@
-use Rattle.std.proofs.Common.{◌-◌}
+use Rattle.std.proofs.Common.{◌≡◌, ◌-◌, true}
 use Rattle.fam_format.specs.Layout.{geometry, slot_line}
 use Rattle.fam_format.specs.Slot.{spelling}
 use Rattle.fam_media.specs.Causes.{IsSteady}
@@ -12,5 +12,6 @@ abbrev pub invariant-lines : goal.invariant-lines
 invariant-lines g l = record {
   passed : ArePassed (slot_puts l.params l.seq l.copy) (puts_from (slot_line l.params l.seq) (slot_part (spelling (geometry l.params) l.copy l.seq)) l.j ((geometry l.params).lines - l.j))
       (g.N.Media.state l.fn.to).image (g.N.Media.state l.to).image;
+  quiet : g.N.Media.exact ≡ true → (g.N.Media.state l.to).faults ≡ (g.N.Media.state l.fn.to).faults;
   steady : IsSteady g.N.Media.size g.N.Media.state l.fn.to l.to;
 }

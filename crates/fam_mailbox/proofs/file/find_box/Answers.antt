@@ -32,4 +32,4 @@ pub returns-in-Err-check_box-clause-fault : goal.returns-in-Err-check_box-clause
 returns-in-Err-check_box-clause-fault g c = λ image is.
     subst (IsSo c.args.path.now image) (sym c.box_fault.ensures)
     (box_so c.args.path.now image (g.M.Media.state c.find_file.new.media).image c.in-Ok.entry c.in-Err-check_box.fault (c.find_file.ensures.same ∙ is)
-    (c.in-Ok.ensures.found image is) (omega (arith, c.if-entry-lt-LEAST_BOX.false)) c.in-Err-check_box.ensures.wrong)
+    (c.in-Ok.ensures.found image is) (omega (arith, c.if-entry-lt-LEAST_BOX.false)) c.in-Err-check_box.ensures.wrong c.in-Err-check_box.ensures.line)

@@ -1,6 +1,9 @@
-use Rattle.std.proofs.Common.{◌≤◌, length, arith}
+use Rattle.std.proofs.Common.{ℕ, ◌*◌, ◌≤◌, length, subst, sym, arith}
+use Rattle.fam_base.specs.Image.{line_at}
 use Rattle.fam_format.specs.Layout.{least_lines}
 use Rattle.fam_media.specs.States.{change}
+use Rattle.fam_replay.specs.Sources.{FailsAt, IsAskedFor}
+use Rattle.fam_rules.specs.Place.{line_bytes}
 use Rattle.fam_mailbox.proofs.Faults.{files_found, no_files}
 use Rattle.fam_mailbox.proofs.file.find_file.Goals as goal
 
@@ -25,8 +28,10 @@ returns-in-Ok-clause-fault g c =
 pub returns-in-Err-clause-fault : goal.returns-in-Err-clause-fault
 returns-in-Err-clause-fault g c = λ image told.
     let enough : least_lines ≤ length image = omega (arith, c.if-lines-lt-LEAST_LINES.false, c.lines-lines.ensures.count, g.met.M.Media.modelled c.args.media.now image told) in
+    let count = g.met.M.Media.modelled c.args.media.now image told in
     c.entries_fault.ensures.is c.args.path.now image enough (c.in-Err.ensures.fault image told)
+    (subst (λ (n : ℕ). FailsAt (IsAskedFor (line_at image) (line_bytes * n)) c.in-Err.fault) (sym count) (c.in-Err.ensures.asked image told))
 
 pub returns-in-Err-clause-cause : goal.returns-in-Err-clause-cause
 returns-in-Err-clause-cause g c =
-    c.entries_fault.ensures.cause (g.M.Media.size c.args.media.now) (change g.M.Media.state c.args.media.now c.read_source.new.from) c.in-Err.ensures.cause c.in-Err.ensures.line
+    c.entries_fault.ensures.cause (g.M.Media.size c.args.media.now) (change g.M.Media.state c.args.media.now c.read_source.new.media) c.in-Err.ensures.cause c.in-Err.ensures.line

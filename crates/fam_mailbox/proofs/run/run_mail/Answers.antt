@@ -1,4 +1,4 @@
-use Rattle.std.proofs.Common.{◌≡◌, ◌+◌, List, length, drop, Some, Err, arith, ap, subst, sym, ◌∙◌}
+use Rattle.std.proofs.Common.{◌≡◌, ◌+◌, List, length, drop, Some, Ok, Err, arith, ap, subst, sym, ◌∙◌}
 use Rattle.std.specs.Prelude.{slice_get}
 use Rattle.std.proofs.lemmas.Option.{slice_get-get_or}
 use Rattle.fam_mail.specs.declared.note.MailNote.{MailNote}
@@ -8,6 +8,8 @@ use Rattle.fam_program.specs.Puts.{PutWhole}
 use Rattle.fam_program.proofs.Texts.Pieces.{nothing_put}
 use Rattle.fam_mailbox.proofs.Found.{proper_entry}
 use Rattle.fam_mailbox.proofs.Running.{all_ran, cut_ran, first_going, from_within, goes_on, noted, part_put, short_put, short_ran, sink_ran, text_put}
+use Rattle.fam_mailbox.specs.Runs.{PutsFirst, PutsPart}
+use Rattle.fam_mailbox.proofs.LastEvents.{ends_in}
 use Rattle.fam_mailbox.proofs.Rendering.{short_some}
 use Rattle.fam_mailbox.proofs.run.run_mail.Goals as goal
 
@@ -62,7 +64,9 @@ returns-in-Err g c =
       ran =
           cut_ran g.M.Media.size g.M.Media.state c.args.entry.now c.args.events.now c.args.media.now g.K.Sink.state c.args.out.now c.put_cut.new.out c.events.event-index c.events.media c.happen.new.media c.events.world c.happen.new.self c.put_cut.result c.event-item.result (record {}) inv.going n is c.in-Err.ensures.runs
           (short_put g.M.Media.size g.M.Media.state c.args.entry.now c.args.events.now c.args.media.now c.events.event-index c.events.media c.happen.new.media c.events.world c.happen.new.self inv.going n (length c.journal-from.result.now) (ap (λ (ns : List MailNote). length ns) c.journal-from.ensures)
-          (g.K.Sink.state c.args.out.now) (g.K.Sink.state c.events.out) (g.K.Sink.state c.put_cut.new.out) inv.later inv.put c.put_cut.result c.put_cut.ensures.says);
+          (g.K.Sink.state c.args.out.now) (g.K.Sink.state c.events.out) (g.K.Sink.state c.put_cut.new.out) inv.later inv.put c.put_cut.result c.put_cut.ensures.says)
+          (ends_in g.M.Media.size g.M.Media.state c.args.entry.now c.args.events.now c.args.media.now c.events.event-index c.events.media c.happen.new.media c.events.world c.happen.new.self inv.going n (length c.journal-from.result.now) (ap (λ (ns : List MailNote). length ns) c.journal-from.ensures)
+          c.event-item.result is (Err (record {})) c.in-Err.ensures.runs (PutsFirst c.put_cut.result) (g.K.Sink.state c.args.out.now) (g.K.Sink.state c.events.out) (g.K.Sink.state c.put_cut.new.out) inv.later inv.put c.put_cut.ensures.says);
       steady = record { size = c.happen.ensures.steady.size ∙ inv.going.size_is; later = let x = inv.going.later in let y = c.happen.ensures.steady.later in omega (arith, x, y) };
       later = let x = inv.later in let y = c.put_cut.ensures.later in omega (arith, x, y);
     }
@@ -77,7 +81,9 @@ returns-in-Err-Sink g c =
           sink_ran g.M.Media.size g.M.Media.state c.args.entry.now c.args.events.now c.args.media.now g.K.Sink.state c.args.out.now c.put_notes.new.out (c.events.event-index + 1) c.happen.new.media c.happen.new.self
           (goes_on g.M.Media.size g.M.Media.state c.args.entry.now c.args.events.now c.args.media.now c.events.event-index c.events.media c.happen.new.media c.events.world c.happen.new.self inv.going n c.event-item.result is c.happen.ensures.steady c.happen.ensures.fits c.in-Ok.ensures.runs)
           (part_put g.M.Media.size g.M.Media.state c.args.entry.now c.args.events.now c.args.media.now c.events.event-index c.events.media c.happen.new.media c.events.world c.happen.new.self inv.going n (length c.journal-from.result.now) (ap (λ (ns : List MailNote). length ns) c.journal-from.ensures)
-          (g.K.Sink.state c.args.out.now) (g.K.Sink.state c.events.out) (g.K.Sink.state c.put_notes.new.out) inv.later inv.put (c.put_notes.ensures.part (c.in-Err-Sink.is ∙ ap Err c.in-Err-Sink.field-0-is)));
+          (g.K.Sink.state c.args.out.now) (g.K.Sink.state c.events.out) (g.K.Sink.state c.put_notes.new.out) inv.later inv.put (c.put_notes.ensures.part (c.in-Err-Sink.is ∙ ap Err c.in-Err-Sink.field-0-is)))
+          (ends_in g.M.Media.size g.M.Media.state c.args.entry.now c.args.events.now c.args.media.now c.events.event-index c.events.media c.happen.new.media c.events.world c.happen.new.self inv.going n (length c.journal-from.result.now) (ap (λ (ns : List MailNote). length ns) c.journal-from.ensures)
+          c.event-item.result is (Ok tt) c.in-Ok.ensures.runs PutsPart (g.K.Sink.state c.args.out.now) (g.K.Sink.state c.events.out) (g.K.Sink.state c.put_notes.new.out) inv.later inv.put (c.put_notes.ensures.part (c.in-Err-Sink.is ∙ ap Err c.in-Err-Sink.field-0-is)));
       steady = record { size = c.happen.ensures.steady.size ∙ inv.going.size_is; later = let x = inv.going.later in let y = c.happen.ensures.steady.later in omega (arith, x, y) };
       later = let x = inv.later in let y = c.put_notes.ensures.later in omega (arith, x, y);
     }
@@ -93,6 +99,10 @@ returns-in-Err-OutOfMemory g c =
           (goes_on g.M.Media.size g.M.Media.state c.args.entry.now c.args.events.now c.args.media.now c.events.event-index c.events.media c.happen.new.media c.events.world c.happen.new.self inv.going n c.event-item.result is c.happen.ensures.steady c.happen.ensures.fits c.in-Ok.ensures.runs)
           (short_put g.M.Media.size g.M.Media.state c.args.entry.now c.args.events.now c.args.media.now c.events.event-index c.events.media c.happen.new.media c.events.world c.happen.new.self inv.going n (length c.journal-from.result.now) (ap (λ (ns : List MailNote). length ns) c.journal-from.ensures)
           (g.K.Sink.state c.args.out.now) (g.K.Sink.state c.events.out) (g.K.Sink.state c.put_memory.new.out) inv.later inv.put c.put_memory.result
+          (short_some (drop (length c.journal-from.result.now) c.happen.new.self.journal) (g.K.Sink.state c.events.out) (g.K.Sink.state c.put_notes.new.out) (g.K.Sink.state c.put_memory.new.out) c.put_notes.ensures.later c.put_memory.result
+          (c.put_notes.ensures.some (c.in-Err-OutOfMemory.is ∙ ap Err c.in-Err-OutOfMemory.field-0-is)) c.put_memory.ensures.put))
+          (ends_in g.M.Media.size g.M.Media.state c.args.entry.now c.args.events.now c.args.media.now c.events.event-index c.events.media c.happen.new.media c.events.world c.happen.new.self inv.going n (length c.journal-from.result.now) (ap (λ (ns : List MailNote). length ns) c.journal-from.ensures)
+          c.event-item.result is (Ok tt) c.in-Ok.ensures.runs (PutsFirst c.put_memory.result) (g.K.Sink.state c.args.out.now) (g.K.Sink.state c.events.out) (g.K.Sink.state c.put_memory.new.out) inv.later inv.put
           (short_some (drop (length c.journal-from.result.now) c.happen.new.self.journal) (g.K.Sink.state c.events.out) (g.K.Sink.state c.put_notes.new.out) (g.K.Sink.state c.put_memory.new.out) c.put_notes.ensures.later c.put_memory.result
           (c.put_notes.ensures.some (c.in-Err-OutOfMemory.is ∙ ap Err c.in-Err-OutOfMemory.field-0-is)) c.put_memory.ensures.put));
       steady = record { size = c.happen.ensures.steady.size ∙ inv.going.size_is; later = let x = inv.going.later in let y = c.happen.ensures.steady.later in omega (arith, x, y) };

@@ -1,4 +1,4 @@
-use Rattle.std.proofs.Common.{◌≡◌, ◌∙◌, List, ℕ, Result, inl, inr, subst}
+use Rattle.std.proofs.Common.{◌≡◌, ◌∙◌, List, ℕ, inl, inr, subst}
 use Rattle.std.specs.Prelude.{IfOk}
 use Rattle.fam_media.specs.States.{change}
 use Rattle.fam_program.specs.Puts.{Put}

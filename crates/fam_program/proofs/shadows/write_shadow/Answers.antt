@@ -44,7 +44,7 @@ returns-in-Some-clause-ends g c =
     shadowed_top out shade c.put_shadow.result later c.own_name-name.result c.args.me journal c.run_until_stop-ended.result
     (subst (λ (es : List Event). ShotEnded c.run_until_stop-ended.result out es journal) c.in-Ok.ensures (c.run_until_stop-ended.ensures.ended sink))
     c.in-Some.ensures.done c.in-Some.m c.in-Some.tree.now (ap shown_tree (sym c.journal.ensures) ∙ c.in-Some.ensures.shown)
-    c.shadow-written.result c.shadow-written.ensures.ends c.shadow-written.ensures.cause c.put_shadow.ensures.put
+    c.shadow-written.result c.shadow-written.ensures.ends c.shadow-written.ensures.cause c.shadow-written.ensures.calls c.put_shadow.ensures.put
 
 pub put_end-requires : goal.put_end-requires
 put_end-requires g c =

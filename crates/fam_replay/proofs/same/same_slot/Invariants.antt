@@ -1,4 +1,4 @@
-use Rattle.std.proofs.Common.{◌≡◌, ◌<◌, ℕ, length, get_or}
+use Rattle.std.proofs.Common.{◌≡◌, ◌<◌, ℕ, get_or}
 use Rattle.fam_replay.proofs.same.same_slot.Given as goal
 
 abbrev pub invariant-loop-k : goal.invariant-loop-k

@@ -50,7 +50,7 @@ other_host e = let b : 2 ≡ 1 = ap last_byte e in absurd (omega (arith, b))
 
 pub returns-clause-long : goal.returns-clause-long
 unfolding shape_of
-returns-clause-long c = long_named params (starts master 169) (long 169) 168 refl refl refl (omega (arith, length-long 169))
+returns-clause-long c = long_named params (starts master 169) (long 169) 168 refl refl refl refl (omega (arith, length-long 169))
 
 pub returns-clause-fits : goal.returns-clause-fits
 returns-clause-fits c = λ a. absurd (omega (arith, length-long 168, (long_says params (starts master 168) (long 168) 168 refl a).above))
@@ -70,9 +70,7 @@ pub returns-clause-long_nowhere : goal.returns-clause-long_nowhere
 returns-clause-long_nowhere c = λ a. a.super
 
 pub returns-clause-long_second : goal.returns-clause-long_second
-unfolding shape_of
-returns-clause-long_second c = long_named second (starts master 513) (long 513) 512 refl refl refl (omega (arith, length-long 513))
+returns-clause-long_second c = λ a. absurd (omega (arith, (long_says second (starts master 513) (long 513) 512 refl a).format))
 
 pub returns-clause-fits_second : goal.returns-clause-fits_second
-unfolding shape_of
-returns-clause-fits_second c = λ a. absurd (omega (arith, (long_says second (starts master 169) (long 169) 168 refl a).limit_is))
+returns-clause-fits_second c = λ a. absurd (omega (arith, (long_says second (starts master 169) (long 169) 168 refl a).format))

@@ -6,6 +6,6 @@ use Rattle.fam_shadow.proofs.passes.put_all.Given as goal
 
 abbrev pub invariant-loop-entry : goal.invariant-loop-entry
 invariant-loop-entry g l = record {
-  put : ArePut (map.values l.tree) (tree_iter_rest l.entry-iterator) (g.D.Shade.state l.initial.shade).nodes (g.D.Shade.state l.shade).nodes;
+  put : ArePut (map.values l.tree) (tree_iter_rest l.entry-iterator) (g.D.Shade.state l.initial.shade) (g.D.Shade.state l.shade);
   later : (g.D.Shade.state l.initial.shade).faults ≤ (g.D.Shade.state l.shade).faults;
 }

@@ -7,6 +7,7 @@ use Rattle.fam_program.specs.Shadows.{ShadowTop, no_files}
 use Rattle.fam_program.proofs.Commands.Shadows.{no_shadow, shadow_wants}
 use Rattle.fam_words.specs.declared.wanted.ShadowCall.{ShadowCall}
 use Rattle.fam_top.specs.Calls.{host_or}
+use Rattle.fam_top.proofs.Uuids.{shadow_uuid}
 use Rattle.fam_top.proofs.shadows.famfs_shadow.Goals as goal
 
 -- the shadow was asked for
@@ -32,3 +33,12 @@ returns-in-Err-clause-ends g c =
     let shade : ShadeChange = change g.D.Shade.state c.args.shade.now c.args.shade.now in
     let later : NoneFalls out = record { media = omega arith; shelf = omega arith; shorts = omega arith; sink = c.put_memory.ensures.later } in
     shadow_wants out shade c.put_memory.result later _ refl refl c.put_memory.ensures.put
+
+pub returns-in-Ok-Some-clause-uuid : goal.returns-in-Ok-Some-clause-uuid
+returns-in-Ok-Some-clause-uuid g c = shadow_uuid c.args.me c.is_uuid.ensures _
+
+pub returns-in-Ok-None-clause-uuid : goal.returns-in-Ok-None-clause-uuid
+returns-in-Ok-None-clause-uuid g c = shadow_uuid c.args.me c.is_uuid.ensures _
+
+pub returns-in-Err-clause-uuid : goal.returns-in-Err-clause-uuid
+returns-in-Err-clause-uuid g c = shadow_uuid c.args.me c.is_uuid.ensures _

@@ -1,4 +1,4 @@
-use Rattle.std.proofs.Common.{rules, ◌≡◌, ◌∙◌, ◌+◌, ◌-◌, ◌++◌, List, ℕ, length, take, sym, ap, ap₂, arith}
+use Rattle.std.proofs.Common.{rules, ◌≡◌, ◌∙◌, ◌+◌, ◌-◌, ◌++◌, List, ℕ, length, ap, ap₂, arith}
 use Rattle.std.proofs.lemmas.Slice.{take-put_mid}
 use Rattle.fam_tasks.specs.SlotLines.{words_in}
 use Rattle.fam_tasks.proofs.FlatLines.{flat_words}

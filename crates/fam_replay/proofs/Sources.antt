@@ -1,0 +1,44 @@
+-- What an image reads as, step by step.
+use Rattle.std.proofs.Common.{◌≡◌, ℕ, suc, ◌+◌, ◌-◌, ◌*◌, ◌<◌, List, [], length, Ok, sym, ap, subst, ◌∙◌, arith}
+use Rattle.fam_base.specs.declared.entry.Params.{Params}
+use Rattle.fam_base.specs.declared.entry.Entry.{Entry}
+use Rattle.fam_base.specs.Image.{Image, line_at}
+use Rattle.fam_format.specs.Layout.{log_line}
+use Rattle.fam_format.specs.Log.{log_fault}
+use Rattle.fam_format.specs.Reading.{Lines, Reading, read_log, read_slots, read_super, reading, reading_of, super_in}
+use Rattle.fam_rules.specs.Place.{line_bytes}
+use Rattle.fam_replay.specs.Sources.{FailsAt, Tells}
+use Rattle.fam_replay.specs.declared.fault.ReadFault.{ReadFault}
+use Rattle.fam_replay.specs.declared.fault.ReadFault.TheVariants as fault
+
+-- by the superblock
+pub by_superblock : (image : Image) (size : ℕ) → length image ≡ size → reading image ≡ read_super (line_at image) (super_in (line_at image) (line_bytes * size))
+unfolding reading_of
+by_superblock image size count = ap (λ (n : ℕ). read_super (line_at image) (super_in (line_at image) (line_bytes * n))) count
+
+-- by the header, behind a superblock that reads
+pub by_header : (image : Image) (size : ℕ) (p : Params) → length image ≡ size → super_in (line_at image) (line_bytes * size) ≡ Ok p → reading image ≡ read_log (line_at image) p (log_fault (line_at image log_line) p)
+by_header image size p count told = by_superblock image size count ∙ ap (read_super (line_at image)) told
+
+-- a fault tells what is read, however that is written
+pub tells_as : (f : ReadFault) (one other : Reading) → one ≡ other → Tells f other → Tells f one
+tells_as f one other same tells = subst (Tells f) (sym same) tells
+
+-- the line at which the media failed is one of more
+pub fails_among : (P Q : ℕ → Type 0) → ((at : ℕ) → P at → Q at) → (f : ReadFault) → FailsAt P f → FailsAt Q f
+fails_among P Q more (fault.NoSuper word) fails = tt
+fails_among P Q more (fault.BadSuper field found wanted) fails = tt
+fails_among P Q more (fault.BadLog field found wanted) fails = tt
+fails_among P Q more (fault.BadEntry seq reason) fails = tt
+fails_among P Q more (fault.MediaFault line) fails = more line.0 fails
+fails_among P Q more fault.OutOfMemory fails = tt
+
+-- the slots that are left, by what a plan has
+pub slots_left : (memory : Lines) (p q : Params) (count slot : ℕ) (entries : List Entry) → q ≡ p → length entries ≡ slot → slot < count → read_slots memory p 0 count [] ≡ read_slots memory p slot (count - slot) entries
+    → read_slots memory p 0 count [] ≡ read_slots memory q (length entries) (suc (count - (slot + 1))) entries
+slots_left memory p q count slot entries params is below told =
+    let more : count - slot ≡ suc (count - (slot + 1)) = omega arith in
+    told
+    ∙ ap (λ (n : ℕ). read_slots memory p slot n entries) more
+    ∙ ap (λ (n : ℕ). read_slots memory p n (suc (count - (slot + 1))) entries) (sym is)
+    ∙ ap (λ (r : Params). read_slots memory r (length entries) (suc (count - (slot + 1))) entries) (sym params)
