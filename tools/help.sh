@@ -1,23 +1,22 @@
 # Read by the launchers: what they answer by themselves.
 
+# puts a text; where that fails the status is 6, as the program's is
+answer() {
+    printf '%s\n' "$1" || exit 6
+    exit 0
+}
+
 # help_on FOLDER WORDS: where the words ask for help or for the version, and for nothing else, prints what the folder's
 # files say and ends with 0. All other words are the program's.
 help_on() {
     folder=$1
     shift
     case $#-${1-} in
-        1---help | 1--h | 1-help)
-            cat "$folder/help.txt"
-            exit 0
-            ;;
-        1---version | 1--V)
-            echo "famfs $(cat "$folder/VERSION")"
-            exit 0
-            ;;
+        1---help | 1--h | 1-help) answer "$(cat "$folder/help.txt")" ;;
+        1---version | 1--V) answer "famfs $(cat "$folder/VERSION")" ;;
     esac
-    if [ $# = 2 ] && [ "$2" = --help ] && awk -v RS= -v name="$1" '
-        $1 == "famfs" && $2 == name && name != "WORDS" { print; found = 1 }
-        END { exit !found }' "$folder/help.txt"; then
-        exit 0
-    fi
+    [ $# = 2 ] && [ "$2" = --help ] || return 0
+    text=$(named=$1 awk -v RS= '
+        $1 == "famfs" && $2 == ENVIRON["named"] && $2 != "WORDS"' "$folder/help.txt")
+    [ -z "$text" ] || answer "$text"
 }
