@@ -1,4 +1,4 @@
-# Completes the words of famfs and mkfs.famfs in bash.
+# Completes the words of famfs, mkfs.famfs, famfs-describe, famfs-extract, famfs-list and famfs-tree in bash.
 
 # the options of a command, each with its other name behind a comma
 _famfs_options() {
@@ -34,10 +34,68 @@ _famfs_places() {
     esac
 }
 
-# the paths inside an image
+# `plain` is the word that the shell makes of what is typed, as far as quotes, backslashes and the home folder go
+_famfs_plain() {
+    local typed=$1 quote="" at char
+    plain=""
+    if [[ $typed == "~/"* ]]; then
+        plain=$HOME
+        typed=${typed#"~"}
+    fi
+    for ((at = 0; at < ${#typed}; at++)); do
+        char=${typed:at:1}
+        case $quote$char in
+            "'" | '"') quote=$char ;;
+            "''" | '""') quote="" ;;
+            \\ | '"\')
+                at=$((at + 1))
+                plain=$plain${typed:at:1}
+                ;;
+            *) plain=$plain$char ;;
+        esac
+    done
+}
+
+# the paths inside an image as they are printed, without those whose bytes are no UTF-8, which no word can name
 _famfs_paths() {
-    [ -f "$1" ] || return
-    famfs logplay "$1" 2>/dev/null | awk 'NR > 1 { print $7 }'
+    [ -f "$1" ] || [ -b "$1" ] || return
+    famfs logplay -- "$1" 2>/dev/null | awk '
+        NR > 1 {
+            left = $7
+            gsub(/\\x(c[2-9a-f]|d[0-9a-f])\\x[89ab][0-9a-f]/, "", left)
+            gsub(/\\xe[0-9a-f]\\x[89ab][0-9a-f]\\x[89ab][0-9a-f]/, "", left)
+            gsub(/\\xf[0-4]\\x[89ab][0-9a-f]\\x[89ab][0-9a-f]\\x[89ab][0-9a-f]/, "", left)
+            if (left !~ /\\x[89a-f]/) print $7
+        }'
+}
+
+# _famfs_offer_paths IMAGE TYPED BEHIND: offers those that begin as what is typed, each as a word of the shell; one with a
+# hyphen in front only behind `--`
+_famfs_offer_paths() {
+    local plain image path offer open=""
+    _famfs_plain "$1"
+    image=$plain
+    case $2 in
+        \'* | \"*) open=${2:0:1} ;;
+    esac
+    _famfs_plain "$2"
+    while IFS= read -r path; do
+        printf -v path %b "$path"
+        [[ $path == "$plain"* ]] || continue
+        [[ $path != -* || -n $3 ]] || continue
+        if [ -z "$open" ]; then
+            printf -v offer %q "$path"
+            offer=${offer//:/\\:}
+            offer=${offer//=/\\=}
+            offer=${offer//@/\\@}
+            [[ $offer != "$'"* ]] || printf -v offer %q "$path"
+        else
+            # inside quotes that the user has opened the path stands as it is, where it can
+            [[ $path != *[\'\"\\\$\`\!]* ]] || continue
+            offer=$path
+        fi
+        COMPREPLY+=("$offer")
+    done < <(_famfs_paths "$image")
 }
 
 _famfs() {
@@ -94,8 +152,63 @@ _famfs() {
             compopt -o filenames
             mapfile -t COMPREPLY < <(compgen -f -- "$word")
             ;;
-        path) mapfile -t COMPREPLY < <(compgen -W "$(_famfs_paths "$image")" -- "$word") ;;
+        path) _famfs_offer_paths "$image" "$word" "$behind" ;;
     esac
 }
 
 complete -F _famfs famfs mkfs.famfs
+
+# the options of a helper
+_famfs_helper_options() {
+    case $1 in
+        famfs-describe | famfs-list) echo "--help --json" ;;
+        famfs-extract) echo "--all --help" ;;
+        famfs-tree) echo "--dry-run --help --system --verify" ;;
+    esac
+}
+
+# what the words of a helper are, in order
+_famfs_helper_places() {
+    case $1 in
+        famfs-describe | famfs-list) echo "file" ;;
+        famfs-extract) echo "file path file" ;;
+        famfs-tree) echo "folder file path" ;;
+    esac
+}
+
+_famfs_helper() {
+    local word=${COMP_WORDS[COMP_CWORD]} name=${COMP_WORDS[0]##*/} image="" waits="" behind="" at place=0
+    COMPREPLY=()
+    local places
+    read -ra places <<<"$(_famfs_helper_places "$name")"
+    for ((at = 1; at < COMP_CWORD; at++)); do
+        local before=${COMP_WORDS[at]}
+        if [ "$before" = = ]; then
+            continue
+        elif [ -n "$waits" ]; then
+            waits=""
+        elif [ -z "$behind" ] && [ "$before" = -- ]; then
+            behind=yes
+        elif [ -z "$behind" ] && [[ $before == -?* ]]; then
+            [[ $before != --all && $before != --system ]] || waits=$before
+        else
+            [ "${places[place]-}" != file ] || [ -n "$image" ] || image=$before
+            place=$((place + 1))
+        fi
+    done
+    [ "$word" != = ] || word=""
+    local what=${places[place]-none}
+    case $waits in
+        --all) what=folder ;;
+        --system) what=none ;;
+        *) [ -n "$behind" ] || [[ $word != -* ]] || what=option ;;
+    esac
+    case $what in
+        option) mapfile -t COMPREPLY < <(compgen -W "$(_famfs_helper_options "$name")" -- "$word") ;;
+        file) compopt -o filenames; mapfile -t COMPREPLY < <(compgen -f -- "$word") ;;
+        folder) compopt -o filenames; mapfile -t COMPREPLY < <(compgen -d -- "$word") ;;
+        path) _famfs_offer_paths "$image" "$word" "$behind" ;;
+    esac
+}
+
+complete -F _famfs_helper famfs-describe famfs-extract famfs-list famfs-tree
