@@ -437,7 +437,7 @@ find_written() {
 # lacks_folder: a shadow's folder isn't there. The program finds that at the first entry, and so not of a tree without any
 lacks_folder() {
     case $given in
-        *' shadow '*) [ ! -d "$shadow_word" ] ;;
+        *' shadow '*) [ -n "$shadow_word" ] && [ ! -d "$shadow_word" ] ;;
         *) return 1 ;;
     esac
 }
