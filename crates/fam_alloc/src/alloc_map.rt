@@ -1,4 +1,9 @@
-//! The map of used units.
+//! The map of used units, kept as free runs.
+//!
+//! A new file asks for the lowest run that is long enough, and a log of whole files leaves few runs, however large the
+//! device is; a bitmap of the largest device would be 32 MiB that are zeroed for each plan. The runs stand in an
+//! ordered map from start to length, which a caller may read. Nothing looks for overlaps before units are taken: a
+//! refusal leaves the map as it was, and only then is the first unit that overlaps looked for.
 
 ghost use Rattle.std.specs.Prelude.{◌≡◌, ℕ, None, ◌+◌, ◌<◌, ◌≤◌, ◌&&◌, ◌||◌, length, nat_lt, IfOk, OnOk, IfErr, OnErr};
 ghost use Rattle.fam_format.specs.Units.{units_in, first_overlap};

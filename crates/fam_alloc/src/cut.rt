@@ -1,7 +1,8 @@
 //! Units that are taken out of free runs, all or none.
 //!
-//! A run that loses its first units stays as a run of none until all extents are taken: its place in the map is
-//! then there to give it back, so that no step back takes memory.
+//! A run that loses its first units stays as a run of none until all extents are taken: its place in the map is then
+//! there to give it back, so that no step back takes memory. A copy of the map, put in its place at the end, would be
+//! simpler, and would cost a full log the square of its runs.
 
 ghost use Rattle.std.specs.Prelude.{◌≡◌, ℕ, None, ◌+◌, ◌-◌, ◌<◌, ◌≤◌, ◌||◌, length, drop, IfOk, OnOk, OnErr};
 ghost use Rattle.fam_format.specs.Units.{units_in, first_overlap};

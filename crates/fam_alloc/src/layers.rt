@@ -1,6 +1,8 @@
 //! A bitmap with hints above it, so that units which are used already are skipped in a few steps.
 //!
-//! A contract sees the words of the bitmap alone: no answer hangs on a hint, only the time that it takes.
+//! A check of a whole file system marks units that are used already, and extents may overlap as often as they like.
+//! Three bitmaps of hints say which words are full. A contract sees the words of the bitmap alone: no answer hangs on a
+//! hint, only the time that it takes. Free runs would skip used units too, but then answers would hang on them.
 
 ghost use Rattle.std.specs.Prelude.{◌≡◌, ℕ, true, false, ◌+◌, ◌*◌, ◌/◌, ◌<◌, ◌≤◌, ◌||◌, length, replicate, vec_len, IfOk};
 ghost use Rattle.fam_alloc.specs.Full.{AreFull};

@@ -1,9 +1,11 @@
-//! The lines of a cache, in blocks of sixteen neighbouring ones.
+//! The lines of a cache, in blocks of sixteen neighbouring ones, each line with a mark and its words.
 //!
-//! Blocks stand in the order in which they were first needed, and stay until all is lost: a line that is brought again finds
-//! its block, and takes no room. An area has the places of sixty-four neighbouring blocks, and areas stand in the order of their
-//! numbers: a new area moves those behind it, once for 1,024 lines. What an area says of a block that isn't there
-//! is any place, and the number of the block that stands in that place tells.
+//! Blocks stand in the order in which they were first needed, and stay until all is lost: a line that is brought again
+//! finds its block, moves nothing and takes no room. A block takes 1,048 bytes, also for one line. An area has the
+//! places of sixty-four neighbouring blocks, and areas stand in the order of their numbers: a new area moves those
+//! behind it, once for 1,024 lines, where a place for each line would have each line of a file over several extents
+//! move those behind it. What an area says of a block that isn't there is any place, and the number of the block that
+//! stands in that place tells.
 
 ghost use Rattle.std.specs.Prelude.{◌≡◌, ◌==◌, ◌≢◌, ℕ, ◌+◌, ◌*◌, ◌/◌, ◌%◌, ◌-◌, ◌<◌, ◌≤◌, IsTrue, ◌↔◌, IfSome, None, OnOk, OnErr, List, length, count_by, slice_index, slice_set, vec_len, vec_capacity, true, false};
 ghost use Rattle.std.specs.Ordering.{nat_cmp};

@@ -1,4 +1,8 @@
 //! A host's cache, as a task and the machine use it.
+//!
+//! Calls for a whole line or several stand beside those for one operation, so that a line is looked up once. Most
+//! faults name no line, since their caller knows it. No count of dirty lines is kept, which every call would have to
+//! keep right.
 
 ghost use Rattle.std.specs.Prelude.{ℕ, ◌≡◌, ◌==◌, ◌+◌, ◌/◌, ◌<◌, ◌≤◌, IsOk, IfErr, IfOk, IfSome, OnOk, OnErr, IsErrOf, None, length, slice_index, true, false};
 ghost use Rattle.std.specs.Option.{option_map};

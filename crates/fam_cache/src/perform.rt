@@ -1,4 +1,7 @@
 //! One operation of the machine's table, on a host's cache and the shared memory.
+//!
+//! One call does any of those that a task asks for, and its fault names the line, so that a runner looks at no
+//! operation itself. A Digest does nothing here, since only the task can say what it thinks.
 
 ghost use Rattle.std.specs.Prelude.{◌≡◌, ◌+◌, ◌<◌, ◌≤◌, IsOk, IfErr, IfOk, OnErr, OnOk, IsErrOf};
 ghost use Rattle.fam_machine.specs.Cuts.{HasFailed, IsMachine};

@@ -1,4 +1,9 @@
 //! What a fence sends: the lines that were asked for.
+//!
+//! `write_back` can't fail, so no list of asked lines is kept, which would take memory. But the first and the last line
+//! that may be asked are (`AskedWithin`): a fence begins at the first one's block and finds the next by its area. A
+//! look at every line would make an append on a long log dearer. Asked lines of a block that stand one behind another,
+//! such as a slot's, are sent by one call.
 
 ghost use Rattle.std.specs.Prelude.{ℕ, ◌≡◌, ◌+◌, ◌/◌, ◌%◌, ◌<◌, ◌≤◌, IsOk, IfOk, IfErr, OnOk, OnErr};
 ghost use Rattle.fam_machine.specs.Caches.{asked_lines, cell_at};

@@ -1,7 +1,8 @@
-//! How long a cache takes for rounds over many lines: `time` of the built program is the figure.
+//! How long a cache takes for rounds over many lines: `time` of the built program is the figure. It is a crate, so that
+//! the cache is built and run just as it is proved.
 //!
-//! Each round goes over 100,000 lines in order, makes each line absent and loads its words anew, as a task
-//! reads a log. So a round is 100,000 invalidations, as many reads of memory, and a million loads.
+//! Each round goes over 100,000 lines in order, makes each line absent and loads its words anew, as a task reads a log.
+//! So a round is 100,000 invalidations, as many reads of memory, and a million loads.
 #![tactic(auto)]
 
 use fam_base::LineNo;

@@ -1,5 +1,9 @@
 //! The files of a copy, by runs of lines: as many as stand one behind another on both media are read by one call and
-//! written by one, up to those of a buffer.
+//! written by one, up to the 1,024 of a buffer.
+//!
+//! The buffer is taken behind the plans, so that want of memory is told before the first write, and it is the same
+//! whatever the files' size. A fault in a run names the line at which it came, and nothing that was read of that run is
+//! written: `AreCut` speaks of lines, not of runs.
 
 ghost use Rattle.std.specs.Prelude.{◌≡◌, ◌+◌, ◌-◌, ◌*◌, ◌≤◌, ◌<◌, ◌∷◌, [], ℕ, IfErr, IfOk, OnOk, length, nat_lt, if◌then◌else◌, true, vec_len};
 ghost use Rattle.fam_base.specs.Image.{line_at};

@@ -1,4 +1,5 @@
-//! Lines of a file that stand one behind another on the device.
+//! Lines of a file that stand one behind another on the device. A run ends where an extent ends, or a chunk of a
+//! striped file; a copy's file has one extent.
 
 ghost use Rattle.std.specs.Prelude.{◌≡◌, ◌+◌, ◌*◌, ◌/◌, ◌%◌, ◌<◌, ◌≤◌, ℕ};
 ghost use Rattle.fam_rules.specs.Place as places;

@@ -1,4 +1,7 @@
 //! What the entries of a log add up to, in the order in which they read.
+//!
+//! The least pair of entries that overlap has the first entry that overlaps anything as its second one. So up to that
+//! entry the used units alone are asked, and it alone is compared with each entry before it.
 
 ghost use Rattle.std.specs.Prelude.{◌≡◌, ◌≤◌, IfOk, OnErr, count_by};
 ghost use Rattle.fam_format.specs.Layout.{device_units};

@@ -1,4 +1,9 @@
 //! A media: an image of lines that several hosts share.
+//!
+//! It takes many lines by one call too, `read_run` and `write_run`, since a call of the system for each line costs more
+//! than its bytes. Their contracts are the folds of `read` and `write`, and their bodies are loops where an implementor
+//! has no better ones. The media of this crate go line by line, so each line is a call of its own, which may be made to
+//! fail.
 
 ghost use Rattle.std.specs.Prelude.{◌≡◌, ℕ, ◌+◌, ◌<◌, ◌≤◌, ⊤, Bool, IfErr, IfOk, List, OnOk, OnErr, false, is_err, length, true};
 ghost use Rattle.std.specs.Option.{option_map};

@@ -1,4 +1,8 @@
 //! Commands as notes keep them. `specs/Commands.antt` says which command each one is.
+//!
+//! A task's command has a field of 512 bytes for its path, since it is copied and compared. A journal keeps each
+//! command to the end of its run, and a large script begins tens of thousands. So a note has the command's parts, with
+//! the path's bytes on the heap, and a contract sees the command itself (`command_of`).
 
 ghost use Rattle.std.specs.Prelude.{◌≡◌, IfOk};
 ghost use Rattle.fam_base.specs.declared.cmd.Cmd.TheVariants as cmd;

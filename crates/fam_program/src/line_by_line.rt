@@ -1,4 +1,8 @@
 //! Scripts that are run while they are read, line by line, with nothing put of them.
+//!
+//! A storm is run so, no line of which is bad: an event is some six hundred bytes large and a line forty, and all
+//! events at once would be most of the memory that a long storm takes. A script in a file is read whole before its
+//! first event, since a bad line anywhere means that nothing is run.
 
 ghost use Rattle.std.specs.Prelude.{◌≡◌, ◌<◌, IfOk, IsOk, List, Ok, length};
 ghost use Rattle.fam_grammar.specs.Scripts.{script_events};

@@ -1,5 +1,15 @@
 //! What is kept of the log that was read: a slot that has the words which an earlier reading found is neither read nor
 //! judged again.
+//!
+//! From its second command on a host of a world keeps the words of each slot, with the plan of their entries, for its
+//! next command; a command of its own, which has no successor, keeps none, and a logplay that lists its tree gives that
+//! away. The next command loads every slot's lines as before. But where a slot's words are the kept ones its entry is
+//! known, behind the same entries: no checksum is computed, no entry read, and none looked for in the tree. That costs
+//! 512 bytes a slot and host for the words, and 1,024 in format 2.
+//!
+//! At the first slot that differs the plan of the entries before it is made anew (`Plan::first`). Where there is no
+//! memory for that, a fault of the entry is found by looking through those entries (`fault_among`), so want of memory
+//! never hides one.
 
 ghost use Rattle.std.specs.Prelude.{◌≡◌, ◌+◌, [], ◌<◌, ◌≤◌, true, false, None, Some, Ok, IfOk, IfSome, IsSome, OnOk, OnErr, length, max, take};
 ghost use Rattle.std.specs.FinMap as map;

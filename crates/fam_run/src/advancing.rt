@@ -1,4 +1,8 @@
 //! What comes next of a task, as a whole: the lines of a slot, lines of a file, or one operation.
+//!
+//! One question, `due`, tells which of these comes next, so no calls are tried one behind another. What comes of it is
+//! a `Turn`, which nearly always says only that the task goes on. So a turn is lent, and `Go` is written and looked at
+//! in place: handed back by value it would be copied some twenty times a slot.
 
 ghost use Rattle.std.specs.Prelude.{◌≡◌, ◌⊎◌, ◌<◌, IsErrOf, OnErr, OnOk};
 ghost use Rattle.fam_media.specs.Causes.{IsSteady};

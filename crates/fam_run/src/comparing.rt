@@ -1,5 +1,8 @@
 //! A line of a file that is compared, all of it: its drop and the loads of its eight words by one read. Of a verify
 //! nearly all operations are such.
+//!
+//! To drop a line that the host didn't store into asks nothing of memory, and once it is brought anew its loads can't
+//! fail. So both are done and the words compared, with none held by the task in between.
 
 ghost use Rattle.std.specs.Prelude.{◌≡◌, IsErrOf};
 ghost use Rattle.fam_media.specs.Causes.{IsSteady};

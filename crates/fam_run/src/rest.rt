@@ -1,5 +1,9 @@
 //! Operations of a task on copies of its host alone: on the line that the host has just brought, the loads of its other
 //! words or the stores into them.
+//!
+//! Once the first word of a line was loaded or stored the cache holds the line, so these ask nothing of the media and
+//! can't fail: they are done at once, by one look-up. The law is the table's, operation by operation (`CachedRun`). The
+//! first load or store of a line stays single, since it may fail, and so does a send.
 
 ghost use Rattle.std.specs.Prelude.{◌≡◌, ◌<◌, ◌≤◌, IfSome, None};
 ghost use Rattle.fam_commands.specs.FirstStore.{IsFirstStore};

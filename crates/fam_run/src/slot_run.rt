@@ -1,4 +1,8 @@
-//! All lines of a slot that are loaded by one call of the media, where memory lacks no word of them.
+//! All lines of a slot that are loaded by one call of the media, where memory lacks no word of them: nearly every slot
+//! is one turn.
+//!
+//! To drop a line of which memory lacks no word sends nothing. The words of a line behind one that fails aren't put, so
+//! its copy stays.
 
 ghost use Rattle.std.specs.Prelude.{◌≡◌, ◌<◌, ◌≤◌, IfErr, IfOk, false, length, true};
 ghost use Rattle.fam_format.specs.Layout.{geometry, slot_line};

@@ -1,5 +1,9 @@
-//! Lines of a slot that are loaded whole: of each line its drop and its eight loads by one read. Of a long log nearly all
-//! operations are such.
+//! Lines of a slot that are loaded whole: of each line its drop and its eight loads by one read. Of a long log nearly
+//! all operations are such.
+//!
+//! None of these changes memory's image, so they may be done in a row: a fault in a later line, or want of memory
+//! there, leaves what those before it did. A line whose copy is dirty is left to the single operations, since its drop
+//! sends it.
 
 ghost use Rattle.std.specs.Prelude.{◌≡◌, ◌+◌, ◌<◌, IfErr, IfOk, IsErrOf, false, true};
 ghost use Rattle.fam_format.specs.Layout.{geometry, slot_line};

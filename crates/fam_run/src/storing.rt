@@ -1,5 +1,10 @@
-//! A line of the new file that is stored whole: its eight stores and its sending by one write, with no read before it. Of
-//! a creat and a copy nearly all operations are such.
+//! A line of the new file that is stored whole: its eight stores and its sending by one write, with no read before it.
+//! Of a creat and a copy nearly all operations are such.
+//!
+//! The table's first store would bring the line, only for all its words to be overwritten. The law is the table's
+//! (`HasDone`, `HasBrokenOff`). Room for the copy is taken first, so want of it changes nothing; and where the write
+//! fails the copy is there, dirty. A read in which the media could have failed isn't made: no clause says that a fault
+//! must come.
 
 ghost use Rattle.std.specs.Prelude.{◌≡◌, IsErrOf};
 ghost use Rattle.fam_media.specs.Causes.{IsSteady};

@@ -1,5 +1,10 @@
-//! Lines of the new file that stand one behind another, stored and sent by one call of the media: of a large file nearly all
-//! operations are such.
+//! Lines of the new file that stand one behind another, stored and sent by one call of the media: of a large file
+//! nearly all operations are such, and a call of the system for each line would cost several times its bytes.
+//!
+//! They are at most 1,024 lines, of which one look-up tells that the cache holds none. The law is the table's, line by
+//! line (`HasAdvanced`). Where the call fails, the line that it names is torn and the host has a dirty copy of it, as
+//! where it was written alone. The task has gone further, but it has ended, and nobody sees that. The lines' words
+//! stand in room of 64 KiB, which is taken when it is first needed; without that memory each line goes alone.
 
 ghost use Rattle.std.specs.Prelude.{◌≡◌, ◌+◌, ◌^◌, ◌<◌, ◌≤◌, [], IfErr, IfOk, IfSome, IsErrOf, ℕ, false, length, true, vec_capacity};
 ghost use Rattle.fam_cache.specs.Operations.{SendsWithin};

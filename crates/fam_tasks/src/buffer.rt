@@ -1,4 +1,7 @@
 //! Words that were loaded and not yet looked at, or that are to be stored.
+//!
+//! They stand in a place of fixed size: the 4,096 bytes that a read gives at most touch no more than 65 lines. The room
+//! for the answer's bytes is taken when the command decides, so no load wants memory.
 
 ghost use Rattle.std.specs.Prelude.{◌≡◌, ◌+◌, ◌*◌, ◌<◌, ◌≤◌, ℕ, [], ◌∷◌, ◌++◌, length, slice_index, slice_range};
 ghost use Rattle.fam_base.specs.Image.{eight};

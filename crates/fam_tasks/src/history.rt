@@ -1,7 +1,9 @@
 //! The entries that a task has: those that its host keeps, where they serve, and those of the slots that it read.
 //!
-//! What the host keeps is never changed. A task that reads no slot looks at it where it stands. The first slot that is
-//! read makes a copy, behind which the task reads on; or an earlier task made one, and this task goes on with that.
+//! What the host keeps is never changed. A task that reads no slot looks at it where it stands, and copies nothing. The
+//! first slot that is read makes a copy, behind which the task reads on; or an earlier task made one, and this task
+//! goes on with that. The copy is part of a Digest, and may want memory. Where it finds none the slot is judged by the
+//! kept plan (`reason_behind`), so want of memory hides no bad slot.
 
 ghost use Rattle.std.specs.Prelude.{◌≡◌, ◌≤◌, ◌<◌, ℕ, [], None, Ok, Some, IfOk, IfSome, IsSome, OnErr, OnOk, false, length, option_map, true};
 ghost use Rattle.std.specs.FinMap as map;

@@ -1,4 +1,8 @@
 //! What a host keeps of the log that it has replayed.
+//!
+//! What a command read behind the kept entries, words and plan, stands with them afterwards, and the host's next
+//! command goes on with that (`BeginsWith`): a slot that has the same words is found again, and nothing is copied. A
+//! listing, whose entries are kept themselves, leaves nothing of the kind.
 
 ghost use Rattle.std.specs.Prelude.{◌≡◌, ◌&&◌, ◌<◌, [], IfOk, IfSome, Some, length, nat_le, nat_lt};
 ghost use Rattle.fam_commands.specs.Kept.{AllJoin, is_same_params};

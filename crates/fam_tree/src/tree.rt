@@ -1,5 +1,20 @@
 //! Trees of entries. `specs/Runs.antt` says how entries stand in a tree, and fam_format's `specs/Tree.antt` which
 //! entries join it.
+//!
+//! A tree keeps copies of entries, since a reader owns none of the image. They lie in one list, in the order in which
+//! they were added, and the tree holds their places in sorted runs of at most 256. The list is cut into chunks of as
+//! many. A copy of a tree costs a count for each run and two for all chunks, which the copies share until an entry
+//! joins one of them; that entry costs a copy of one chunk and one run. Longer runs would be fewer counts, but each
+//! insert would move more places than a copy saves.
+//!
+//! An `Entry` is 824 bytes large, with room for the longest path and for sixteen extents, and most entries need a tenth
+//! of that. So a chunk has a row of 48 bytes for each entry, and the bytes of all paths and all extents end to end.
+//! What reads an entry builds it anew, which costs less than a search for it. A search looks behind all others first
+//! while paths rise.
+//!
+//! With entries, or paths as keys, in the nodes of a search tree, an insert would move and a drop visit several of
+//! them; each alone on the heap would cost an allocation and a release. Nothing is ever taken back: an entry joins
+//! tree, order and map of units at once, when all memory is found.
 
 ghost use Rattle.std.specs.Prelude.{◌≡◌, ◌<◌, ◌++◌, None, Some, OnOk, OnErr, IfOk, IfErr, IfSome, length, option_map};
 ghost use Rattle.std.specs.List.Sorted.{IsStrictlySortedBy};

@@ -1,5 +1,10 @@
 //! The last operations of a world: those of a host's task up to its answer, where it only reads and nobody looks at its
 //! host's cache behind them.
+//!
+//! Kept, the lines of a large file would take more memory than its bytes. So before it drops a line its host may forget
+//! all lines that it holds, where none of them is dirty: it loads no line but one that it has just dropped or loaded.
+//! All are forgotten at once, when the cache has 64 blocks of lines, which costs a look at each mark; the lines that
+//! follow use their memory.
 
 ghost use Rattle.std.specs.Prelude.{◌≡◌, ◌<◌, IfSome, None, OnErr, OnOk, Some, false, is_some, true};
 ghost use Rattle.fam_commands.specs.FirstStore.{IsUnstored};

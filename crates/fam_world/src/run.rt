@@ -1,4 +1,7 @@
 //! Operations of a host's task: so many of them, or all up to its answer.
+//!
+//! So many of them stop at their count, which may be within a line. So they leave the lines of slots and files, which
+//! `run_up` does whole, to single operations, and do the rest of a line at once where seven more are wanted.
 
 ghost use Rattle.std.specs.Prelude.{◌≡◌, ◌<◌, Err, IfSome, None, Ok, OnErr, OnOk, Some, is_some, true, vec_capacity, vec_len};
 ghost use Rattle.fam_commands.specs.FirstStore.{IsUnstored};

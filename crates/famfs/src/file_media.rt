@@ -1,14 +1,19 @@
 //! A file as a media, with some lines of it read ahead. This is a trusted edge: what a real file holds, no clause
 //! tells.
 //!
-//! Lines behind the gate's are read ahead for a reader that goes upward, and each of them is given once. The gate's
-//! line, and those before it, are always read by themselves, and then all that was read ahead is forgotten. So what is
-//! given of slots and files after a gate was read is never older than that gate. Only a superblock's lines are read together,
-//! with its first one.
+//! The gate's line, and each line before it but the superblock's, is read by itself, and then all that was read ahead
+//! is forgotten. Lines behind the gate's are read ahead, 4,096 bytes at first and 65,536 where a reader goes on, and
+//! each of them is given once; a write moves what is ahead on behind its line. So what is given of slots and files
+//! after a gate was read is never older than that gate. The superblock's three lines are read by one call with the
+//! first of them. Any other read of the file takes their place, so while they are given the program has seen nothing of
+//! the image that is newer than they are.
 //!
-//! A run of lines is read or written by one call for each page of it, through the same page: what was read ahead is
-//! forgotten then. A run of few lines, such as a slot's, is read as its lines are one by one, from what was read ahead, and written
-//! by one call past the page.
+//! A run of more than sixteen lines is read or written by one call for each 1,024 of them, through the room of what is
+//! read ahead, which is forgotten then; but one that begins at the gate's line or before it is read line by line. A run
+//! of few lines, such as a slot's, is read as its lines are one by one, from what was read ahead, and written by one
+//! call that leaves what is ahead of others, so that a fence empties no read-ahead. A short write is carried on from
+//! where it ended. Where a call fails, the line that has the next byte is named and no line is written again: one
+//! behind it may be written already.
 
 ghost use Rattle.std.specs.Prelude.{◌≡◌, ◌≤◌, ◌<◌, ◌+◌, ◌-◌, ◌*◌, ◌↔◌, IsTrue, IfErr, IfSome, None, length, vec_len};
 ghost use Rattle.fam_media.specs.Causes.{HasCause};

@@ -1,4 +1,8 @@
 //! Calls that do operations of a host's task: one, so many, or all up to its answer.
+//!
+//! A storm asks for thousands of steps at once, with nothing between them. So `steps` looks for the host once. Its
+//! clause is that of so many calls of `step`, one behind another (`StepsSay`), so the rules of a journal have no row of
+//! their own for it.
 
 ghost use Rattle.std.specs.Prelude.{◌≡◌, ◌<◌, IsErrOf};
 ghost use Rattle.fam_media.specs.States.{change};
