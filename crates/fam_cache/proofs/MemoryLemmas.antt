@@ -7,7 +7,7 @@ use Rattle.fam_machine.specs.declared.cell.Cell.{Cell}
 use Rattle.fam_machine.specs.declared.cell.Cell.TheVariants.{Absent, Clean, Dirty}
 use Rattle.fam_machine.specs.Caches.{Cache, cell_at, cell_changed, line_changed, with_cell}
 use Rattle.fam_machine.proofs.CacheLemmas.{cell_at-with_cell_same, with_cell_own}
-use Rattle.fam_machine.specs.OneLine.{IsHeld, IsDirty, brought, fetched, leaked, failed_send, failed_leak}
+use Rattle.fam_machine.specs.OneLine.{IsHeld, IsDirty, brought, fetched, leaked, sent, failed_send, failed_leak}
 use Rattle.fam_media.specs.Outside.{IfModelled, IsTorn}
 use Rattle.fam_cache.specs.Effects.{FromMemory, FailsTo}
 use Rattle.fam_cache.specs.Blocks.{normal}
@@ -44,6 +44,20 @@ dirty_stays (Dirty a words) mask is memory = refl
 -- a held line is not brought
 pub held_kept : (modelled : Option Image) (line : ℕ) (copy : Cell) → IsHeld (normal copy) → FromMemory modelled line (λ memory. normal copy ≡ brought memory (normal copy))
 held_kept modelled line copy is = from_any modelled line (λ memory. normal copy ≡ brought memory (normal copy)) (held_stays copy is)
+
+-- an absent copy is brought, with the words that were read
+pub absent_brought : (modelled : Option Image) (line : ℕ) (words : List ℕ) (copy : Cell) → copy ≡ Absent → IfModelled modelled (λ lines. eight words ≡ line_at lines line) → FromMemory modelled line (λ memory. Clean (eight words) ≡ brought memory (normal copy))
+absent_brought modelled line words copy is read = record {
+  memory = eight words;
+  whole = refl;
+  modelled_is = read;
+  is = sym (ap (λ (c : Cell). brought (eight words) (normal c)) is);
+}
+
+pub absent_unheld : (copy : Cell) → copy ≡ Absent → IsHeld (normal copy) → ⊥
+absent_unheld Absent is held = absurd cc
+absent_unheld (Clean words) is held = absurd cc
+absent_unheld (Dirty a words) is held = absurd cc
 
 -- a copy that is held stays where it would be brought
 pub held_still : (cell : Cell) → IsHeld cell → (memory : List ℕ) → brought memory cell ≡ cell
@@ -110,6 +124,25 @@ leaked_image {a} old between after line mask words read new copy same is_read ne
 torn_line : (image : Image) (line through : ℕ) (words : List ℕ) → with_masked line words through image ≡ with_line line (masked through (eight words) (line_at image line)) image
 unfolding masked
 torn_line image line through words = refl
+
+-- A copy that memory lacks no word of is not sent.
+
+absent_stays : (state : Option Image) (line : ℕ) → IsNormal state → state ≡ option_map (line_changed line (λ memory. sent memory Absent)) state
+absent_stays None line known = refl
+absent_stays (Some image) line known = sym (ap (λ (i : Image). Some i) (with_line-line_at image known line))
+
+pub absent_unsent : (state : Option Image) (line : ℕ) (copy : Cell) → IsNormal state → copy ≡ Absent → state ≡ option_map (line_changed line (λ memory. sent memory (normal copy))) state
+absent_unsent state line copy known is =
+    absent_stays state line known ∙ sym (ap (λ (c : Cell). option_map (line_changed line (λ memory. sent memory (normal c))) state) is)
+
+pub clean_unsent : {words : List ℕ} (state : Option Image) (line : ℕ) (copy : Cell) → IsNormal state → copy ≡ Clean words → state ≡ option_map (line_changed line (λ memory. sent memory (normal copy))) state
+clean_unsent state line copy known is =
+    absent_stays state line known ∙ sym (ap (λ (c : Cell). option_map (line_changed line (λ memory. sent memory (normal c))) state) is)
+
+-- a send that was written
+pub dirty_sent : {a : Bool} {words : List ℕ} (state after : Option Image) (line : ℕ) (copy : Cell) → copy ≡ Dirty a words → after ≡ option_map (with_line line words) state → after ≡ option_map (line_changed line (λ memory. sent memory (normal copy))) state
+dirty_sent state after line copy is written =
+    written ∙ sym (ap (λ (c : Cell). option_map (line_changed line (λ memory. sent memory (normal c))) state) is)
 
 -- a send that failed
 pub torn_send : {a : Bool} (old after : Option Image) (line : ℕ) (words : List ℕ) (copy : Cell) → copy ≡ Dirty a words → IsTorn old after line words →

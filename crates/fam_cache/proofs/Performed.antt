@@ -8,16 +8,49 @@ use Rattle.fam_machine.specs.declared.cell.Cell.{Cell}
 use Rattle.fam_machine.specs.declared.cell.Cell.TheVariants.{Absent, Clean, Dirty}
 use Rattle.fam_machine.specs.declared.op.Op.{Op}
 use Rattle.fam_machine.specs.declared.op.Op.TheVariants.{Load, Store, WriteBack, Fence, Invalidate, Digest}
-use Rattle.fam_machine.specs.Caches.{Cache, asked_lines, cell_at, cell_changed, with_cell}
-use Rattle.fam_machine.specs.Cuts.{HasFailed}
-use Rattle.fam_machine.specs.OneLine.{IsHeld, asked_for, brought, cleaned, current, failed_send, stored, words_of}
-use Rattle.fam_machine.specs.Operations.{Breaking, Machine, failed, given, line_no, machine, not_brought, not_sent, op_line, torn_at}
+use Rattle.fam_machine.specs.Caches.{Cache, asked_lines, cell_at, cell_changed, line_changed, with_cell}
+use Rattle.fam_machine.specs.Cuts.{HasFailed, IsMachine}
+use Rattle.fam_machine.specs.OneLine.{IsHeld, asked_for, brought, cleaned, current, failed_send, sent, stored, words_of}
+use Rattle.fam_machine.specs.Operations.{Breaking, Machine, failed, given, line_no, machine, not_brought, not_sent, op_line, operated, torn_at}
 use Rattle.fam_cache.specs.Operations.{IsOneLine, LeavesCache, LeavesFailed, SendsWithin, cleaned_lines}
 use Rattle.fam_machine.proofs.CacheLemmas.{cell_at-with_cell_same, cell_at-with_cell_other, with_cell_own}
 use Rattle.fam_media.specs.Outside.{IfModelled}
 use Rattle.fam_cache.specs.Effects.{FailsTo, FromMemory}
 use Rattle.fam_cache.proofs.MemoryLemmas.{held_still}
 use Rattle.fam_cache.proofs.StoreLemmas.{brought_words}
+
+-- What is left of image and cache where the media doesn't fail.
+
+done : (op did : Op) (image : Image) (now : Option Image) (old new : Cache) → op ≡ did → IsMachine (operated did (machine image old)) now new → IsMachine (operated op (machine image old)) now new
+done op did image now old new is left = subst (λ (o : Op). IsMachine (operated o (machine image old)) now new) (sym is) left
+
+pub load_operated : (op : Op) (line : LineNo) (k : ℕ) (modelled now : Option Image) (old new : Cache) → op ≡ Load line k → now ≡ modelled → FromMemory modelled line.0 (λ memory. new ≡ cell_changed line.0 (brought memory) old) → IfModelled modelled (λ image. IsMachine (operated op (machine image old)) now new)
+load_operated op line k modelled now old new is same from image modelled_is =
+    done op (Load line k) image now old new is (record {
+      image = same ∙ modelled_is;
+      cache = from.is ∙ ap (λ (memory : List ℕ). cell_changed line.0 (brought memory) old) (from.modelled_is image modelled_is);
+    })
+
+pub store_operated : (op : Op) (line : LineNo) (k value : ℕ) (modelled now : Option Image) (old new : Cache) → op ≡ Store line k value → now ≡ modelled → FromMemory modelled line.0 (λ memory. new ≡ cell_changed line.0 (stored k value memory) old) → IfModelled modelled (λ image. IsMachine (operated op (machine image old)) now new)
+store_operated op line k value modelled now old new is same from image modelled_is =
+    done op (Store line k value) image now old new is (record {
+      image = same ∙ modelled_is;
+      cache = from.is ∙ ap (λ (memory : List ℕ). cell_changed line.0 (stored k value memory) old) (from.modelled_is image modelled_is);
+    })
+
+pub write_back_operated : (op : Op) (line : LineNo) (modelled : Option Image) (old new : Cache) → op ≡ WriteBack line → new ≡ cell_changed line.0 asked_for old → IfModelled modelled (λ image. IsMachine (operated op (machine image old)) modelled new)
+write_back_operated op line modelled old new is asked image modelled_is =
+    done op (WriteBack line) image modelled old new is (record { image = modelled_is; cache = asked })
+
+pub fence_operated : (op : Op) (modelled now : Option Image) (old new : Cache) → op ≡ Fence → IfModelled modelled (λ image. IsMachine (operated Fence (machine image old)) now new) → IfModelled modelled (λ image. IsMachine (operated op (machine image old)) now new)
+fence_operated op modelled now old new is left image modelled_is = done op Fence image now old new is (left image modelled_is)
+
+pub invalidate_operated : (op : Op) (line : LineNo) (modelled now : Option Image) (old new : Cache) → op ≡ Invalidate line → now ≡ option_map (line_changed line.0 (λ memory. sent memory (cell_at old line.0))) modelled → new ≡ with_cell line.0 Absent old → IfModelled modelled (λ image. IsMachine (operated op (machine image old)) now new)
+invalidate_operated op line modelled now old new is written dropped image modelled_is =
+    done op (Invalidate line) image now old new is (record {
+      image = written ∙ ap (option_map (line_changed line.0 (λ memory. sent memory (cell_at old line.0)))) modelled_is;
+      cache = dropped;
+    })
 
 -- a load gives the word that the machine gives
 pub load_gives : (op : Op) (line : LineNo) (k value : ℕ) (modelled : Option Image) (old new : Cache) → op ≡ Load line k → value ≡ slice_index (words_of (cell_at new line.0)) k → FromMemory modelled line.0 (λ memory. new ≡ cell_changed line.0 (brought memory) old) → IfModelled modelled (λ image. Some value ≡ given op (machine image old))

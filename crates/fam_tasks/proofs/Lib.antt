@@ -16,3 +16,5 @@ pub mod SlotLine
 pub mod SlotRun
 pub mod FlatLines
 pub mod AllFound
+pub mod Deciding
+pub mod Feeding
