@@ -2,3 +2,4 @@ pub mod SimpleApps
 pub mod Given
 pub mod UuidWords
 pub mod NamedRules
+pub mod Makings

@@ -1,17 +1,17 @@
 //! Calls: a command's name, and the words that belong to it.
 
 ghost use Rattle.std.specs.Prelude.{◌≡◌, IfOk, IfSome, map, string_bytes};
-ghost use Rattle.clap.specs.Words.{app_of, found_of, rows_of};
+ghost use Rattle.clap.specs.Words.{found_of, rows_of};
 ghost use Rattle.fam_words.specs.Calls as spec;
 ghost use Rattle.fam_words.specs.Calls.{call_behind, call_of};
 ghost use Rattle.fam_words.specs.Names.{first_named};
 
 use crate::apps::words_of;
 use crate::shots;
-use crate::simple::{command, matches, value};
+use crate::simple::{found, value};
 use crate::values::uuid_if_given;
 use crate::wanted::{Call, Invocation, Shot};
-use clap::{ArgMatches, Command};
+use clap::ArgMatches;
 use fam_base::{Cmd, NameText, OutOfMemory};
 use fam_journal::Ask;
 use std::alloc::Global;
@@ -112,19 +112,13 @@ fn on_host(found: &ArgMatches<'_>, shot: Option<Shot>) -> Option<Invocation>
     ensures sound { IfSome shot spec.IsSoundShot → IfSome result spec.IsSoundInvocation }
     ensures value { result ≡ spec.single_invocation (rows_of (found_of found.now)) shot }
 {
-    let system = uuid_if_given(value(found, "system"))?;
-    Some(Invocation::Single {
-        system,
-        shot: shot?,
-    })
-}
-
-/// The command of a name, as clap reads its words.
-fn command_of<'a>(alloc: Global, name: Name) -> Result<Command<'a>, OutOfMemory>
-    ensures { IfOk result (λ c. app_of c ≡ spec.app_named name) }
-{
-    let (word, arguments) = words_of(name);
-    command(alloc, word, arguments)
+    let Some(system) = uuid_if_given(value(found, "system")) else {
+        return None;
+    };
+    let Some(shot) = shot else {
+        return None;
+    };
+    Some(Invocation::Single { system, shot })
 }
 
 /// The invocation that the values of a command's words ask for.
@@ -151,23 +145,33 @@ fn invocation_in(
     }
 }
 
+/// The call that the values of a command's words ask for.
+fn call_in(alloc: Global, name: Name, found: &ArgMatches<'_>) -> Result<Option<Call>, OutOfMemory>
+    ensures sound { IfOk result (λ call. IfSome call (λ c. spec.IsSoundInvocation c.invocation)) }
+    ensures value { IfOk result (λ call. call ≡ spec.invocation_call (rows_of (found_of found.now)) (spec.invocation_in name (rows_of (found_of found.now)))) }
+{
+    let Some(image) = value(found, "image") else {
+        return Ok(None);
+    };
+    let Some(invocation) = invocation_in(alloc, name, found)? else {
+        return Ok(None);
+    };
+    match NameText::new(alloc, image) {
+        Ok(image) => Ok(Some(Call { image, invocation })),
+        Err(_) => Err(OutOfMemory),
+    }
+}
+
 /// The words behind a command's name.
 fn behind(alloc: Global, name: Name, words: &[String]) -> Result<Option<Call>, OutOfMemory>
     ensures sound { IfOk result (λ call. IfSome call (λ c. spec.IsSoundInvocation c.invocation)) }
     ensures value { IfOk result (λ call. call ≡ call_behind name (map string_bytes words.now)) }
 {
-    let command = command_of(alloc, name)?;
-    let Some(found) = matches(command, words)? else {
-        return Ok(None);
-    };
-    let Some(invocation) = invocation_in(alloc, name, &found)? else {
-        return Ok(None);
-    };
-    let Some(image) = value(&found, "image") else {
-        return Ok(None);
-    };
-    let image = NameText::new(alloc, image)?;
-    Ok(Some(Call { image, invocation }))
+    let (word, arguments) = words_of(name);
+    match found(alloc, word, arguments, words)? {
+        Some(found) => call_in(alloc, name, &found),
+        None => Ok(None),
+    }
 }
 
 /// The command that the words after the program's name are, and `None` exactly where they are none.

@@ -5,7 +5,7 @@ ghost use Rattle.clap.specs.Words.{found_of, rows_of};
 ghost use Rattle.fam_words.specs.Mails.{mail_behind, mail_call, mail_in};
 
 use crate::apps;
-use crate::simple::{matches, value};
+use crate::simple::{found, value};
 use crate::values::{name_of, path_of};
 use crate::wanted::MailCall;
 use clap::ArgMatches;
@@ -37,11 +37,11 @@ fn named(alloc: Global, found: &ArgMatches<'_>) -> Result<Option<MailCall>, OutO
 fn behind(alloc: Global, words: &[String]) -> Result<Option<MailCall>, OutOfMemory>
     ensures { IfOk result (λ call. call ≡ mail_behind (map string_bytes words.now)) }
 {
-    let command = apps::mail(alloc)?;
-    let Some(found) = matches(command, words)? else {
-        return Ok(None);
-    };
-    named(alloc, &found)
+    let (word, arguments) = apps::mail();
+    match found(alloc, word, arguments, words)? {
+        Some(found) => named(alloc, &found),
+        None => Ok(None),
+    }
 }
 
 /// What the words after the program's name ask for, where that is a script over a mailbox, and `None` exactly where it

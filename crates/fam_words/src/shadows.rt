@@ -5,7 +5,7 @@ ghost use Rattle.clap.specs.Words.{found_of, rows_of};
 ghost use Rattle.fam_words.specs.Shadows.{shadow_behind, shadow_call, shadow_in};
 
 use crate::apps;
-use crate::simple::{matches, value};
+use crate::simple::{found, value};
 use crate::values::{name_of, uuid_if_given};
 use crate::wanted::ShadowCall;
 use clap::ArgMatches;
@@ -37,11 +37,11 @@ fn named(alloc: Global, found: &ArgMatches<'_>) -> Result<Option<ShadowCall>, Ou
 fn behind(alloc: Global, words: &[String]) -> Result<Option<ShadowCall>, OutOfMemory>
     ensures { IfOk result (λ call. call ≡ shadow_behind (map string_bytes words.now)) }
 {
-    let command = apps::shadow(alloc)?;
-    let Some(found) = matches(command, words)? else {
-        return Ok(None);
-    };
-    named(alloc, &found)
+    let (word, arguments) = apps::shadow();
+    match found(alloc, word, arguments, words)? {
+        Some(found) => named(alloc, &found),
+        None => Ok(None),
+    }
 }
 
 /// What the words after the program's name ask for, where that is the shadow of a tree, and `None` exactly where it

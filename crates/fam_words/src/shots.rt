@@ -6,6 +6,8 @@ ghost use Rattle.fam_grammar.specs.Sound.{IsSoundAsk};
 ghost use Rattle.clap.specs.Words.{found_of, rows_of};
 ghost use Rattle.fam_grammar.specs.Lines.{fill_of};
 ghost use Rattle.fam_words.specs.Calls as spec;
+ghost use Rattle.fam_words.specs.Makings.{making_in};
+ghost use Rattle.fam_words.specs.Values.{IsFormat};
 ghost use Rattle.fam_base.specs.declared.cmd.Cmd.TheVariants as cmd;
 ghost use Rattle.fam_base.specs.declared.cmd.Content.TheVariants as content;
 ghost use Rattle.fam_journal.specs.declared.event.Ask.TheVariants as ask;
@@ -21,20 +23,48 @@ use fam_base::{Attr, Cmd, Content, NameText, OutOfMemory, Path, Stripe};
 use fam_grammar::{DEFAULT_LOG, DEFAULT_UNIT, DIRECTORY_MODE, FILE_MODE};
 use fam_journal::Ask;
 use std::alloc::Global;
+use uuid::Uuid;
 
-/// Make a file system.
-#[tactic(auto, unfolding(crate::specs::Calls::mkfs_shot))]
-pub(crate) fn mkfs(found: &ArgMatches<'_>) -> Option<Shot>
-    ensures sound { IfSome result spec.IsSoundShot }
-    ensures value { result ≡ spec.mkfs_shot (rows_of (found_of found.now)) }
+/// What a new file system is to have.
+#[derive(Clone, Copy)]
+pub(crate) struct Making {
+    pub(crate) unit: u64,
+    pub(crate) log: u64,
+    pub(crate) format: u64,
+    pub(crate) fs: Option<Uuid>,
+    pub(crate) force: bool,
+}
+
+/// What a new file system is to have, as the words of mkfs and of dup say it.
+#[tactic(auto, unfolding(crate::specs::Makings::making_in))]
+pub(crate) fn making_in(found: &ArgMatches<'_>) -> Option<Making>
+    ensures sound { IfSome result (λ making. IsFormat making.format) }
+    ensures value { result ≡ making_in (rows_of (found_of found.now)) }
 {
-    Some(Shot::Mkfs {
+    Some(Making {
         unit: size_or(DEFAULT_UNIT, value(found, "unit"))?,
         log: size_or(DEFAULT_LOG, value(found, "loglen"))?,
         format: format_or_first(value(found, "format"))?,
         fs: uuid_if_given(value(found, "uuid"))?,
         force: is_given(found, "force"),
     })
+}
+
+/// Make a file system.
+pub(crate) fn mkfs(found: &ArgMatches<'_>) -> Option<Shot>
+    ensures sound { IfSome result spec.IsSoundShot }
+    ensures value { result ≡ spec.mkfs_shot (rows_of (found_of found.now)) }
+{
+    match making_in(found) {
+        Some(making) => Some(Shot::Mkfs {
+            fs: making.fs,
+            unit: making.unit,
+            log: making.log,
+            format: making.format,
+            force: making.force,
+        }),
+        None => None,
+    }
 }
 
 /// Mode, user and group.
@@ -103,11 +133,21 @@ pub(crate) fn creat(found: &ArgMatches<'_>) -> Option<Shot>
     ensures sound { IfSome result spec.IsSoundShot }
     ensures value { result ≡ spec.creat_shot (rows_of (found_of found.now)) }
 {
-    let path = path(found)?;
-    let size = size_of(value(found, "size"))?;
-    let attr = attr(FILE_MODE, found)?;
-    let stripe = stripe(found)?;
-    let seed = number_if_given(value(found, "seed"))?;
+    let Some(path) = path(found) else {
+        return None;
+    };
+    let Some(size) = size_of(value(found, "size")) else {
+        return None;
+    };
+    let Some(attr) = attr(FILE_MODE, found) else {
+        return None;
+    };
+    let Some(stripe) = stripe(found) else {
+        return None;
+    };
+    let Some(seed) = number_if_given(value(found, "seed")) else {
+        return None;
+    };
     Some(Shot::Run(Ask::Plain(Cmd::Creat {
         path,
         size,

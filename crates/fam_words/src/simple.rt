@@ -74,7 +74,7 @@ fn add<'a>(
 }
 
 /// The command with these arguments, in their order.
-pub(crate) fn command<'a>(
+fn command<'a>(
     alloc: Global,
     name: &'a str,
     arguments: &[Argument],
@@ -89,7 +89,7 @@ pub(crate) fn command<'a>(
 }
 
 /// The matches of a simple command, and nothing where its words are at fault.
-pub(crate) fn matches<'a>(
+fn matches<'a>(
     command: Command<'a>,
     words: &'a [String],
 ) -> Result<Option<ArgMatches<'a>>, OutOfMemory>
@@ -103,6 +103,19 @@ pub(crate) fn matches<'a>(
             _ => Ok(None),
         },
     }
+}
+
+/// What a command with these arguments finds among the words, and nothing where they are at fault.
+pub(crate) fn found<'a>(
+    alloc: Global,
+    name: &'a str,
+    arguments: &[Argument],
+    words: &'a [String],
+) -> Result<Option<ArgMatches<'a>>, OutOfMemory>
+    requires { is_simple_and_free (fold with_argument (plain_app name.now) arguments.now) ≡ true }
+    ensures { IfOk result (λ r. option_map (λ m. rows_of (found_of m)) r ≡ rows_given (fold with_argument (plain_app name.entry.now) arguments.now) (map string_bytes words.entry.now)) }
+{
+    matches(command(alloc, name, arguments)?, words)
 }
 
 /// The value of an option or of a word.
