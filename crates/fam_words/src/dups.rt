@@ -58,7 +58,10 @@ fn copy_in(alloc: Global, found: &ArgMatches<'_>) -> Result<Option<DupCall>, Out
     if from == to {
         return Ok(None);
     }
-    Ok(Some(copy(alloc, from, to, making, system)?))
+    match copy(alloc, from, to, making, system) {
+        Ok(call) => Ok(Some(call)),
+        Err(_) => Err(OutOfMemory),
+    }
 }
 
 /// The copy that the words ask for.
@@ -75,9 +78,10 @@ fn behind(alloc: Global, words: &[String]) -> Result<Option<DupCall>, OutOfMemor
     ensures value { IfOk result (λ call. call ≡ dup_behind (map string_bytes words.now)) }
 {
     let (word, arguments) = apps::dup();
-    match found(alloc, word, arguments, words)? {
-        Some(found) => named(alloc, &found),
-        None => Ok(None),
+    match found(alloc, word, arguments, words) {
+        Ok(Some(found)) => named(alloc, &found),
+        Ok(None) => Ok(None),
+        Err(_) => Err(OutOfMemory),
     }
 }
 

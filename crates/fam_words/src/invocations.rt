@@ -1,6 +1,6 @@
 //! Calls: a command's name, and the words that belong to it.
 
-ghost use Rattle.std.specs.Prelude.{◌≡◌, IfOk, IfSome, map, string_bytes};
+ghost use Rattle.std.specs.Prelude.{◌≡◌, IfOk, IfSome, Some, map, string_bytes};
 ghost use Rattle.clap.specs.Words.{found_of, rows_of};
 ghost use Rattle.fam_words.specs.Calls as spec;
 ghost use Rattle.fam_words.specs.Calls.{call_behind, call_of};
@@ -17,7 +17,7 @@ use fam_journal::Ask;
 use std::alloc::Global;
 
 /// The commands.
-#[derive(Clone, Copy, PartialEq, Eq)]
+#[derive(Clone, Copy)]
 pub(crate) enum Name {
     Mkfs,
     Logplay,
@@ -145,19 +145,33 @@ fn invocation_in(
     }
 }
 
-/// The call that the values of a command's words ask for.
-fn call_in(alloc: Global, name: Name, found: &ArgMatches<'_>) -> Result<Option<Call>, OutOfMemory>
+/// The call of an invocation on the image that the words name.
+fn call_on(
+    alloc: Global,
+    found: &ArgMatches<'_>,
+    invocation: Invocation,
+) -> Result<Option<Call>, OutOfMemory>
+    requires { spec.IsSoundInvocation invocation }
     ensures sound { IfOk result (λ call. IfSome call (λ c. spec.IsSoundInvocation c.invocation)) }
-    ensures value { IfOk result (λ call. call ≡ spec.invocation_call (rows_of (found_of found.now)) (spec.invocation_in name (rows_of (found_of found.now)))) }
+    ensures value { IfOk result (λ call. call ≡ spec.invocation_call (rows_of (found_of found.now)) (Some invocation)) }
 {
     let Some(image) = value(found, "image") else {
         return Ok(None);
     };
-    let Some(invocation) = invocation_in(alloc, name, found)? else {
-        return Ok(None);
-    };
     match NameText::new(alloc, image) {
         Ok(image) => Ok(Some(Call { image, invocation })),
+        Err(_) => Err(OutOfMemory),
+    }
+}
+
+/// The words behind a command's name, as clap found them.
+fn call_in(alloc: Global, name: Name, found: &ArgMatches<'_>) -> Result<Option<Call>, OutOfMemory>
+    ensures sound { IfOk result (λ call. IfSome call (λ c. spec.IsSoundInvocation c.invocation)) }
+    ensures value { IfOk result (λ call. call ≡ spec.invocation_call (rows_of (found_of found.now)) (spec.invocation_in name (rows_of (found_of found.now)))) }
+{
+    match invocation_in(alloc, name, found) {
+        Ok(Some(invocation)) => call_on(alloc, found, invocation),
+        Ok(None) => Ok(None),
         Err(_) => Err(OutOfMemory),
     }
 }
@@ -168,9 +182,10 @@ fn behind(alloc: Global, name: Name, words: &[String]) -> Result<Option<Call>, O
     ensures value { IfOk result (λ call. call ≡ call_behind name (map string_bytes words.now)) }
 {
     let (word, arguments) = words_of(name);
-    match found(alloc, word, arguments, words)? {
-        Some(found) => call_in(alloc, name, &found),
-        None => Ok(None),
+    match found(alloc, word, arguments, words) {
+        Ok(Some(found)) => call_in(alloc, name, &found),
+        Ok(None) => Ok(None),
+        Err(_) => Err(OutOfMemory),
     }
 }
 

@@ -115,7 +115,10 @@ pub(crate) fn found<'a>(
     requires { is_simple_and_free (fold with_argument (plain_app name.now) arguments.now) ≡ true }
     ensures { IfOk result (λ r. option_map (λ m. rows_of (found_of m)) r ≡ rows_given (fold with_argument (plain_app name.entry.now) arguments.now) (map string_bytes words.entry.now)) }
 {
-    matches(command(alloc, name, arguments)?, words)
+    match command(alloc, name, arguments) {
+        Ok(command) => matches(command, words),
+        Err(_) => Err(OutOfMemory),
+    }
 }
 
 /// The value of an option or of a word.
