@@ -3,3 +3,4 @@ pub mod Given
 pub mod UuidWords
 pub mod NamedRules
 pub mod Makings
+pub mod Singles

@@ -4,6 +4,7 @@ pub mod Apps
 pub mod Values
 pub mod Calls
 pub mod Makings
+pub mod Singles
 pub mod Shadows
 pub mod Dups
 pub mod Mails
