@@ -2,3 +2,5 @@ pub mod SimpleApps
 pub mod Given
 pub mod UuidWords
 pub mod NamedRules
+pub mod Makings
+pub mod Singles

@@ -3,6 +3,8 @@ pub mod Arguments
 pub mod Apps
 pub mod Values
 pub mod Calls
+pub mod Makings
+pub mod Singles
 pub mod Shadows
 pub mod Dups
 pub mod Mails

@@ -1,7 +1,6 @@
 //! The program's commands, as simple commands of `clap`.
 
-ghost use Rattle.std.specs.Prelude.{◌≡◌, IfOk, fold};
-ghost use Rattle.clap.specs.Words.{app_of};
+ghost use Rattle.std.specs.Prelude.{◌≡◌, fold};
 ghost use Rattle.fam_words.specs.Arguments.{with_argument};
 ghost use Rattle.fam_words.specs.Calls.{app_named};
 ghost use Rattle.fam_words.specs.Simple.{plain_app};
@@ -10,10 +9,7 @@ ghost use Rattle.fam_words.specs.Mails.{mail_app};
 ghost use Rattle.fam_words.specs.Shadows.{shadow_app};
 
 use crate::invocations::Name;
-use crate::simple::{Argument, command};
-use clap::Command;
-use fam_base::OutOfMemory;
-use std::alloc::Global;
+use crate::simple::Argument;
 
 /// The arguments of the command mkfs.
 const MKFS: [Argument; 7] = [
@@ -134,28 +130,28 @@ const STORM: [Argument; 4] = [
     Argument::Flag("print", 'p'),
 ];
 
-/// The command dup.
+/// The command dup: its word, and its arguments.
 #[tactic(auto, unfolding(crate::specs::Arguments::with_argument, crate::specs::Dups::dup_app))]
-pub(crate) fn dup<'a>(alloc: Global) -> Result<Command<'a>, OutOfMemory>
-    ensures { IfOk result (λ c. app_of c ≡ dup_app) }
+pub(crate) fn dup<'a>() -> (&'a str, &'a [Argument])
+    ensures { fold with_argument (plain_app result.0.now) result.1.now ≡ dup_app }
 {
-    command(alloc, "dup", &DUP)
+    ("dup", &DUP)
 }
 
-/// The command logplay with a folder for the tree's shadow.
+/// The command logplay with a folder for the tree's shadow: its word, and its arguments.
 #[tactic(auto, unfolding(crate::specs::Arguments::with_argument, crate::specs::Shadows::shadow_app))]
-pub(crate) fn shadow<'a>(alloc: Global) -> Result<Command<'a>, OutOfMemory>
-    ensures { IfOk result (λ c. app_of c ≡ shadow_app) }
+pub(crate) fn shadow<'a>() -> (&'a str, &'a [Argument])
+    ensures { fold with_argument (plain_app result.0.now) result.1.now ≡ shadow_app }
 {
-    command(alloc, "logplay", &SHADOW)
+    ("logplay", &SHADOW)
 }
 
-/// The command mail.
+/// The command mail: its word, and its arguments.
 #[tactic(auto, unfolding(crate::specs::Arguments::with_argument, crate::specs::Mails::mail_app))]
-pub(crate) fn mail<'a>(alloc: Global) -> Result<Command<'a>, OutOfMemory>
-    ensures { IfOk result (λ c. app_of c ≡ mail_app) }
+pub(crate) fn mail<'a>() -> (&'a str, &'a [Argument])
+    ensures { fold with_argument (plain_app result.0.now) result.1.now ≡ mail_app }
 {
-    command(alloc, "mail", &MAIL)
+    ("mail", &MAIL)
 }
 
 /// The word that names a command, and its arguments.

@@ -1,23 +1,24 @@
 //! Calls: a command's name, and the words that belong to it.
 
 ghost use Rattle.std.specs.Prelude.{◌≡◌, IfOk, IfSome, map, string_bytes};
-ghost use Rattle.clap.specs.Words.{app_of, found_of, rows_of};
+ghost use Rattle.clap.specs.Words.{found_of, rows_of};
 ghost use Rattle.fam_words.specs.Calls as spec;
 ghost use Rattle.fam_words.specs.Calls.{call_behind, call_of};
 ghost use Rattle.fam_words.specs.Names.{first_named};
+ghost use Rattle.fam_words.specs.Singles.{shot_in};
 
 use crate::apps::words_of;
 use crate::shots;
-use crate::simple::{command, matches, value};
+use crate::simple::{found, value};
 use crate::values::uuid_if_given;
 use crate::wanted::{Call, Invocation, Shot};
-use clap::{ArgMatches, Command};
+use clap::ArgMatches;
 use fam_base::{Cmd, NameText, OutOfMemory};
 use fam_journal::Ask;
 use std::alloc::Global;
 
 /// The commands.
-#[derive(Clone, Copy, PartialEq, Eq)]
+#[derive(Clone, Copy)]
 pub(crate) enum Name {
     Mkfs,
     Logplay,
@@ -107,24 +108,43 @@ fn named_in(word: &str, names: &[Named]) -> Option<Name>
     None
 }
 
-/// A command of its own, on the host that the words name.
-fn on_host(found: &ArgMatches<'_>, shot: Option<Shot>) -> Option<Invocation>
-    ensures sound { IfSome shot spec.IsSoundShot → IfSome result spec.IsSoundInvocation }
-    ensures value { result ≡ spec.single_invocation (rows_of (found_of found.now)) shot }
+/// The command of its own that the values of a command's words ask for; the other commands have none.
+fn shot_in(alloc: Global, name: Name, found: &ArgMatches<'_>) -> Result<Option<Shot>, OutOfMemory>
+    ensures sound { IfOk result (λ shot. IfSome shot spec.IsSoundShot) }
+    ensures value { IfOk result (λ shot. shot ≡ shot_in name (rows_of (found_of found.now))) }
 {
-    let system = uuid_if_given(value(found, "system"))?;
-    Some(Invocation::Single {
-        system,
-        shot: shot?,
-    })
+    match name {
+        Name::Mkfs => Ok(shots::mkfs(found)),
+        Name::Logplay => Ok(Some(Shot::Run(Ask::Plain(Cmd::Logplay)))),
+        Name::Mkdir => Ok(shots::mkdir(found)),
+        Name::Creat => Ok(shots::creat(found)),
+        Name::Cp => shots::cp(alloc, found),
+        Name::Verify => shots::verify(alloc, found),
+        Name::Read => Ok(shots::read(found)),
+        Name::Check => shots::check(alloc, found),
+        Name::Fsck => Ok(Some(Shot::Run(Ask::Plain(Cmd::Fsck)))),
+        Name::Script => Ok(None),
+        Name::Storm => Ok(None),
+    }
 }
 
-/// The command of a name, as clap reads its words.
-fn command_of<'a>(alloc: Global, name: Name) -> Result<Command<'a>, OutOfMemory>
-    ensures { IfOk result (λ c. app_of c ≡ spec.app_named name) }
+/// A command of its own, on the host that the words name.
+fn single(
+    alloc: Global,
+    name: Name,
+    found: &ArgMatches<'_>,
+) -> Result<Option<Invocation>, OutOfMemory>
+    ensures sound { IfOk result (λ invocation. IfSome invocation spec.IsSoundInvocation) }
+    ensures value { IfOk result (λ invocation. invocation ≡ spec.single_invocation (rows_of (found_of found.now)) (shot_in name (rows_of (found_of found.now)))) }
 {
-    let (word, arguments) = words_of(name);
-    command(alloc, word, arguments)
+    let Some(system) = uuid_if_given(value(found, "system")) else {
+        return Ok(None);
+    };
+    match shot_in(alloc, name, found) {
+        Ok(Some(shot)) => Ok(Some(Invocation::Single { system, shot })),
+        Ok(None) => Ok(None),
+        Err(_) => Err(OutOfMemory),
+    }
 }
 
 /// The invocation that the values of a command's words ask for.
@@ -137,17 +157,27 @@ fn invocation_in(
     ensures value { IfOk result (λ invocation. invocation ≡ spec.invocation_in name (rows_of (found_of found.now))) }
 {
     match name {
-        Name::Mkfs => Ok(on_host(found, shots::mkfs(found))),
-        Name::Logplay => Ok(on_host(found, Some(Shot::Run(Ask::Plain(Cmd::Logplay))))),
-        Name::Mkdir => Ok(on_host(found, shots::mkdir(found))),
-        Name::Creat => Ok(on_host(found, shots::creat(found))),
-        Name::Cp => Ok(on_host(found, shots::cp(alloc, found)?)),
-        Name::Verify => Ok(on_host(found, shots::verify(alloc, found)?)),
-        Name::Read => Ok(on_host(found, shots::read(found))),
-        Name::Check => Ok(on_host(found, shots::check(alloc, found)?)),
-        Name::Fsck => Ok(on_host(found, Some(Shot::Run(Ask::Plain(Cmd::Fsck))))),
         Name::Script => shots::script(alloc, found),
         Name::Storm => Ok(shots::storm(found)),
+        _ => single(alloc, name, found),
+    }
+}
+
+/// The call that the values of a command's words ask for.
+fn call_in(alloc: Global, name: Name, found: &ArgMatches<'_>) -> Result<Option<Call>, OutOfMemory>
+    ensures sound { IfOk result (λ call. IfSome call (λ c. spec.IsSoundInvocation c.invocation)) }
+    ensures value { IfOk result (λ call. call ≡ spec.invocation_call (rows_of (found_of found.now)) (spec.invocation_in name (rows_of (found_of found.now)))) }
+{
+    let Some(image) = value(found, "image") else {
+        return Ok(None);
+    };
+    let Ok(image) = NameText::new(alloc, image) else {
+        return Err(OutOfMemory);
+    };
+    match invocation_in(alloc, name, found) {
+        Ok(Some(invocation)) => Ok(Some(Call { image, invocation })),
+        Ok(None) => Ok(None),
+        Err(_) => Err(OutOfMemory),
     }
 }
 
@@ -156,18 +186,12 @@ fn behind(alloc: Global, name: Name, words: &[String]) -> Result<Option<Call>, O
     ensures sound { IfOk result (λ call. IfSome call (λ c. spec.IsSoundInvocation c.invocation)) }
     ensures value { IfOk result (λ call. call ≡ call_behind name (map string_bytes words.now)) }
 {
-    let command = command_of(alloc, name)?;
-    let Some(found) = matches(command, words)? else {
-        return Ok(None);
-    };
-    let Some(invocation) = invocation_in(alloc, name, &found)? else {
-        return Ok(None);
-    };
-    let Some(image) = value(&found, "image") else {
-        return Ok(None);
-    };
-    let image = NameText::new(alloc, image)?;
-    Ok(Some(Call { image, invocation }))
+    let (word, arguments) = words_of(name);
+    match found(alloc, word, arguments, words) {
+        Ok(Some(found)) => call_in(alloc, name, &found),
+        Ok(None) => Ok(None),
+        Err(_) => Err(OutOfMemory),
+    }
 }
 
 /// The command that the words after the program's name are, and `None` exactly where they are none.

@@ -6,6 +6,8 @@ ghost use Rattle.fam_grammar.specs.Sound.{IsSoundAsk};
 ghost use Rattle.clap.specs.Words.{found_of, rows_of};
 ghost use Rattle.fam_grammar.specs.Lines.{fill_of};
 ghost use Rattle.fam_words.specs.Calls as spec;
+ghost use Rattle.fam_words.specs.Makings.{making_in};
+ghost use Rattle.fam_words.specs.Values.{IsFormat};
 ghost use Rattle.fam_base.specs.declared.cmd.Cmd.TheVariants as cmd;
 ghost use Rattle.fam_base.specs.declared.cmd.Content.TheVariants as content;
 ghost use Rattle.fam_journal.specs.declared.event.Ask.TheVariants as ask;
@@ -21,20 +23,60 @@ use fam_base::{Attr, Cmd, Content, NameText, OutOfMemory, Path, Stripe};
 use fam_grammar::{DEFAULT_LOG, DEFAULT_UNIT, DIRECTORY_MODE, FILE_MODE};
 use fam_journal::Ask;
 use std::alloc::Global;
+use uuid::Uuid;
+
+/// What a new file system is to have.
+#[derive(Clone, Copy)]
+pub(crate) struct Making {
+    pub(crate) unit: u64,
+    pub(crate) log: u64,
+    pub(crate) format: u64,
+    pub(crate) fs: Option<Uuid>,
+    pub(crate) force: bool,
+}
+
+/// What a new file system is to have, as the words of mkfs and of dup say it.
+#[tactic(auto, unfolding(crate::specs::Makings::making_in))]
+pub(crate) fn making_in(found: &ArgMatches<'_>) -> Option<Making>
+    ensures sound { IfSome result (λ making. IsFormat making.format) }
+    ensures value { result ≡ making_in (rows_of (found_of found.now)) }
+{
+    let Some(unit) = size_or(DEFAULT_UNIT, value(found, "unit")) else {
+        return None;
+    };
+    let Some(log) = size_or(DEFAULT_LOG, value(found, "loglen")) else {
+        return None;
+    };
+    let Some(format) = format_or_first(value(found, "format")) else {
+        return None;
+    };
+    let Some(fs) = uuid_if_given(value(found, "uuid")) else {
+        return None;
+    };
+    Some(Making {
+        unit,
+        log,
+        format,
+        fs,
+        force: is_given(found, "force"),
+    })
+}
 
 /// Make a file system.
-#[tactic(auto, unfolding(crate::specs::Calls::mkfs_shot))]
 pub(crate) fn mkfs(found: &ArgMatches<'_>) -> Option<Shot>
     ensures sound { IfSome result spec.IsSoundShot }
     ensures value { result ≡ spec.mkfs_shot (rows_of (found_of found.now)) }
 {
-    Some(Shot::Mkfs {
-        unit: size_or(DEFAULT_UNIT, value(found, "unit"))?,
-        log: size_or(DEFAULT_LOG, value(found, "loglen"))?,
-        format: format_or_first(value(found, "format"))?,
-        fs: uuid_if_given(value(found, "uuid"))?,
-        force: is_given(found, "force"),
-    })
+    match making_in(found) {
+        Some(making) => Some(Shot::Mkfs {
+            fs: making.fs,
+            unit: making.unit,
+            log: making.log,
+            format: making.format,
+            force: making.force,
+        }),
+        None => None,
+    }
 }
 
 /// Mode, user and group.
@@ -78,8 +120,12 @@ pub(crate) fn mkdir(found: &ArgMatches<'_>) -> Option<Shot>
     ensures sound { IfSome result spec.IsSoundShot }
     ensures value { result ≡ spec.mkdir_shot (rows_of (found_of found.now)) }
 {
-    let path = path(found)?;
-    let attr = attr(DIRECTORY_MODE, found)?;
+    let Some(path) = path(found) else {
+        return None;
+    };
+    let Some(attr) = attr(DIRECTORY_MODE, found) else {
+        return None;
+    };
     if is_given(found, "parents") {
         Some(Shot::Parents { path, attr })
     } else {
@@ -103,11 +149,21 @@ pub(crate) fn creat(found: &ArgMatches<'_>) -> Option<Shot>
     ensures sound { IfSome result spec.IsSoundShot }
     ensures value { result ≡ spec.creat_shot (rows_of (found_of found.now)) }
 {
-    let path = path(found)?;
-    let size = size_of(value(found, "size"))?;
-    let attr = attr(FILE_MODE, found)?;
-    let stripe = stripe(found)?;
-    let seed = number_if_given(value(found, "seed"))?;
+    let Some(path) = path(found) else {
+        return None;
+    };
+    let Some(size) = size_of(value(found, "size")) else {
+        return None;
+    };
+    let Some(attr) = attr(FILE_MODE, found) else {
+        return None;
+    };
+    let Some(stripe) = stripe(found) else {
+        return None;
+    };
+    let Some(seed) = number_if_given(value(found, "seed")) else {
+        return None;
+    };
     Some(Shot::Run(Ask::Plain(Cmd::Creat {
         path,
         size,
@@ -122,9 +178,15 @@ fn cp_from(source: NameText, found: &ArgMatches<'_>) -> Option<Shot>
     ensures sound { IfSome result spec.IsSoundShot }
     ensures value { result ≡ spec.cp_with (Some source) (spec.path_in (rows_of (found_of found.now))) (spec.attr_in FILE_MODE (rows_of (found_of found.now))) (spec.stripe_in (rows_of (found_of found.now))) }
 {
-    let path = path(found)?;
-    let attr = attr(FILE_MODE, found)?;
-    let stripe = stripe(found)?;
+    let Some(path) = path(found) else {
+        return None;
+    };
+    let Some(attr) = attr(FILE_MODE, found) else {
+        return None;
+    };
+    let Some(stripe) = stripe(found) else {
+        return None;
+    };
     Some(Shot::Run(Ask::Cp {
         source,
         path,
@@ -139,9 +201,10 @@ pub(crate) fn cp(alloc: Global, found: &ArgMatches<'_>) -> Result<Option<Shot>, 
     ensures sound { IfOk result (λ shot. IfSome shot spec.IsSoundShot) }
     ensures value { IfOk result (λ shot. shot ≡ spec.cp_shot (rows_of (found_of found.now))) }
 {
-    match name_of(alloc, value(found, "source"))? {
-        Some(source) => Ok(cp_from(source, found)),
-        None => Ok(None),
+    match name_of(alloc, value(found, "source")) {
+        Ok(Some(source)) => Ok(cp_from(source, found)),
+        Ok(None) => Ok(None),
+        Err(_) => Err(OutOfMemory),
     }
 }
 
@@ -197,9 +260,10 @@ pub(crate) fn verify(alloc: Global, found: &ArgMatches<'_>) -> Result<Option<Sho
     let Some(path) = path(found) else {
         return Ok(None);
     };
-    match against(alloc, path, value(found, "seed"), value(found, "source"))? {
-        Some(asked) => Ok(Some(Shot::Run(asked))),
-        None => Ok(None),
+    match against(alloc, path, value(found, "seed"), value(found, "source")) {
+        Ok(Some(asked)) => Ok(Some(Shot::Run(asked))),
+        Ok(None) => Ok(None),
+        Err(_) => Err(OutOfMemory),
     }
 }
 
@@ -209,9 +273,15 @@ pub(crate) fn read(found: &ArgMatches<'_>) -> Option<Shot>
     ensures sound { IfSome result spec.IsSoundShot }
     ensures value { result ≡ spec.read_shot (rows_of (found_of found.now)) }
 {
-    let path = path(found)?;
-    let offset = number_of(value(found, "offset"))?;
-    let count = count_of(value(found, "count"))?;
+    let Some(path) = path(found) else {
+        return None;
+    };
+    let Some(offset) = number_of(value(found, "offset")) else {
+        return None;
+    };
+    let Some(count) = count_of(value(found, "count")) else {
+        return None;
+    };
     Some(Shot::Run(Ask::Plain(Cmd::Read {
         path,
         offset,
@@ -225,9 +295,10 @@ pub(crate) fn check(alloc: Global, found: &ArgMatches<'_>) -> Result<Option<Shot
     ensures sound { IfOk result (λ shot. IfSome shot spec.IsSoundShot) }
     ensures value { IfOk result (λ shot. shot ≡ spec.check_shot (rows_of (found_of found.now))) }
 {
-    match name_of(alloc, value(found, "listing"))? {
-        Some(source) => Ok(Some(Shot::Run(Ask::Check { source }))),
-        None => Ok(None),
+    match name_of(alloc, value(found, "listing")) {
+        Ok(Some(source)) => Ok(Some(Shot::Run(Ask::Check { source }))),
+        Ok(None) => Ok(None),
+        Err(_) => Err(OutOfMemory),
     }
 }
 
@@ -237,9 +308,15 @@ pub(crate) fn storm(found: &ArgMatches<'_>) -> Option<Invocation>
     ensures sound { IfSome result spec.IsSoundInvocation }
     ensures value { result ≡ spec.storm_invocation (rows_of (found_of found.now)) }
 {
+    let Some(seed) = number_of(value(found, "seed")) else {
+        return None;
+    };
+    let Some(size) = storm_size(value(found, "size")) else {
+        return None;
+    };
     Some(Invocation::Storm {
-        seed: number_of(value(found, "seed"))?,
-        size: storm_size(value(found, "size"))?,
+        seed,
+        size,
         prints: is_given(found, "print"),
     })
 }
@@ -253,8 +330,9 @@ pub(crate) fn script(
     ensures sound { IfOk result (λ invocation. IfSome invocation spec.IsSoundInvocation) }
     ensures value { IfOk result (λ invocation. invocation ≡ spec.script_invocation (rows_of (found_of found.now))) }
 {
-    match name_of(alloc, value(found, "file"))? {
-        Some(file) => Ok(Some(Invocation::Script { file })),
-        None => Ok(None),
+    match name_of(alloc, value(found, "file")) {
+        Ok(Some(file)) => Ok(Some(Invocation::Script { file })),
+        Ok(None) => Ok(None),
+        Err(_) => Err(OutOfMemory),
     }
 }

@@ -74,7 +74,7 @@ fn add<'a>(
 }
 
 /// The command with these arguments, in their order.
-pub(crate) fn command<'a>(
+fn command<'a>(
     alloc: Global,
     name: &'a str,
     arguments: &[Argument],
@@ -89,7 +89,7 @@ pub(crate) fn command<'a>(
 }
 
 /// The matches of a simple command, and nothing where its words are at fault.
-pub(crate) fn matches<'a>(
+fn matches<'a>(
     command: Command<'a>,
     words: &'a [String],
 ) -> Result<Option<ArgMatches<'a>>, OutOfMemory>
@@ -102,6 +102,22 @@ pub(crate) fn matches<'a>(
             ErrorKind::OutOfMemory => Err(OutOfMemory),
             _ => Ok(None),
         },
+    }
+}
+
+/// What a command with these arguments finds among the words, and nothing where they are at fault.
+pub(crate) fn found<'a>(
+    alloc: Global,
+    name: &'a str,
+    arguments: &[Argument],
+    words: &'a [String],
+) -> Result<Option<ArgMatches<'a>>, OutOfMemory>
+    requires { is_simple_and_free (fold with_argument (plain_app name.now) arguments.now) ≡ true }
+    ensures { IfOk result (λ r. option_map (λ m. rows_of (found_of m)) r ≡ rows_given (fold with_argument (plain_app name.entry.now) arguments.now) (map string_bytes words.entry.now)) }
+{
+    match command(alloc, name, arguments) {
+        Ok(command) => matches(command, words),
+        Err(_) => Err(OutOfMemory),
     }
 }
 

@@ -5,7 +5,7 @@ ghost use Rattle.fam_base.specs.Commands.{IsSoundAttr, mode_limit, read_limit};
 ghost use Rattle.fam_format.specs.Params.{first_number};
 ghost use Rattle.uuid.specs.Text.{parsed};
 ghost use Rattle.fam_grammar.specs.Numbers.{number_of_text, size_of_text};
-ghost use Rattle.fam_grammar.specs.Spellings.{count_of, format_of, id_of, mode_of};
+ghost use Rattle.fam_grammar.specs.Spellings.{count_of, format_of, id_of, mode_of, stripe_with};
 ghost use Rattle.fam_words.specs.Values.{IsFormat, attr_of_texts, if_given, most_storm, name_of_text, needed, or_default, path_of_text, storm_size_of, stripe_of_texts};
 
 use fam_base::{Attr, NameText, OutOfMemory, Path, Stripe};
@@ -153,10 +153,35 @@ pub(crate) fn attr_of(
     ensures sound { IfSome result IsSoundAttr }
     ensures value { result ≡ attr_of_texts default (option_map (λ s. s.now) mode.entry) (option_map (λ s. s.now) uid.entry) (option_map (λ s. s.now) gid.entry) }
 {
-    Some(Attr {
-        mode: mode_or(default, mode)?,
-        uid: id_or_first(uid)?,
-        gid: id_or_first(gid)?,
+    let Some(mode) = mode_or(default, mode) else {
+        return None;
+    };
+    let Some(uid) = id_or_first(uid) else {
+        return None;
+    };
+    let Some(gid) = id_or_first(gid) else {
+        return None;
+    };
+    Some(Attr { mode, uid, gid })
+}
+
+/// Strips, buckets and chunk.
+fn stripe_with(strips: &str, buckets: &str, chunk: &str) -> Option<Stripe>
+    ensures { result ≡ stripe_with (number_of_text strips.now) (number_of_text buckets.now) (size_of_text chunk.now) }
+{
+    let Some(nstrips) = number(strips.as_bytes()) else {
+        return None;
+    };
+    let Some(nbuckets) = number(buckets.as_bytes()) else {
+        return None;
+    };
+    let Some(chunk) = size(chunk.as_bytes()) else {
+        return None;
+    };
+    Some(Stripe {
+        nstrips,
+        nbuckets,
+        chunk,
     })
 }
 
@@ -170,11 +195,10 @@ pub(crate) fn stripe_of(
 {
     match (strips, buckets, chunk) {
         (None, None, None) => Some(None),
-        (Some(strips), Some(buckets), Some(chunk)) => Some(Some(Stripe {
-            nstrips: number(strips.as_bytes())?,
-            nbuckets: number(buckets.as_bytes())?,
-            chunk: size(chunk.as_bytes())?,
-        })),
+        (Some(strips), Some(buckets), Some(chunk)) => match stripe_with(strips, buckets, chunk) {
+            Some(stripe) => Some(Some(stripe)),
+            None => None,
+        },
         _ => None,
     }
 }

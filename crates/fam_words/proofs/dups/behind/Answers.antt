@@ -4,5 +4,5 @@ use Rattle.fam_words.proofs.SimpleApps.{dup_simple}
 use Rattle.fam_words.proofs.dups.behind.Goals as goal
 
 -- the command is simple, and its arguments have no rules on others
-pub matches-requires : goal.matches-requires
-matches-requires c = ap is_simple_and_free c.in_ok-command.ensures ∙ dup_simple
+pub found-requires : goal.found-requires
+found-requires c = ap is_simple_and_free c.dup.ensures ∙ dup_simple

@@ -4,5 +4,5 @@ use Rattle.fam_words.proofs.SimpleApps.{named_simple}
 use Rattle.fam_words.proofs.invocations.behind.Goals as goal
 
 -- each command is simple, and its arguments have no rules on others
-pub matches-requires : goal.matches-requires
-matches-requires c = ap is_simple_and_free c.in_ok-command.ensures ∙ named_simple c.args.name
+pub found-requires : goal.found-requires
+found-requires c = ap is_simple_and_free c.words_of.ensures ∙ named_simple c.args.name
