@@ -1,5 +1,5 @@
 -- The line that a fault names, where one image or none was asked.
-use Rattle.std.proofs.Common.{◌≡◌, ℕ, ◌+◌, ◌<◌, List, ap, refl, arith}
+use Rattle.std.proofs.Common.{◌≡◌, ℕ, ◌+◌, ◌<◌, ◌≤◌, List, ap, refl, arith}
 use Rattle.fam_base.specs.declared.entry.Entry.{Entry}
 use Rattle.fam_format.specs.Reading.{Reading}
 use Rattle.fam_replay.specs.Sources.{FailsAt, IsCounted, IsReadCaused, Tells}
@@ -8,6 +8,7 @@ use Rattle.fam_replay.specs.declared.fault.ReadFault.TheVariants as read
 use Rattle.fam_rules.specs.Written.{file_line}
 use Rattle.fam_dup.specs.declared.fault.DupFault.{DupFault}
 use Rattle.fam_dup.specs.declared.fault.DupFault.TheVariants as fault
+use Rattle.fam_dup.specs.declared.files.TheConstants.{RUN_LINES}
 use Rattle.fam_dup.specs.Ends.{FailsFromAt, IsCausedByFrom, IsFileStep, IsOwn, NamesLine, from_counted, of_read}
 use Rattle.fam_dup.specs.Findings.{FailsFrom, Finding, Names, WantsMemory, class_of, from_or}
 use Rattle.fam_dup.specs.Runs.{AreBelow}
@@ -93,19 +94,19 @@ read_among P Q more read.OutOfMemory fails = tt
 
 -- Of an entry's file, where lines are read from one on, and nothing of them was put.
 
-pub file_step : (e c : Entry) (words : List ℕ) (j n : ℕ) → AreBelow e j n → (f : DupFault) → class_of f ≡ FailsFrom
+pub file_step : (e c : Entry) (words : List ℕ) (j n : ℕ) → AreBelow e j n → n ≤ RUN_LINES → (f : DupFault) → class_of f ≡ FailsFrom
     → FailsFromAt (λ at. (ahead : ℕ) × (ahead < n) × (at ≡ file_line e (j + ahead))) f → IsFileStep e c f (file_line c j, words)
-file_step e c words j n below (fault.ImageSmall lines) is fails = absurd (cc)
-file_step e c words j n below (fault.NoSuper word) is fails = absurd (cc)
-file_step e c words j n below (fault.BadSuper field found wanted) is fails = absurd (cc)
-file_step e c words j n below (fault.BadLog field found wanted) is fails = absurd (cc)
-file_step e c words j n below (fault.BadEntry seq reason) is fails = absurd (cc)
-file_step e c words j n below (fault.TooSmall needed have) is fails = absurd (cc)
-file_step e c words j n below (fault.HasSuper fs) is fails = absurd (cc)
-file_step e c words j n below (fault.Stopped seq refusal) is fails = absurd (cc)
-file_step e c words j n below (fault.FromFault line) is fails = record { next = j; ahead = fails.0; puts = refl; reads = fails.2; within = below fails.0 fails.1 }
-file_step e c words j n below (fault.ToFault line) is fails = absurd (cc)
-file_step e c words j n below fault.OutOfMemory is fails = absurd (cc)
+file_step e c words j n below few (fault.ImageSmall lines) is fails = absurd (cc)
+file_step e c words j n below few (fault.NoSuper word) is fails = absurd (cc)
+file_step e c words j n below few (fault.BadSuper field found wanted) is fails = absurd (cc)
+file_step e c words j n below few (fault.BadLog field found wanted) is fails = absurd (cc)
+file_step e c words j n below few (fault.BadEntry seq reason) is fails = absurd (cc)
+file_step e c words j n below few (fault.TooSmall needed have) is fails = absurd (cc)
+file_step e c words j n below few (fault.HasSuper fs) is fails = absurd (cc)
+file_step e c words j n below few (fault.Stopped seq refusal) is fails = absurd (cc)
+file_step e c words j n below few (fault.FromFault line) is fails = record { next = j; ahead = fails.0; puts = refl; reads = fails.2; within = below fails.0 fails.1; few = omega (arith, fails.1, few) }
+file_step e c words j n below few (fault.ToFault line) is fails = absurd (cc)
+file_step e c words j n below few fault.OutOfMemory is fails = absurd (cc)
 
 -- A fault of FROM's log.
 

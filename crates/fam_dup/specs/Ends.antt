@@ -20,6 +20,7 @@ use Rattle.fam_dup.specs.Findings.{Copies, FailsFrom, FailsTo, FaultClass, Fault
 use Rattle.fam_dup.specs.Lines.{AreCut, AreCutAt, IsOffCopy, bytes_in, copy_puts}
 use Rattle.fam_dup.specs.declared.fault.DupFault.{DupFault}
 use Rattle.fam_dup.specs.declared.fault.DupFault.TheVariants as fault
+use Rattle.fam_dup.specs.declared.files.TheConstants.{RUN_LINES}
 
 -- parameters that are asked for on a device of so many lines: a format, a unit, a log of such units, and the slots and the bytes
 -- that follow from these
@@ -151,13 +152,15 @@ IsToStep (fault.FromFault line) put = ⊥
 IsToStep (fault.ToFault line) put = put.0 ≡ line.0
 IsToStep fault.OutOfMemory put = ⊥
 
--- or FROM failed at a line of an entry's file, of which the copy's next lines were to be put: this one, or one before it
+-- or FROM failed at a line of an entry's file, of which the copy's next lines were to be put: this one, or one before it in the
+-- same run
 pub record IsLineAhead (e c : Entry) (line at : ℕ) : Type 0 where
   pub next : ℕ
   pub ahead : ℕ
   pub puts : at ≡ file_line c next
   pub reads : line ≡ file_line e (next + ahead)
   pub within : line_bytes * (next + ahead) < e.size
+  pub few : ahead < RUN_LINES
 
 -- the step of a copy of this entry's file
 abbrev pub IsFileStep : Entry → Entry → DupFault → Put → Type 0

@@ -14,7 +14,7 @@ ghost use Rattle.fam_dup.specs.Findings.{Names, WantsMemory, class_of, copies_or
 
 use crate::fault::{DupFault, DupRefusal};
 use fam_base::{Attr, Cmd, Content, Entry, Kind, Params};
-use fam_plan::Plan;
+use fam_plan::{Plan, decide_with_length};
 use fam_rules::Refused;
 use std::alloc::Global;
 
@@ -69,7 +69,7 @@ fn copy_entry(copies: &Plan, entry: &Entry) -> Result<Entry, DupRefusal>
     ensures may { IfOk result (λ copy. MayBeAdded copies.now copy) }
 {
     copies.each_entry_joins();
-    match copies.decide(&command(entry), copies.params().master) {
+    match decide_with_length(copies, &command(entry), copies.params().master) {
         Ok(copy) => Ok(copy),
         Err(refused) => Err(refusal_of(refused)),
     }

@@ -31,7 +31,7 @@ use fam_plan::Plan;
 use std::alloc::Global;
 
 /// The lines that are read and written by one call at most.
-const RUN_LINES: usize = 1024;
+pub(crate) const RUN_LINES: usize = 1024;
 
 /// Room for the lines of a run.
 pub(crate) fn run_buffer(alloc: Global) -> Result<Vec<Line>, DupFault>
@@ -105,6 +105,7 @@ fn copy_run<M: Media, N: Media>(
     requires size { copy.now.size ≡ entry.now.size }
     requires some { 0 < length lines.old }
     requires below { AreBelow entry.now j (length lines.old) }
+    requires few { length lines.old ≤ RUN_LINES }
     requires together { AreTogether entry.now j (length lines.old) }
     requires together_copy { AreTogether copy.now j (length lines.old) }
     ensures puts { IfModelled (M.state from.old).image (λ image. PutsEnd (IsFileStep entry.now copy.now) (part_puts copy.now (bytes_in (line_at image) entry.now) j (length lines.old))
@@ -155,6 +156,7 @@ fn copy_file<M: Media, N: Media>(
     requires place { IsFileOn copy.now (N.size to.old) }
     requires size { copy.now.size ≡ entry.now.size }
     requires buffer { 0 < length buffer.old }
+    requires few { length buffer.old ≤ RUN_LINES }
     ensures puts { IfModelled (M.state from.old).image (λ image. PutsEnd (IsFileStep entry.now copy.now) (file_puts copy.now (bytes_in (line_at image) entry.now))
         (N.state to.old).image (N.state to.new).image result) }
     ensures buffer { length buffer.new ≡ length buffer.old }
@@ -191,6 +193,7 @@ pub(crate) fn copy_files<M: Media, N: Media>(
     requires to_device { copies.now.params.device ≤ line_bytes * N.size to.old }
     requires copies { AreCopies source.now.entries copies.now.entries }
     requires buffer { 0 < length buffer.old }
+    requires few { length buffer.old ≤ RUN_LINES }
     ensures puts { IfModelled (M.state from.old).image (λ image. PutsEnd (IsStep source.now.entries copies.now.entries) (files_puts (line_at image) source.now.entries copies.now.entries)
         (N.state to.old).image (N.state to.new).image result) }
     ensures failed { IfErr result (λ fault. IsFailure (M.state from.old).faults (M.state from.new).faults

@@ -8,6 +8,7 @@ ghost use Rattle.fam_media.specs.Causes.{IsSteady, Rose};
 ghost use Rattle.fam_media.specs.Outside.{IfModelled};
 ghost use Rattle.fam_rules.specs.Place.{line_bytes};
 ghost use Rattle.fam_rules.specs.Written.{slot_part, slot_puts};
+ghost use Rattle.fam_dup.specs.declared.files.TheConstants.{RUN_LINES};
 ghost use Rattle.fam_dup.specs.Copies.{AreCopies};
 ghost use Rattle.fam_dup.specs.Ends.{IsFailure, IsStep, IsToStep, NamesLine, from_counted, to_counted};
 ghost use Rattle.fam_dup.specs.Findings.{FailsTo, class_of};
@@ -118,6 +119,7 @@ pub(crate) fn write_copy<M: Media, N: Media>(
     buffer: &mut [Line],
 ) -> Result<(), DupFault>
     requires buffer { 0 < length buffer.old }
+    requires few { length buffer.old ≤ RUN_LINES }
     requires from_device { source.now.params.device ≤ line_bytes * M.size from.old }
     requires to_device { copies.now.params.device ≤ line_bytes * N.size to.old }
     requires copies { AreCopies source.now.entries copies.now.entries }

@@ -100,8 +100,8 @@ pub record IsBoxLine (path : List ℕ) (image : Image) (at : ℕ) : Type 0 where
 abbrev pub IsLookedAt : List ℕ → Image → ℕ → Type 0
 IsLookedAt path image at = IsAskedFor (line_at image) (line_bytes * length image) at ⊎ IsBoxLine path image at
 
--- what is so of an image where a fault comes: no fault comes where another one stands before it, and the line of a media fault is
--- one that is asked for
+-- what is so of an image where a fault comes. One that tells of the image comes only where none stands before it; want of memory
+-- may come anywhere, and a media fault at a line that is asked for
 abbrev pub IsSo : List ℕ → Image → LookFault → Type 0
 IsSo path image (fault.ImageSmall lines) = (lines ≡ length image) × (length image < least_lines)
 IsSo path image (fault.NoSuper word) = ReadsAs image (read.NoSuperblock (super.NoSuper word))

@@ -4,3 +4,4 @@ pub mod Entries
 pub mod FirstEntries
 pub mod Prefixes
 pub mod PieceLemmas
+pub mod Lengths

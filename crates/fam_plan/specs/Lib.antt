@@ -5,3 +5,4 @@ pub mod Needs
 pub mod Pieces
 pub mod Parts
 pub mod Ledgers
+pub mod Decisions

@@ -1,12 +1,13 @@
 //! What a command appends behind the entries of a plan, or why nothing.
 
-ghost use Rattle.std.specs.Prelude.{◌≡◌, ◌<◌, Some, None, IsSome, IfOk, MatchResult};
+ghost use Rattle.std.specs.Prelude.{◌≡◌, ◌<◌, true, Some, None, IfSome, IsSome, IfOk, MatchResult};
 ghost use Rattle.std.specs.FinMap as map;
 ghost use Rattle.fam_base.specs.Paths.{parent_of};
 ghost use Rattle.fam_format.specs.Tree.{replay};
-ghost use Rattle.fam_rules.specs.Decide.{decide, decide_wish, wish_of, is_stripe};
+ghost use Rattle.fam_rules.specs.Decide.{decide, decide_wish, is_stripe, path_fits, wish_of};
 ghost use Rattle.fam_rules.specs.Decide.{early_refusal, length_refusal, master_refusal, stripe_refusal, exists_refusal, parent_refusal, full_refusal};
 ghost use Rattle.fam_base.specs.Commands.{IsSoundCmd};
+ghost use Rattle.fam_plan.specs.Decisions.{plan_decide, plan_decide_wish};
 ghost use Rattle.fam_plan.specs.State.{MayBeAdded};
 ghost use Rattle.fam_plan.specs.Wishes.{wish_in};
 
@@ -35,7 +36,7 @@ fn check_master(params: &Params, me: &Uuid) -> Result<(), Refused>
     }
 }
 
-/// Whether a slot of the log's format has room for a path: the first one has room for few, others for every path.
+/// Whether a slot of the log's format has room for a path: in the first format up to a limit, in others for every path.
 fn check_length(params: &Params, path: &Path) -> Result<(), Refused>
     ensures { MatchResult result (λ _. length_refusal params.now path.now ≡ None)
         (λ refused. length_refusal params.now path.now ≡ Some refused) }
@@ -125,11 +126,11 @@ impl Plan {
     }
 
     /// What a host appends for a wish, or the first refusal.
-    #[tactic(auto, unfolding(fam_rules::specs::Decide::decide_wish))]
+    #[tactic(auto, unfolding(crate::specs::Decisions::plan_decide_wish))]
     fn decide_wish(&self, wish: &Wish, me: &Uuid) -> Result<Entry, Refused>
-        ensures { result ≡ decide_wish self.now.params me.now self.now.entries (wish_in wish.now) }
+        ensures { result ≡ plan_decide_wish self.now.params me.now self.now.entries (wish_in wish.now) }
     {
-        check_early(&self.params, me, &wish.path)?;
+        check_master(&self.params, me)?;
         check_stripe(&self.params, &wish.stripe)?;
         self.check_free(&wish.path)?;
         self.check_parent(&wish.path)?;
@@ -137,19 +138,46 @@ impl Plan {
         Ok(wish.entry_in(self.room_for(wish)?))
     }
 
-    /// The entry that a host's mkdir, creat or cp appends behind the entries added, or the first refusal against it. It
-    /// takes no memory, and adds nothing.
+    /// The entry that a host's mkdir, creat or cp appends behind the entries added, or the first refusal against it. The
+    /// length of the path isn't looked at: `decide_with_length` does that first. It takes no memory, and adds nothing.
     pub fn decide(&self, cmd: &Cmd, me: Uuid) -> Result<Entry, Refused>
         requires { IsSome (wish_of cmd.now) }
-        ensures value { decide self.now.params me self.now.entries cmd.now ≡ Some result }
+        ensures value { plan_decide self.now.params me self.now.entries cmd.now ≡ Some result }
 
-        // The entry may be added: a slot is left for it, it is proper, and it joins.
-        ensures may { IsSoundCmd cmd.now → IfOk result (λ entry. MayBeAdded self.now entry) }
+        // The entry may be added, where a slot has room for its path: a slot is left for it, it is proper, and it joins.
+        ensures may { IsSoundCmd cmd.now → IfSome (wish_of cmd.now) (λ w. path_fits self.now.params w.path ≡ true)
+            → IfOk result (λ entry. MayBeAdded self.now entry) }
     {
         self.each_entry_joins();
         match Wish::of(cmd) {
             Some(wish) => self.decide_wish(&wish, &me),
             None => unreachable!(),
         }
+    }
+}
+
+/// What a host appends behind the entries of a plan for a wish, or the first refusal, with a test of the path's length.
+fn decide_wish_with_length(plan: &Plan, wish: &Wish, me: &Uuid) -> Result<Entry, Refused>
+    ensures { result ≡ decide_wish plan.now.params me.now plan.now.entries (wish_in wish.now) }
+{
+    match check_early(plan.params(), me, &wish.path) {
+        Ok(()) => plan.decide_wish(wish, me),
+        Err(refused) => Err(refused),
+    }
+}
+
+/// What a host's mkdir, creat or cp appends behind the entries of a plan, or the first refusal against it. The length of
+/// the path is tested behind the master, and then the plan decides. It takes no memory.
+pub fn decide_with_length(plan: &Plan, cmd: &Cmd, me: Uuid) -> Result<Entry, Refused>
+    requires { IsSome (wish_of cmd.now) }
+    ensures value { decide plan.now.params me plan.now.entries cmd.now ≡ Some result }
+
+    // The entry may be added: a slot is left for it, it is proper, and it joins.
+    ensures may { IsSoundCmd cmd.now → IfOk result (λ entry. MayBeAdded plan.now entry) }
+{
+    plan.each_entry_joins();
+    match Wish::of(cmd) {
+        Some(wish) => decide_wish_with_length(plan, &wish, &me),
+        None => unreachable!(),
     }
 }

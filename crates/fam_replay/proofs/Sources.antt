@@ -7,7 +7,7 @@ use Rattle.fam_format.specs.Layout.{log_line}
 use Rattle.fam_format.specs.Log.{log_fault}
 use Rattle.fam_format.specs.Reading.{Lines, Reading, read_log, read_slots, read_super, reading, reading_of, super_in}
 use Rattle.fam_rules.specs.Place.{line_bytes}
-use Rattle.fam_replay.specs.Sources.{FailsAt, Tells}
+use Rattle.fam_replay.specs.Sources.{FailsAt, IsOfSlot, IsOfSlots, Tells}
 use Rattle.fam_replay.specs.declared.fault.ReadFault.{ReadFault}
 use Rattle.fam_replay.specs.declared.fault.ReadFault.TheVariants as fault
 
@@ -42,3 +42,33 @@ slots_left memory p q count slot entries params is below told =
     ∙ ap (λ (n : ℕ). read_slots memory p slot n entries) more
     ∙ ap (λ (n : ℕ). read_slots memory p n (suc (count - (slot + 1))) entries) (sym is)
     ∙ ap (λ (r : Params). read_slots memory r (length entries) (suc (count - (slot + 1))) entries) (sym params)
+
+-- before the first slot
+pub slots_first : (memory : Lines) (p : Params) (slot : ℕ) (entries : List Entry) → entries ≡ [] → slot ≡ 0 → (more : ℕ) → read_slots memory p 0 (slot + more) [] ≡ read_slots memory p slot more entries
+slots_first memory p slot entries none first more =
+    let count : slot + more ≡ more = omega (arith, first) in
+    ap (λ (n : ℕ). read_slots memory p 0 n []) count
+    ∙ ap (λ (n : ℕ). read_slots memory p n more []) (sym first)
+    ∙ ap (λ (l : List Entry). read_slots memory p slot more l) (sym none)
+
+module _ (memory : Lines) (p : Params) (slot : ℕ) (entries : List Entry) (each : (more : ℕ) → read_slots memory p 0 (slot + more) [] ≡ read_slots memory p slot more entries) where
+  -- one slot more, by what a plan has
+  pub slots_next : (q : Params) (more : ℕ) → q ≡ p → length entries ≡ slot → read_slots memory p 0 (slot + 1 + more) [] ≡ read_slots memory q (length entries) (suc more) entries
+  slots_next q more params is =
+      let count : slot + 1 + more ≡ slot + suc more = omega arith in
+      ap (λ (n : ℕ). read_slots memory p 0 n []) count
+      ∙ each (suc more)
+      ∙ ap (λ (n : ℕ). read_slots memory p n (suc more) entries) (sym is)
+      ∙ ap (λ (r : Params). read_slots memory r (length entries) (suc more) entries) (sym params)
+
+  -- a line of the next slot is one behind slots that all read
+  pub slot_reached : (q : Params) (count at : ℕ) → q ≡ p → length entries ≡ slot → slot < count → IsOfSlot q (length entries) at → IsOfSlots memory p count at
+  slot_reached q count at params is below line =
+      let none : slot ≡ slot + 0 = omega arith in
+      record {
+        slot = slot;
+        below = below;
+        before = entries;
+        sound = ap (λ (n : ℕ). read_slots memory p 0 n []) none ∙ each 0;
+        line = subst (λ (n : ℕ). IsOfSlot p n at) is (subst (λ (r : Params). IsOfSlot r (length entries) at) params line);
+      }

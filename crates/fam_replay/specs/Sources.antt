@@ -1,5 +1,6 @@
 -- The reading of a media's log: what a fault says of it, and which lines are asked for.
-use Rattle.std.specs.Prelude.{ℕ, ◌≡◌, ◌⊎◌, ◌<◌, ⊤, Option, Some, None, Ok, slice_index}
+use Rattle.std.specs.Prelude.{ℕ, ◌≡◌, ◌⊎◌, ◌<◌, ⊤, List, [], Option, Some, None, Ok, slice_index}
+use Rattle.fam_base.specs.declared.entry.Entry.{Entry}
 use Rattle.fam_base.specs.declared.entry.Params.{Params}
 use Rattle.fam_format.specs.declared.faults.SuperFault.{SuperFault}
 use Rattle.fam_format.specs.declared.faults.SuperFault.TheVariants as super
@@ -8,7 +9,7 @@ use Rattle.fam_format.specs.declared.faults.LogFault.TheVariants as log
 use Rattle.fam_format.specs.declared.faults.Reason.{Reason}
 use Rattle.fam_format.specs.Layout.{gate_line, geometry, log_line, slot_line}
 use Rattle.fam_format.specs.Log.{log_fault}
-use Rattle.fam_format.specs.Reading.{Lines, Reading, BadHeader, BadSlot, NoSuperblock, gate_in, super_in}
+use Rattle.fam_format.specs.Reading.{Lines, Reading, BadHeader, BadSlot, NoSuperblock, Sound, gate_in, read_slots, super_in}
 use Rattle.fam_format.specs.Super.{magic}
 use Rattle.fam_media.specs.Causes.{Rose}
 use Rattle.fam_media.specs.Plans.{one_more}
@@ -73,14 +74,22 @@ IsOfSuper lines at = (at ≡ 0) ⊎ ((slice_index (lines 0) 0 ≡ magic) × ((at
 abbrev pub IsOfHead : Lines → Params → ℕ → Type 0
 IsOfHead lines p at = (at ≡ log_line) ⊎ ((log_fault (lines log_line) p ≡ None) × (at ≡ gate_line))
 
--- a line of one of the first slots
-abbrev pub IsOfSlots : Params → ℕ → ℕ → Type 0
-IsOfSlots p count at = (slot : ℕ) × (line : ℕ) × (slot < count) × (line < (geometry p).lines) × (at ≡ slot_line p slot line)
+-- a line of this slot
+abbrev pub IsOfSlot : Params → ℕ → ℕ → Type 0
+IsOfSlot p slot at = (line : ℕ) × (line < (geometry p).lines) × (at ≡ slot_line p slot line)
 
--- a line of the log with these parameters: of its head, or of a slot below the gate
+-- a line of one of the first slots, behind slots that all read and join: none behind the first bad one
+pub record IsOfSlots (lines : Lines) (p : Params) (count at : ℕ) : Type 0 where
+  pub slot : ℕ
+  pub below : slot < count
+  pub before : List Entry
+  pub sound : read_slots lines p 0 slot [] ≡ Sound p before
+  pub line : IsOfSlot p slot at
+
+-- a line of the log with these parameters: of its head, or of a slot below the gate that is reached
 abbrev pub IsOfLog : Lines → Params → ℕ → Type 0
-IsOfLog lines p at = IsOfHead lines p at ⊎ IsOfSlots p (gate_in lines) at
+IsOfLog lines p at = IsOfHead lines p at ⊎ IsOfSlots lines p (gate_in lines) at
 
--- a line that a reading asks for: of the superblock, or of the log behind one that reads
+-- a line that a reading asks for, where all before it read: of the superblock, or of the log behind one that reads
 abbrev pub IsAskedFor : Lines → ℕ → ℕ → Type 0
 IsAskedFor lines have at = IsOfSuper lines at ⊎ ((p : Params) × (super_in lines have ≡ Ok p) × IsOfLog lines p at)

@@ -26,7 +26,7 @@ use crate::kept_slot::KeptSlot;
 use crate::same::same_slot;
 use fam_base::{Cmd, Entry, OutOfMemory, Params, Path};
 use fam_format::Reason;
-use fam_plan::{AddFault, Plan};
+use fam_plan::{AddFault, Plan, decide_with_length};
 use fam_rules::Refused;
 use fam_tree::{EntryRef, Tree};
 use std::alloc::Global;
@@ -304,7 +304,7 @@ impl Replica {
         ensures may { IsSoundCmd cmd.now
             → IfOk result (λ entry. IsRoomFor self.now.params (found_in self.now) entry) }
     {
-        self.plan.decide(cmd, me)
+        decide_with_length(&self.plan, cmd, me)
     }
 
     /// How many entries were found.

@@ -11,7 +11,7 @@ ghost use Rattle.fam_media.specs.Causes.{IsSteady, Rose};
 ghost use Rattle.fam_media.specs.Outside.{IfModelled};
 ghost use Rattle.fam_plan.specs.Faults.{reason_of};
 ghost use Rattle.fam_rules.specs.Place.{line_bytes};
-ghost use Rattle.fam_replay.specs.Sources.{FailsAt, IsAskedFor, IsCounted, IsOfHead, IsOfLog, IsOfSlots, IsOfSuper, IsReadCaused, Tells, of_log, of_slot, of_super};
+ghost use Rattle.fam_replay.specs.Sources.{FailsAt, IsAskedFor, IsCounted, IsOfHead, IsOfLog, IsOfSlot, IsOfSlots, IsOfSuper, IsReadCaused, Tells, of_log, of_slot, of_super};
 ghost use Rattle.fam_replay.specs.declared.fault.ReadFault.TheVariants as fault;
 
 use crate::fault::ReadFault;
@@ -173,7 +173,7 @@ fn read_words<M: Media>(
     requires device { params.now.device ≤ line_bytes * M.size media.old }
     requires slot { slot < params.now.slots }
     ensures words { IfOk result (λ words. IfModelled (M.state media.old).image (λ image. take (geometry params.now).words words ≡ slot_words (line_at image) params.now slot)) }
-    ensures asked { IfErr result (FailsAt (IsOfSlots params.now (slot + 1))) }
+    ensures asked { IfErr result (FailsAt (IsOfSlot params.now slot)) }
     ensures fault { IfErr result (λ fault. (found : read.Reading) → Tells fault found) }
     ensures cause { IfErr result (IsReadCaused (M.state media.old).faults (M.state media.new).faults) }
     ensures quiet { OnOk result (M.exact ≡ true → (M.state media.new).faults ≡ (M.state media.old).faults) }
@@ -200,7 +200,7 @@ fn read_slot<M: Media>(media: &mut M, plan: &mut Plan, seq: u64) -> Result<(), R
         ≡ read.read_slots (line_at image) plan.old.params (length plan.new.entries) more plan.new.entries)) }
     ensures count { OnOk result (length plan.new.entries ≡ length plan.old.entries + 1) }
     ensures params { plan.new.params ≡ plan.old.params }
-    ensures asked { IfErr result (FailsAt (IsOfSlots plan.old.params (length plan.old.entries + 1))) }
+    ensures asked { IfErr result (FailsAt (IsOfSlot plan.old.params (length plan.old.entries))) }
     ensures fault { IfErr result (λ fault. IfModelled (M.state media.old).image (λ image. (more : ℕ) →
         Tells fault (read.read_slots (line_at image) plan.old.params (length plan.old.entries) (suc more) plan.old.entries))) }
     ensures cause { IfErr result (IsReadCaused (M.state media.old).faults (M.state media.new).faults) }
@@ -232,7 +232,8 @@ fn read_slots<M: Media>(media: &mut M, plan: &mut Plan, count: u64) -> Result<()
     ensures told { OnOk result (IfModelled (M.state media.old).image (λ image.
         read.read_slots (line_at image) plan.old.params 0 count [] ≡ read.Sound plan.old.params plan.new.entries)) }
     ensures params { plan.new.params ≡ plan.old.params }
-    ensures asked { IfErr result (FailsAt (IsOfSlots plan.old.params count)) }
+    ensures asked { IfErr result (λ fault. IfModelled (M.state media.old).image (λ image.
+        FailsAt (IsOfSlots (line_at image) plan.old.params count) fault)) }
     ensures fault { IfErr result (λ fault. IfModelled (M.state media.old).image (λ image.
         Tells fault (read.read_slots (line_at image) plan.old.params 0 count []))) }
     ensures cause { IfErr result (IsReadCaused (M.state media.old).faults (M.state media.new).faults) }

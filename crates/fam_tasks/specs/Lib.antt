@@ -12,3 +12,4 @@ pub mod Sound
 pub mod Model
 pub mod Invariant
 pub mod SlotLines
+pub mod KeptAnew

@@ -24,7 +24,7 @@ ghost use Rattle.fam_tasks.specs.History.{MayFollow, MayServe, kept_of, read_by}
 use crate::kept::Kept;
 use fam_base::{Cmd, Entry, OutOfMemory, Params, Path};
 use fam_format::Reason;
-use fam_plan::Plan;
+use fam_plan::{Plan, decide_with_length};
 use fam_replay::{Replay, Replica, reason_behind};
 use fam_rules::Refused;
 use fam_tree::Tree;
@@ -307,7 +307,7 @@ impl History {
         ensures none { OnErr result (entries_in self.old.replay ≡ []) }
     {
         match &self.kept {
-            Some(kept) if self.serves => Ok(kept.plan().decide(cmd, me)),
+            Some(kept) if self.serves => Ok(decide_with_length(kept.plan(), cmd, me)),
             _ => self.replay.decide(params, gate, cmd, me),
         }
     }

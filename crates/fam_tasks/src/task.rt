@@ -14,6 +14,7 @@ ghost use Rattle.fam_commands.specs.Classes.{is_fsck};
 ghost use Rattle.fam_machine.specs.Operations.{IsWithin};
 ghost use Rattle.fam_tasks.specs.declared.answer.Answer.TheVariants.{MediaFault};
 ghost use Rattle.fam_tasks.specs.declared.answer.Turn.TheVariants.{Done, Go};
+ghost use Rattle.fam_tasks.specs.KeptAnew.{is_keeping};
 ghost use Rattle.fam_tasks.specs.Survey.{ShowWants};
 ghost use Rattle.fam_tasks.specs.Sound.{most_lines, HasSuper, IsFileLine, IsLine, IsSound, IsWantedLine};
 ghost use Rattle.fam_tasks.specs.Tells.{Keeps, Tells, WantsMemory, is_digest, is_reading};
@@ -89,6 +90,17 @@ fn done(phase: &mut Phase, answer: Answer) -> Turn
 {
     *phase = Phase::FenceGate;
     Turn::Done(answer)
+}
+
+/// Whether an answer is one behind which a host may keep what its task has read.
+fn is_keeping(answer: &Answer) -> bool
+    ensures { result ≡ is_keeping answer.now }
+{
+    match answer {
+        Answer::Mounted { .. } => true,
+        Answer::Played { .. } => true,
+        _ => false,
+    }
 }
 
 /// How many lines a slot of the file system with these parameters has.
@@ -217,6 +229,20 @@ impl Task {
         self.phase = Phase::DropMagic;
         self.scan = None;
         replace(&mut self.history, History::new(self.alloc, None)).into_parts()
+    }
+
+    /// What the host keeps anew behind a task that gave this answer: Some exactly where it is Mounted, or Played of a host that
+    /// keeps something, with the parameters that the task read and the first entries, as many as the answer says (`Keeps`).
+    /// It takes no memory.
+    pub fn into_kept(mut self, answer: &Answer) -> Option<Kept>
+        ensures kept { is_keeping answer.now ≡ true → result ≡ self.kept }
+        ensures none { is_keeping answer.now ≡ false → result ≡ None }
+    {
+        if !is_keeping(answer) {
+            return None;
+        }
+        let (kept, _found) = self.take_parts();
+        kept
     }
 
     /// What is known of every task: its numbers fit its phase. A call does nothing.

@@ -9,7 +9,7 @@ ghost use Rattle.fam_rules.specs.Decide.{wish_of};
 use fam_alloc::{AllocMap, UsedUnits};
 use fam_base::{Attr, BadPath, Cmd, Content, Entry, Extent, Extents, Kind, MapKind, Params, Path};
 use fam_format::FIRST_FORMAT;
-use fam_plan::Plan;
+use fam_plan::{Plan, decide_with_length};
 use fam_tasks::Kept;
 use fam_tree::{ApplyFault, Tree};
 use std::alloc::Global;
@@ -170,7 +170,7 @@ fn run(plan: &mut Plan, cmd: &Cmd) -> Result<Entry, Fail>
     requires appends { IsSome (wish_of cmd.now) }
     requires sound { IsSoundCmd cmd.now }
 {
-    let entry = plan.decide(cmd, Uuid::from_bytes(OWN))?;
+    let entry = decide_with_length(plan, cmd, Uuid::from_bytes(OWN))?;
     plan.add(&entry)?;
     Ok(entry)
 }

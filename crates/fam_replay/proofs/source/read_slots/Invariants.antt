@@ -1,4 +1,4 @@
-use Rattle.std.proofs.Common.{◌≡◌, true, ◌-◌, [], length}
+use Rattle.std.proofs.Common.{◌≡◌, ℕ, true, ◌+◌, ◌-◌, [], length}
 use Rattle.fam_base.specs.Image.{line_at}
 use Rattle.fam_format.specs.Reading.{read_slots}
 use Rattle.fam_media.specs.Causes.{IsSteady}
@@ -10,6 +10,8 @@ abbrev pub invariant-loop-slot : goal.invariant-loop-slot
 invariant-loop-slot g l = record {
   told : IfModelled (g.M.Media.state l.fn.media).image (λ image.
       read_slots (line_at image) l.fn.plan.params 0 l.count [] ≡ read_slots (line_at image) l.fn.plan.params l.slot (l.count - l.slot) l.plan.entries);
+  each : IfModelled (g.M.Media.state l.fn.media).image (λ image. (more : ℕ) →
+      read_slots (line_at image) l.fn.plan.params 0 (l.slot + more) [] ≡ read_slots (line_at image) l.fn.plan.params l.slot more l.plan.entries);
   count : length l.plan.entries ≡ l.slot;
   params : l.plan.params ≡ l.fn.plan.params;
   same : (g.M.Media.state l.media).image ≡ (g.M.Media.state l.fn.media).image;
