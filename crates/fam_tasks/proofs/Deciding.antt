@@ -1,15 +1,24 @@
 -- What a task with all slots read says and keeps, by its command.
-use Rattle.std.proofs.Common.{ℕ, ◌≡◌, None, Result, Ok, Err, sym, ap, subst, ◌∙◌}
+use Rattle.std.proofs.Common.{ℕ, ◌≡◌, List, length, Option, None, Result, Ok, Err, sym, ap, subst, ◌∙◌}
 use Rattle.std.specs.Prelude.{IfOk, OnErr, OnOk}
 use Rattle.fam_base.specs.declared.cmd.Cmd.{Cmd}
+use Rattle.fam_base.specs.declared.entry.Entry.{Entry}
 use Rattle.fam_commands.specs.Classes.{class_of, Appends, Replays}
 use Rattle.fam_commands.specs.Keeping.{kept_after}
+use Rattle.fam_commands.specs.Kept.{Kept}
 use Rattle.fam_commands.specs.Task.{Task}
 use Rattle.fam_commands.specs.Turns as turns
 use Rattle.fam_commands.specs.Turns.{decide_turn, turn_at, turn_of}
 use Rattle.fam_commands.specs.declared.phase.Phase.{Phase}
 use Rattle.fam_commands.specs.declared.phase.Phase.TheVariants as at
+use Rattle.fam_replay.specs.Replay.{entries_in, IsReplayOf}
 use Rattle.fam_tasks.specs.declared.answer.Turn.{Turn}
+use Rattle.fam_tasks.specs.declared.task.Task.TheInside.{Inside}
+use Rattle.fam_tasks.specs.Commands.{slots_told}
+use Rattle.fam_tasks.specs.History.{HistoryState}
+use Rattle.fam_tasks.specs.Invariant.{HasLooked, IsInvariantAt, IsTask}
+use Rattle.fam_tasks.specs.Model.{task_of}
+use Rattle.fam_tasks.specs.Sound.{IsSound}
 use Rattle.fam_tasks.specs.Tells.{Keeps, Tells, WantsMemory}
 use Rattle.fam_tasks.proofs.Keeping.{done_so, keeps_other}
 
@@ -36,3 +45,20 @@ appends_no_replay is = cc
 pub append_keeps : {T E : Type 0} (r : Result T E) (t new : Task) (cmd : Cmd) → t.cmd ≡ cmd → class_of cmd ≡ Appends → new.kept ≡ t.kept → OnOk r (Keeps t (turn_of t None) new)
 append_keeps r t new cmd is appends kept =
     done_so r (kept ∙ sym (keeps_other t None (λ class. appends_no_replay (sym appends ∙ ap class_of (sym is) ∙ class))))
+
+-- A task that has decided goes on with the same entries.
+pub decided_task : (t : Inside) (h : HistoryState) → IsTask t → t.phase ≡ at.Decide → IsReplayOf t.params t.gate h.replay → entries_in h.replay ≡ entries_in t.history.replay → h.kept ≡ t.history.kept → IsTask (record t { history = h })
+decided_task t h task phase fits same kept =
+    let u : Inside = record t { history = h } in
+    let looked : HasLooked (slots_told t.cmd t.params t.gate) t = subst (λ (p : Phase). IsInvariantAt p t) phase task.held in
+    record {
+      sound =
+          subst (λ (list : List Entry). IsSound (record (task_of t) { entries = list; kept = h.kept })) (sym same)
+          (subst (λ (k : Option Kept). IsSound (record (task_of t) { kept = k })) (sym kept) task.sound);
+      held = subst (λ (p : Phase). IsInvariantAt p u) (sym phase) (record {
+        replay = fits;
+        scan = looked.scan;
+        entries = λ other. ap length same ∙ looked.entries other;
+        slots = looked.slots;
+      });
+    }

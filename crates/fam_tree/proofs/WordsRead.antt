@@ -1,6 +1,6 @@
 -- The words of a line are read back.
 use Rattle.std.proofs.Common.{◌≡◌, ◌≢◌, ℕ, ◌<◌, ◌≤◌, true, false, List, [], ◌∷◌, ◌++◌, length, inl, inr, refl, ap, sym, subst, ◌∙◌, arith, append-nil, append_assoc, length-append}
-use Rattle.std.specs.Prelude.{◌==◌, Option, Some, slice_index}
+use Rattle.std.specs.Prelude.{◌==◌, Option, None, Some, slice_index}
 use Rattle.std.specs.Fmt.{decimal}
 use Rattle.std.specs.List.{join_with_byte}
 use Rattle.std.specs.Str.{IsUtf8}
@@ -22,6 +22,14 @@ use Rattle.fam_tree.specs.Lines.{colon, comma, plus, space, extent_text, extents
 use Rattle.fam_tree.specs.Listings.{AreWordExtents, IsListed, IsWord, IsWordExtent, MapListed}
 use Rattle.fam_tree.proofs.Cutting.{back_found, back_joined, back_none, front_found, front_joined, front_none}
 use Rattle.fam_tree.proofs.Printed.{No, Fit, Words, decimal_first, decimal_no, extent_no, extents_first, extents_no, fit_head, out_colon, out_comma, out_plus, path_fits, words_no}
+
+-- What is read is no guess.
+
+pub none_some : {A : Type 0} (x : A) → None ≡ Some x → ⊥
+none_some x is = cc
+
+pub some_same : {A : Type 0} (x y : A) → Some x ≡ Some y → x ≡ y
+some_same x y is = cc
 
 -- Numbers.
 

@@ -20,6 +20,7 @@ use Rattle.fam_tasks.specs.Sound.{IsSoundAt}
 use Rattle.fam_tasks.proofs.FileLines.{same_proper, verify_held, verify_holds, verify_kept, wanted_line}
 use Rattle.fam_tasks.proofs.FileTurns.{differs_told, goes, last_line, next_line, no_words, replies, same_told}
 use Rattle.fam_tasks.proofs.Phases.{same_gate}
+use Rattle.fam_tasks.proofs.Keeping.{ended_task}
 use Rattle.fam_tasks.proofs.task.Task.compare_found.Goals as goal
 
 pub invariant_of-self-then-line-lines : goal.invariant_of-self-then-line-lines
@@ -115,3 +116,13 @@ returns-else-line-lines-clause-turn c phase =
     replies _ c.done-else-line-lines.result _ (Same (length c.args.self.now.entries)) (answer.Same c.count-m.result)
     (told ∙ last_line (record loaded { words = [] }) c.args.line c.wanted_lines-lines.result _ lines c.if-line-lines.false)
     c.done-else-line-lines.ensures.turn (ap (λ (n : ℕ). Some (Same n)) count)
+
+pub invariant_of-self : goal.invariant_of-self
+invariant_of-self c =
+    let sound = c.self.invariant.sound in
+    ended_task _ c.done.ensures.last sound.command sound.least sound.most sound.kept
+
+pub invariant_of-self-else-line-lines : goal.invariant_of-self-else-line-lines
+invariant_of-self-else-line-lines c =
+    let sound = c.self.invariant.sound in
+    ended_task _ c.done-else-line-lines.ensures.last sound.command sound.least sound.most sound.kept

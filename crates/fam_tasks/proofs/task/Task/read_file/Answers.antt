@@ -8,6 +8,7 @@ use Rattle.fam_tasks.specs.Model.{task_of}
 use Rattle.fam_tasks.specs.Sound.{IsSoundAt}
 use Rattle.fam_tasks.proofs.FileLines.{none_kept, read_held, read_looks, some_wanted, wanted_line}
 use Rattle.fam_tasks.proofs.Phases.{same_gate}
+use Rattle.fam_tasks.proofs.Keeping.{ended_task}
 use Rattle.fam_tasks.proofs.task.Task.read_file.Goals as goal
 
 pub invariant_of-self-2 : goal.invariant_of-self-2
@@ -32,3 +33,8 @@ invariant_of-self-2 c =
       };
       held = read_held c.self.inside.cmd _ 0 is room;
     }
+
+pub invariant_of-self : goal.invariant_of-self
+invariant_of-self c =
+    let sound = c.self.invariant.sound in
+    ended_task _ c.done.ensures.last sound.command sound.least sound.most sound.kept

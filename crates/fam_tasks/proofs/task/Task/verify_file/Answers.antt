@@ -8,6 +8,7 @@ use Rattle.fam_tasks.specs.Model.{task_of}
 use Rattle.fam_tasks.specs.Sound.{IsSoundAt}
 use Rattle.fam_tasks.proofs.FileLines.{none_kept, verify_held, verify_looks, verify_some, wanted_line}
 use Rattle.fam_tasks.proofs.Phases.{same_gate}
+use Rattle.fam_tasks.proofs.Keeping.{ended_task}
 use Rattle.fam_tasks.proofs.task.Task.verify_file.Goals as goal
 
 pub invariant_of-self-2 : goal.invariant_of-self-2
@@ -31,3 +32,8 @@ invariant_of-self-2 c =
       };
       held = verify_held c.self.inside.cmd _ 0 is (c.new.ensures.content ∙ c.in_ok-content_used.ensures) c.new.ensures.taken;
     }
+
+pub invariant_of-self : goal.invariant_of-self
+invariant_of-self c =
+    let sound = c.self.invariant.sound in
+    ended_task _ c.done.ensures.last sound.command sound.least sound.most sound.kept
