@@ -8,3 +8,4 @@ pub mod Options
 pub mod Lines
 pub mod Scripts
 pub mod Sound
+pub mod Meanings

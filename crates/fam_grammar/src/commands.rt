@@ -191,8 +191,10 @@ fn check(alloc: Global, words: &mut Words<'_>, line: Line) -> Result<Ask, LineFa
     ensures value { Tells line (words_left words.new) result (check_line line.end (words_left words.old)) }
     ensures short { IsShort words.new }
 {
-    let source = words.file(alloc, line)?;
-    words.ended(line, Ask::Check { source })
+    match words.file(alloc, line) {
+        Ok(source) => words.ended(line, Ask::Check { source }),
+        Err(fault) => Err(fault),
+    }
 }
 
 /// The words behind a command's name.
@@ -226,6 +228,8 @@ pub(crate) fn ask(alloc: Global, words: &mut Words<'_>, line: Line) -> Result<As
     ensures value { Tells line (words_left words.new) result (ask_line line.end (words_left words.old)) }
     ensures short { IsShort words.new }
 {
-    let name = words.command(line)?;
-    ask_behind(alloc, name, words, line)
+    match words.command(line) {
+        Ok(name) => ask_behind(alloc, name, words, line),
+        Err(fault) => Err(fault),
+    }
 }

@@ -147,8 +147,10 @@ impl<'a> Words<'a> {
         ensures value { Tells line (words_left self.new) result (word_of name_of line.end (words_left self.old)) }
         ensures short { IsShort self.new }
     {
-        let word = self.expected(line)?;
-        fitting(line, word.column, name_of(word.text))
+        match self.expected(line) {
+            Ok(word) => fitting(line, word.column, name_of(word.text)),
+            Err(fault) => Err(fault),
+        }
     }
 
     /// A UUID.
@@ -157,8 +159,10 @@ impl<'a> Words<'a> {
         ensures value { Tells line (words_left self.new) result (word_of uuid_of line.end (words_left self.old)) }
         ensures short { IsShort self.new }
     {
-        let word = self.expected(line)?;
-        fitting(line, word.column, uuid_of(word.text))
+        match self.expected(line) {
+            Ok(word) => fitting(line, word.column, uuid_of(word.text)),
+            Err(fault) => Err(fault),
+        }
     }
 
     /// A path.
@@ -167,8 +171,10 @@ impl<'a> Words<'a> {
         ensures value { Tells line (words_left self.new) result (word_of path_of line.end (words_left self.old)) }
         ensures short { IsShort self.new }
     {
-        let word = self.expected(line)?;
-        fitting(line, word.column, path_of(word.text))
+        match self.expected(line) {
+            Ok(word) => fitting(line, word.column, path_of(word.text)),
+            Err(fault) => Err(fault),
+        }
     }
 
     /// A size in bytes.
@@ -177,8 +183,10 @@ impl<'a> Words<'a> {
         ensures value { Tells line (words_left self.new) result (word_of size_of_text line.end (words_left self.old)) }
         ensures short { IsShort self.new }
     {
-        let word = self.expected(line)?;
-        fitting(line, word.column, size(word.text))
+        match self.expected(line) {
+            Ok(word) => fitting(line, word.column, size(word.text)),
+            Err(fault) => Err(fault),
+        }
     }
 
     /// A number.
@@ -187,8 +195,10 @@ impl<'a> Words<'a> {
         ensures value { Tells line (words_left self.new) result (word_of number_of_text line.end (words_left self.old)) }
         ensures short { IsShort self.new }
     {
-        let word = self.expected(line)?;
-        fitting(line, word.column, number(word.text))
+        match self.expected(line) {
+            Ok(word) => fitting(line, word.column, number(word.text)),
+            Err(fault) => Err(fault),
+        }
     }
 
     /// The count of a read.
@@ -197,8 +207,10 @@ impl<'a> Words<'a> {
         ensures value { Tells line (words_left self.new) result (word_of count_of line.end (words_left self.old)) }
         ensures short { IsShort self.new }
     {
-        let word = self.expected(line)?;
-        fitting(line, word.column, count_of(word.text))
+        match self.expected(line) {
+            Ok(word) => fitting(line, word.column, count_of(word.text)),
+            Err(fault) => Err(fault),
+        }
     }
 
     /// The count of a step.
@@ -207,8 +219,10 @@ impl<'a> Words<'a> {
         ensures value { Tells line (words_left self.new) result (word_of steps_of line.end (words_left self.old)) }
         ensures short { IsShort self.new }
     {
-        let word = self.expected(line)?;
-        fitting(line, word.column, steps_of(word.text))
+        match self.expected(line) {
+            Ok(word) => fitting(line, word.column, steps_of(word.text)),
+            Err(fault) => Err(fault),
+        }
     }
 
     /// A mask of a line's words.
@@ -217,8 +231,10 @@ impl<'a> Words<'a> {
         ensures value { Tells line (words_left self.new) result (word_of mask_of line.end (words_left self.old)) }
         ensures short { IsShort self.new }
     {
-        let word = self.expected(line)?;
-        fitting(line, word.column, mask_of(word.text))
+        match self.expected(line) {
+            Ok(word) => fitting(line, word.column, mask_of(word.text)),
+            Err(fault) => Err(fault),
+        }
     }
 
     /// The name of an event.
@@ -227,8 +243,10 @@ impl<'a> Words<'a> {
         ensures value { Tells line (words_left self.new) result (word_of event_word line.end (words_left self.old)) }
         ensures short { IsShort self.new }
     {
-        let word = self.expected(line)?;
-        fitting(line, word.column, event_word(word.text))
+        match self.expected(line) {
+            Ok(word) => fitting(line, word.column, event_word(word.text)),
+            Err(fault) => Err(fault),
+        }
     }
 
     /// The name of a command.
@@ -237,8 +255,10 @@ impl<'a> Words<'a> {
         ensures value { Tells line (words_left self.new) result (word_of command_word line.end (words_left self.old)) }
         ensures short { IsShort self.new }
     {
-        let word = self.expected(line)?;
-        fitting(line, word.column, command_word(word.text))
+        match self.expected(line) {
+            Ok(word) => fitting(line, word.column, command_word(word.text)),
+            Err(fault) => Err(fault),
+        }
     }
 
     /// The name of a file.

@@ -104,8 +104,10 @@ fn finish(words: &mut Words<'_>, line: Line) -> Result<Event, LineFault>
     ensures value { Tells line (words_left words.new) result (name_line event.Finish line.end (words_left words.old)) }
     ensures short { IsShort words.new }
 {
-    let name = words.name(line)?;
-    words.ended(line, Event::Finish(name))
+    match words.name(line) {
+        Ok(name) => words.ended(line, Event::Finish(name)),
+        Err(fault) => Err(fault),
+    }
 }
 
 fn stop(words: &mut Words<'_>, line: Line) -> Result<Event, LineFault>
@@ -113,8 +115,10 @@ fn stop(words: &mut Words<'_>, line: Line) -> Result<Event, LineFault>
     ensures value { Tells line (words_left words.new) result (name_line event.Stop line.end (words_left words.old)) }
     ensures short { IsShort words.new }
 {
-    let name = words.name(line)?;
-    words.ended(line, Event::Stop(name))
+    match words.name(line) {
+        Ok(name) => words.ended(line, Event::Stop(name)),
+        Err(fault) => Err(fault),
+    }
 }
 
 fn halt(words: &mut Words<'_>, line: Line) -> Result<Event, LineFault>
@@ -122,8 +126,10 @@ fn halt(words: &mut Words<'_>, line: Line) -> Result<Event, LineFault>
     ensures value { Tells line (words_left words.new) result (name_line event.Halt line.end (words_left words.old)) }
     ensures short { IsShort words.new }
 {
-    let name = words.name(line)?;
-    words.ended(line, Event::Halt(name))
+    match words.name(line) {
+        Ok(name) => words.ended(line, Event::Halt(name)),
+        Err(fault) => Err(fault),
+    }
 }
 
 fn umount(words: &mut Words<'_>, line: Line) -> Result<Event, LineFault>
@@ -131,8 +137,10 @@ fn umount(words: &mut Words<'_>, line: Line) -> Result<Event, LineFault>
     ensures value { Tells line (words_left words.new) result (name_line event.Umount line.end (words_left words.old)) }
     ensures short { IsShort words.new }
 {
-    let name = words.name(line)?;
-    words.ended(line, Event::Umount(name))
+    match words.name(line) {
+        Ok(name) => words.ended(line, Event::Umount(name)),
+        Err(fault) => Err(fault),
+    }
 }
 
 fn evict(words: &mut Words<'_>, line: Line) -> Result<Event, LineFault>
@@ -201,6 +209,8 @@ pub(crate) fn event(alloc: Global, words: &mut Words<'_>, line: Line) -> Result<
     ensures value { Tells line (words_left words.new) result (event_line line.end (words_left words.old)) }
     ensures short { IsShort words.new }
 {
-    let name = words.event(line)?;
-    event_behind(alloc, name, words, line)
+    match words.event(line) {
+        Ok(name) => event_behind(alloc, name, words, line),
+        Err(fault) => Err(fault),
+    }
 }

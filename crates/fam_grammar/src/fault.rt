@@ -6,7 +6,7 @@ ghost use Rattle.fam_grammar.specs.declared.fault.LineFault.TheVariants as fault
 use fam_base::OutOfMemory;
 
 /// Why no event was read.
-#[derive(Clone, Copy, Debug, PartialEq, Eq)]
+#[derive(Clone, Copy)]
 pub enum LineFault {
     /// Line and column, both counted from 1, of the first word that doesn't fit; the column behind the line where a word
     /// is missing.

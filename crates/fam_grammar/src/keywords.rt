@@ -3,9 +3,10 @@
 ghost use Rattle.std.specs.Prelude.{◌≡◌};
 ghost use Rattle.std.specs.Str.{bytes_eq};
 ghost use Rattle.fam_grammar.specs.Keywords.{event_word, command_word};
+ghost use Rattle.fam_grammar.specs.Meanings.{first_meaning};
 
 /// What an event does.
-#[derive(Clone, Copy, PartialEq, Eq)]
+#[derive(Clone, Copy)]
 pub(crate) enum EventWord {
     Host,
     Mkfs,
@@ -22,7 +23,7 @@ pub(crate) enum EventWord {
 }
 
 /// What a host is told to do.
-#[derive(Clone, Copy, PartialEq, Eq)]
+#[derive(Clone, Copy)]
 pub(crate) enum CommandWord {
     Logplay,
     Mount,
@@ -42,38 +43,122 @@ pub(crate) fn is(word: &[u8], wanted: &str) -> bool
     word == wanted.as_bytes()
 }
 
+/// A word, and what it means.
+struct Keyword<T> {
+    text: &'static str,
+    means: T,
+}
+
+/// The words of events.
+const EVENTS: [Keyword<EventWord>; 12] = [
+    Keyword {
+        text: "host",
+        means: EventWord::Host,
+    },
+    Keyword {
+        text: "mkfs",
+        means: EventWord::Mkfs,
+    },
+    Keyword {
+        text: "begin",
+        means: EventWord::Begin,
+    },
+    Keyword {
+        text: "run",
+        means: EventWord::Run,
+    },
+    Keyword {
+        text: "step",
+        means: EventWord::Step,
+    },
+    Keyword {
+        text: "finish",
+        means: EventWord::Finish,
+    },
+    Keyword {
+        text: "stop",
+        means: EventWord::Stop,
+    },
+    Keyword {
+        text: "halt",
+        means: EventWord::Halt,
+    },
+    Keyword {
+        text: "umount",
+        means: EventWord::Umount,
+    },
+    Keyword {
+        text: "evict",
+        means: EventWord::Evict,
+    },
+    Keyword {
+        text: "leak",
+        means: EventWord::Leak,
+    },
+    Keyword {
+        text: "fetch",
+        means: EventWord::Fetch,
+    },
+];
+
+/// The words of commands.
+const COMMANDS: [Keyword<CommandWord>; 9] = [
+    Keyword {
+        text: "logplay",
+        means: CommandWord::Logplay,
+    },
+    Keyword {
+        text: "mount",
+        means: CommandWord::Mount,
+    },
+    Keyword {
+        text: "fsck",
+        means: CommandWord::Fsck,
+    },
+    Keyword {
+        text: "mkdir",
+        means: CommandWord::Mkdir,
+    },
+    Keyword {
+        text: "creat",
+        means: CommandWord::Creat,
+    },
+    Keyword {
+        text: "cp",
+        means: CommandWord::Cp,
+    },
+    Keyword {
+        text: "verify",
+        means: CommandWord::Verify,
+    },
+    Keyword {
+        text: "read",
+        means: CommandWord::Read,
+    },
+    Keyword {
+        text: "check",
+        means: CommandWord::Check,
+    },
+];
+
+/// What the first of these keywords that a word is means.
+fn meaning<T: Copy>(word: &[u8], keywords: &[Keyword<T>]) -> Option<T>
+    ensures { result ≡ first_meaning word.now keywords.now }
+{
+    for keyword in keywords {
+        if is(word, keyword.text) {
+            return Some(keyword.means);
+        }
+    }
+    None
+}
+
 /// The event of this name.
 #[tactic(auto, unfolding(crate::specs::Keywords::event_word))]
 pub(crate) fn event_word(word: &[u8]) -> Option<EventWord>
     ensures { result ≡ event_word word.now }
 {
-    if is(word, "host") {
-        Some(EventWord::Host)
-    } else if is(word, "mkfs") {
-        Some(EventWord::Mkfs)
-    } else if is(word, "begin") {
-        Some(EventWord::Begin)
-    } else if is(word, "run") {
-        Some(EventWord::Run)
-    } else if is(word, "step") {
-        Some(EventWord::Step)
-    } else if is(word, "finish") {
-        Some(EventWord::Finish)
-    } else if is(word, "stop") {
-        Some(EventWord::Stop)
-    } else if is(word, "halt") {
-        Some(EventWord::Halt)
-    } else if is(word, "umount") {
-        Some(EventWord::Umount)
-    } else if is(word, "evict") {
-        Some(EventWord::Evict)
-    } else if is(word, "leak") {
-        Some(EventWord::Leak)
-    } else if is(word, "fetch") {
-        Some(EventWord::Fetch)
-    } else {
-        None
-    }
+    meaning(word, &EVENTS)
 }
 
 /// The command of this name.
@@ -81,25 +166,5 @@ pub(crate) fn event_word(word: &[u8]) -> Option<EventWord>
 pub(crate) fn command_word(word: &[u8]) -> Option<CommandWord>
     ensures { result ≡ command_word word.now }
 {
-    if is(word, "logplay") {
-        Some(CommandWord::Logplay)
-    } else if is(word, "mount") {
-        Some(CommandWord::Mount)
-    } else if is(word, "fsck") {
-        Some(CommandWord::Fsck)
-    } else if is(word, "mkdir") {
-        Some(CommandWord::Mkdir)
-    } else if is(word, "creat") {
-        Some(CommandWord::Creat)
-    } else if is(word, "cp") {
-        Some(CommandWord::Cp)
-    } else if is(word, "verify") {
-        Some(CommandWord::Verify)
-    } else if is(word, "read") {
-        Some(CommandWord::Read)
-    } else if is(word, "check") {
-        Some(CommandWord::Check)
-    } else {
-        None
-    }
+    meaning(word, &COMMANDS)
 }

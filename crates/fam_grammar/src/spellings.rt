@@ -4,7 +4,8 @@ ghost use Rattle.std.specs.Prelude.{◌≡◌, ◌<◌, ◌≤◌, IfOk, IfSome,
 ghost use Rattle.fam_base.specs.Commands.{mode_limit, read_limit};
 ghost use Rattle.fam_base.specs.Escapes.{is_plain};
 ghost use Rattle.fam_format.specs.Params.{is_format};
-ghost use Rattle.fam_grammar.specs.Spellings.{name_of, uuid_of, unescaped, in_prefix, byte_of, with_octal, path_of, file_of, id_of, mask_of, count_of, steps_of, halted_of, format_of, is_octal, mode_of, at_comma, stripe_of, value_behind};
+ghost use Rattle.fam_grammar.specs.Spellings.{name_of, uuid_of, unescaped, in_prefix, byte_of, with_octal, path_of, file_of, id_of, mask_of, count_of, steps_of, halted_of, format_of, is_octal, mode_of, at_comma, stripe_of, stripe_with, value_behind};
+ghost use Rattle.fam_grammar.specs.Numbers.{number_of_text, size_of_text};
 ghost use Rattle.uuid.specs.Text.{hex_digit_value, parsed};
 ghost use Rattle.std.specs.List.{list_all};
 
@@ -265,6 +266,26 @@ fn at_comma(word: &[u8]) -> Option<(&[u8], &[u8])>
     Some((prefix, &back[1..]))
 }
 
+/// Two numbers and a size.
+fn stripe_with(nstrips: &[u8], nbuckets: &[u8], chunk: &[u8]) -> Option<Stripe>
+    ensures { result ≡ stripe_with (number_of_text nstrips.now) (number_of_text nbuckets.now) (size_of_text chunk.now) }
+{
+    let Some(nstrips) = number(nstrips) else {
+        return None;
+    };
+    let Some(nbuckets) = number(nbuckets) else {
+        return None;
+    };
+    let Some(chunk) = size(chunk) else {
+        return None;
+    };
+    Some(Stripe {
+        nstrips,
+        nbuckets,
+        chunk,
+    })
+}
+
 /// Two numbers and a size, with commas between.
 #[tactic(auto, unfolding(crate::specs::Spellings::stripe_of))]
 pub(crate) fn stripe_of(word: &[u8]) -> Option<Stripe>
@@ -272,11 +293,7 @@ pub(crate) fn stripe_of(word: &[u8]) -> Option<Stripe>
 {
     let (nstrips, rest) = at_comma(word)?;
     let (nbuckets, chunk) = at_comma(rest)?;
-    Some(Stripe {
-        nstrips: number(nstrips)?,
-        nbuckets: number(nbuckets)?,
-        chunk: size(chunk)?,
-    })
+    stripe_with(nstrips, nbuckets, chunk)
 }
 
 /// What stands behind a key in front of a word.
