@@ -6,3 +6,5 @@ pub mod Strays
 pub mod PathField
 pub mod BareMap
 pub mod LongNames
+pub mod Refusals
+pub mod HeaderParts

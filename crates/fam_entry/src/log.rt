@@ -2,6 +2,7 @@
 
 ghost use Rattle.std.specs.Prelude.{◌≡◌, ◌+◌, OnOk, IsOk, length};
 ghost use Rattle.fam_format.specs.Log as header;
+ghost use Rattle.fam_entry.specs.Header.{sizes_fault, rest_fault};
 ghost use Rattle.fam_entry.specs.Tests.{NamesFault};
 
 use crate::places::HEADER_CRC_WORD;
@@ -45,22 +46,34 @@ fn expect(field: LogField, found: u64, wanted: u64) -> Result<(), LogFault>
     })
 }
 
-#[tactic(auto, unfolding(fam_format::specs::Log::log_fault))]
+/// Whether magic, checksum, length and count of slots are as they should be, in this order.
+fn check_sizes(line: &Line, params: &Params) -> Result<(), LogFault>
+    ensures { NamesFault result (sizes_fault line.now params.now) }
+{
+    let checksum = crc_words(&line[..HEADER_CRC_WORD]) as u64;
+    expect(LogField::Magic, line[0], LOG_MAGIC)?;
+    expect(LogField::Crc, line[HEADER_CRC_WORD], checksum)?;
+    expect(LogField::Length, line[1], params.log_length)?;
+    expect(LogField::Slots, line[2], params.slots)
+}
+
+/// Whether the UUID is the file system's and zeros stand behind it, in this order.
+fn check_rest(line: &Line, params: &Params) -> Result<(), LogFault>
+    ensures { NamesFault result (rest_fault line.now params.now) }
+{
+    let fs = params.fs.as_bytes();
+    expect(LogField::Uuid, line[3], word_of_bytes(fs, 0))?;
+    expect(LogField::Uuid, line[4], word_of_bytes(fs, 1))?;
+    expect(LogField::Rest, line[5], 0)?;
+    expect(LogField::Rest, line[6], 0)
+}
+
 fn tested(line: &Line, params: &Params) -> Result<(), LogFault>
     ensures first { NamesFault result (header.log_fault line.now params.now) }
     ensures count { length line.now ≡ HEADER_CRC_WORD + 1 }
 {
-    let [magic, length, slots, fs_a, fs_b, zero_a, zero_b, crc] = *line;
-    let fs = params.fs.as_bytes();
-    let checksum = crc_words(&line[..HEADER_CRC_WORD]) as u64;
-    expect(LogField::Magic, magic, LOG_MAGIC)?;
-    expect(LogField::Crc, crc, checksum)?;
-    expect(LogField::Length, length, params.log_length)?;
-    expect(LogField::Slots, slots, params.slots)?;
-    expect(LogField::Uuid, fs_a, word_of_bytes(fs, 0))?;
-    expect(LogField::Uuid, fs_b, word_of_bytes(fs, 1))?;
-    expect(LogField::Rest, zero_a, 0)?;
-    expect(LogField::Rest, zero_b, 0)
+    check_sizes(line, params)?;
+    check_rest(line, params)
 }
 
 /// Whether a line is the log's header for these parameters; if not, the first field that isn't as it should be.

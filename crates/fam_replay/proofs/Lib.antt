@@ -1,3 +1,5 @@
+mod Exits
+mod Heads
 pub mod Found
 mod Lines
 pub mod Replicas

@@ -75,3 +75,28 @@ module _ (memory : Lines) (p : Params) (list : List Entry) (words : List ℕ) (i
         → Tells f (read_slots memory p (length list) (suc more) list)
     apart_slot f fault is joins =
         subst (λ (k : ReadFault). Tells k (read_slots memory p (length list) (suc more) list)) (sym is) (by_fault fault (sym joins))
+
+-- The same by parameters and a number that are those of the list.
+module _ (memory : Lines) (p q : Params) (list : List Entry) (words : List ℕ) (n seq more : ℕ) (params : q ≡ p) (number : seq ≡ length list) (size : n ≡ (geometry q).words)
+    (is : take (geometry q).words words ≡ slot_words memory q seq) where
+  all_of_them : take n words ≡ slot_words memory p (length list)
+  all_of_them = ap (λ (k : ℕ). take k words) size ∙ is ∙ ap₂ (λ (r : Params) (k : ℕ). slot_words memory r k) params number
+
+  telling : entry_of q (take n words) seq ≡ entry_of p (take n words) (length list)
+  telling = ap₂ (λ (r : Params) (k : ℕ). entry_of r (take n words) k) params number
+
+  -- words that don't read
+  pub slot_refused : (reason : Reason) → Err reason ≡ entry_of q (take n words) seq → read_slots memory p (length list) (suc more) list ≡ BadSlot seq reason
+  slot_refused reason told = bad_slot memory p list (take n words) all_of_them more reason (told ∙ telling) ∙ ap (λ (k : ℕ). BadSlot k reason) (sym number)
+
+  module _ (e : Entry) where
+    -- an entry that joins
+    pub slot_joins : (new : List Entry) → Ok e ≡ entry_of q (take n words) seq → join_fault p list e ≡ None → new ≡ list ++ e ∷ []
+        → read_slots memory p (length list) (suc more) list ≡ read_slots memory p (length new) more new
+    slot_joins new told joins added = next_slot memory p list (take n words) all_of_them more e (told ∙ telling) new joins added
+
+    -- an entry that doesn't, or for which no memory was left
+    pub slot_apart : Ok e ≡ entry_of q (take n words) seq → (f : ReadFault) (fault : Option Reason) → f ≡ of_slot seq fault → fault ≡ join_fault p list e
+        → Tells f (read_slots memory p (length list) (suc more) list)
+    slot_apart told f fault of joins =
+        apart_slot memory p list (take n words) all_of_them more e (told ∙ telling) f fault (of ∙ ap (λ (k : ℕ). of_slot k fault) number) joins
