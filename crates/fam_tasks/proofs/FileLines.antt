@@ -96,6 +96,14 @@ pub read_kept : (cmd : Cmd) (j : ℕ) → IsRead cmd → kept_of_file cmd j ≡ 
 read_kept (Read path offset count) j is = refl
 read_kept other j is = absurd is
 
+-- a command that compares wants a file from its first line on
+verify_first : (cmd : Cmd) → IsVerify cmd → first_line cmd ≡ 0
+verify_first (Verify path against) is = refl
+verify_first other is = absurd is
+
+pub verify_below : (cmd : Cmd) (j taken size have : ℕ) → IsVerify cmd → 64 * (first_line cmd + j) < size → taken ≡ j → have ≡ size → 64 * taken < have
+verify_below cmd j taken size have is below same sized = omega (arith, verify_first cmd is)
+
 -- what is held for a comparison
 pub verify_held : (cmd : Cmd) (t : Inside) (j : ℕ) → IsVerify cmd → t.contents.content ≡ content_used cmd → t.contents.taken ≡ j → HoldsFile cmd j t
 verify_held (Verify path against) t j is content taken = (content, taken)

@@ -17,7 +17,7 @@ use Rattle.fam_tasks.specs.Contents.{ContentsState}
 use Rattle.fam_tasks.specs.Invariant.{IsInvariantAt}
 use Rattle.fam_tasks.specs.Model.{task_of}
 use Rattle.fam_tasks.specs.Sound.{IsSoundAt}
-use Rattle.fam_tasks.proofs.FileLines.{same_proper, verify_held, verify_holds, verify_kept, wanted_line}
+use Rattle.fam_tasks.proofs.FileLines.{same_proper, verify_below, verify_held, verify_holds, verify_kept, wanted_line}
 use Rattle.fam_tasks.proofs.FileTurns.{differs_told, goes, last_line, next_line, no_words, replies, same_told}
 use Rattle.fam_tasks.proofs.Phases.{same_gate}
 use Rattle.fam_tasks.proofs.Keeping.{ended_task}
@@ -126,3 +126,17 @@ pub invariant_of-self-else-line-lines : goal.invariant_of-self-else-line-lines
 invariant_of-self-else-line-lines c =
     let sound = c.self.invariant.sound in
     ended_task _ c.done-else-line-lines.ensures.last sound.command sound.least sound.most sound.kept
+
+pub take-requires : goal.take-requires
+take-requires c =
+    let t : Task = task_of c.self.inside in
+    let phase : c.self.inside.phase ≡ at.Drop File c.args.line = ap (λ (u : Task). u.phase) c.self.view_is ∙ c.requires.phase in
+    let stands : IsSoundAt (at.Drop File c.args.line) t = subst (λ (p : Phase). IsSoundAt p t) phase c.self.invariant.sound.stands in
+    let held : IsInvariantAt (at.Drop File c.args.line) c.self.inside = subst (λ (p : Phase). IsInvariantAt p c.self.inside) phase c.self.invariant.held in
+    let is : IsVerify c.self.inside.cmd = subst (λ (u : Task). IsVerify u.cmd) (sym c.self.view_is) c.requires.verify in
+    let holds = verify_holds c.self.inside.cmd c.self.inside c.args.line is held in
+    let size : c.file_size-size.result ≡ size_of c.self.inside.entry = c.file_size-size.ensures ∙ ap (λ (u : Task). size_of u.entry) (sym c.self.view_is) in
+    verify_below c.self.inside.cmd c.args.line c.self.inside.contents.taken (size_of c.self.inside.entry) c.file_size-size.result is stands.0.line.file.below holds.1 size
+
+pub returns-then-line-lines-clause-kept : goal.returns-then-line-lines-clause-kept
+returns-then-line-lines-clause-kept c = ap (λ (u : Task). u.kept) c.self.view_is
