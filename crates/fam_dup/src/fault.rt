@@ -8,7 +8,7 @@ use fam_format::{LogField, Reason, SuperField};
 use uuid::Uuid;
 
 /// Why an entry has no copy.
-#[derive(Clone, Copy, Debug, PartialEq, Eq)]
+#[derive(Clone, Copy)]
 pub enum DupRefusal {
     /// The path has more bytes than so many, for which a slot of TO's format has room.
     LongPath(u64),
@@ -19,7 +19,7 @@ pub enum DupRefusal {
 }
 
 /// Why a file system isn't copied. But for `FromFault` and `ToFault` nothing was written.
-#[derive(Clone, Copy, Debug, PartialEq, Eq)]
+#[derive(Clone, Copy)]
 pub enum DupFault {
     /// FROM has so many lines, too few for a log.
     ImageSmall(u64),

@@ -19,7 +19,7 @@ use fam_media::Media;
 use fam_super::read_super;
 
 /// The media failed at this line.
-#[derive(Clone, Copy, Debug, PartialEq, Eq)]
+#[derive(Clone, Copy)]
 pub(crate) struct FailedAt(pub(crate) LineNo);
 
 /// A line has eight words of 64 bits, which a contract that has them as numbers doesn't see. A call does nothing.

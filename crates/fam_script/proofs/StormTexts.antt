@@ -1,5 +1,5 @@
 -- A storm's line in parts, and that it is the line of a journal.
-use Rattle.std.proofs.Common.{◌≡◌, ℕ, List, [], ◌∷◌, ◌++◌, codes, length, refl, ap, ap₂, ◌∙◌}
+use Rattle.std.proofs.Common.{◌≡◌, ℕ, List, ◌++◌, codes, length, refl, ap, ap₂, ◌∙◌}
 use Rattle.std.proofs.lemmas.List.{append_assoc}
 use Rattle.fam_crc.specs.Crc.{crc32}
 use Rattle.fam_journal.specs.declared.event.Event.{Event}
@@ -33,11 +33,3 @@ pub storm_line_is : (seed size : ℕ) (events : List Event) (journal : List Note
 storm_line_is seed size events journal counts crc answers refused settled checksum =
     ap₂ (λ (n m : ℕ). line (storm_text seed size (length events) (record { answers = n; refused = m; settled = counts.settled }) crc)) answers refused
     ∙ ap₂ (λ (n c : ℕ). line (storm_text seed size (length events) (record { answers = (counted journal).answers; refused = (counted journal).refused; settled = n }) c)) settled checksum
-
--- the two parts and a line feed are the line
-pub parts_put : (seed size events crc : ℕ) (counts : Counts) (none one two three front back : List ℕ) → none ≡ [] → one ≡ none ++ front → front ≡ front_text seed size events → two ≡ one ++ back → back ≡ counts_text counts crc → three ≡ two ++ 10 ∷ []
-    → three ≡ line (storm_text seed size events counts crc)
-parts_put seed size events crc counts none one two three front back empty first front_is second back_is third =
-    third
-    ∙ ap (λ (l : List ℕ). l ++ 10 ∷ []) (second ∙ ap₂ (λ (l m : List ℕ). l ++ m) (first ∙ ap₂ (λ (l m : List ℕ). l ++ m) empty front_is) back_is)
-    ∙ ap line (whole seed size events counts crc)

@@ -11,9 +11,9 @@ ghost use Rattle.fam_script.specs.Reports.{checked_prefix};
 
 use crate::digits::{byte_digits, bytes_text};
 use crate::faults::{entry_line, kind, log_line, played_lines, super_line};
-use crate::lines::{line, line_of, line_with, line_with_last_name};
+use crate::lines::{line, line_of, line_with, line_with_last_name, number_line};
 use crate::reports::report_lines;
-use fam_base::{Kind, LineNo, OutOfMemory};
+use fam_base::{Kind, OutOfMemory};
 use fam_format::{LogFault, LogField, SuperFault, SuperField};
 use fam_rules::Checked;
 use fam_tasks::Answer;
@@ -95,6 +95,13 @@ fn length_text(alloc: Global, m: u64, size: u64, wanted: u64) -> Result<String, 
     format!(in alloc; "length differs {m} {size} {wanted}")
 }
 
+/// The line of these sizes.
+fn length_line(alloc: Global, m: u64, size: u64, wanted: u64) -> Result<Vec<u8>, OutOfMemory>
+    ensures { IfOk result (λ bytes. bytes.items ≡ text.reply_text (reply.Length m size wanted)) }
+{
+    line_of(alloc, length_text(alloc, m, size, wanted))
+}
+
 /// The line of a field of the superblock.
 fn bad_super_line(
     alloc: Global,
@@ -133,38 +140,28 @@ fn bad_log_line(
     )
 }
 
-/// The line of a media that failed.
-fn media_fault_line(alloc: Global, at: LineNo) -> Result<Vec<u8>, OutOfMemory>
-    ensures { IfOk result (λ bytes. bytes.items ≡ text.line (text.fault_text at.0)) }
-{
-    let at = at.0;
-    line_of(alloc, format!(in alloc; "media fault {at}"))
-}
-
 /// The text of an answer: its line, and the further lines of a listing or a report.
 pub fn answer_text(alloc: Global, answer: &Answer) -> Result<Vec<u8>, OutOfMemory>
     ensures { IfOk result (λ bytes. bytes.items ≡ text.answer_text (answer_view answer.now)) }
 {
     match answer {
-        Answer::Ok(seq) => line_of(alloc, format!(in alloc; "ok {seq}")),
+        Answer::Ok(seq) => number_line(alloc, "ok", *seq),
         Answer::Played { m, tree } => played_lines(alloc, *m, tree),
-        Answer::Mounted { m } => line_of(alloc, format!(in alloc; "mounted {m}")),
-        Answer::Same { m } => line_of(alloc, format!(in alloc; "same {m}")),
+        Answer::Mounted { m } => number_line(alloc, "mounted", *m),
+        Answer::Same { m } => number_line(alloc, "same", *m),
         Answer::Bytes { m, bytes } => bytes_line(alloc, *m, bytes.bytes()),
         Answer::Checked { m, checked } => checked_line(alloc, *m, checked.get()),
         Answer::Report(report) => report_lines(alloc, &report.get()),
-        Answer::NotFound { m } => line_of(alloc, format!(in alloc; "not found {m}")),
-        Answer::IsDirectory { m } => line_of(alloc, format!(in alloc; "is a directory {m}")),
+        Answer::NotFound { m } => number_line(alloc, "not found", *m),
+        Answer::IsDirectory { m } => number_line(alloc, "is a directory", *m),
         Answer::Differs {
             m,
             offset,
             found,
             wanted,
         } => differs_line(alloc, *m, *offset, *found, *wanted),
-        Answer::Length { m, size, wanted } => {
-            line_of(alloc, length_text(alloc, *m, *size, *wanted))
-        }
-        Answer::MediaFault(at) => media_fault_line(alloc, *at),
+        Answer::Length { m, size, wanted } => length_line(alloc, *m, *size, *wanted),
+        Answer::MediaFault(at) => number_line(alloc, "media fault", at.0),
         Answer::NoSuper(word) => super_line(alloc, SuperFault::NoSuper(*word)),
         Answer::BadSuper {
             field,
@@ -178,12 +175,12 @@ pub fn answer_text(alloc: Global, answer: &Answer) -> Result<Vec<u8>, OutOfMemor
         } => bad_log_line(alloc, *field, *found, *wanted),
         Answer::BadEntry { seq, reason } => entry_line(alloc, *seq, *reason),
         Answer::NotMaster { me, master } => not_master_line(alloc, *me, *master),
-        Answer::LongPath(limit) => line_of(alloc, format!(in alloc; "path too long {limit}")),
+        Answer::LongPath(limit) => number_line(alloc, "path too long", *limit),
         Answer::BadStripe => line(alloc, "bad stripe"),
         Answer::Exists(there) => exists_line(alloc, *there),
         Answer::NoParent => line(alloc, "no parent"),
         Answer::ParentIsFile => line(alloc, "parent is a file"),
-        Answer::LogFull(slots) => line_of(alloc, format!(in alloc; "log full {slots}")),
-        Answer::NoSpace(units) => line_of(alloc, format!(in alloc; "no space {units}")),
+        Answer::LogFull(slots) => number_line(alloc, "log full", *slots),
+        Answer::NoSpace(units) => number_line(alloc, "no space", *units),
     }
 }

@@ -5,7 +5,7 @@ ghost use Rattle.fam_base.specs.declared.cmd.Cmd.TheVariants as cmd;
 ghost use Rattle.fam_notes.specs.Commands.{command_of};
 ghost use Rattle.fam_outcomes.specs.Texts as text;
 
-use crate::lines::{line, line_of, line_with_name};
+use crate::lines::{line, line_with_name, number_line};
 use fam_base::{Attr, Content, OutOfMemory, Path, Stripe};
 use fam_notes::NotedCommand;
 use std::alloc::{AllocError, Global};
@@ -170,7 +170,7 @@ pub(crate) fn start_line(alloc: Global, cmd: &NotedCommand) -> Result<Vec<u8>, O
         } => read_line(alloc, &path.to_path(), *offset, *count),
         NotedCommand::Check { listing } => {
             let count = listing.as_slice().len();
-            line_of(alloc, format!(in alloc; "start check {count}"))
+            number_line(alloc, "start check", count as u64)
         }
     }
 }

@@ -14,7 +14,7 @@ use fam_tasks::Answer;
 const FIRST_SENT: u64 = 36;
 
 /// What is counted of notes.
-#[derive(Clone, Copy, Debug, PartialEq, Eq)]
+#[derive(Clone, Copy)]
 pub struct Counts {
     /// How many of them are answers.
     pub answers: u64,

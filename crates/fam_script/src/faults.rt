@@ -1,10 +1,10 @@
 //! The texts of faults that reading an image finds. fam_outcomes' `specs/Texts.antt` has their forms.
 
-ghost use Rattle.std.specs.Prelude.{◌≡◌, IfOk, string_bytes};
+ghost use Rattle.std.specs.Prelude.{◌≡◌, ◌++◌, IfOk, string_bytes};
 ghost use Rattle.fam_outcomes.specs.Texts as text;
 ghost use Rattle.fam_rules.specs.Reply as reply;
 
-use crate::lines::{line, line_of};
+use crate::lines::{line_of, number_line};
 use fam_base::{Kind, OutOfMemory, put_bytes};
 use fam_format::{LogFault, LogField, Reason, SuperFault, SuperField};
 use fam_tree::{Tree, print_listing};
@@ -52,7 +52,7 @@ pub(crate) fn super_text(alloc: Global, fault: SuperFault) -> Result<String, All
     ensures { IfOk result (λ s. string_bytes s ≡ text.super_text fault) }
 {
     match fault {
-        SuperFault::NoSuper(word) => format!(in alloc; "no superblock {word}"),
+        SuperFault::NoSuper(word) => number_text(alloc, "no superblock", word),
         SuperFault::BadSuper {
             field,
             found,
@@ -79,24 +79,38 @@ pub(crate) fn log_text(alloc: Global, fault: LogFault) -> Result<String, AllocEr
     }
 }
 
+/// Words and a number behind them.
+fn number_text(alloc: Global, words: &str, number: u64) -> Result<String, AllocError>
+    ensures { IfOk result (λ s. string_bytes s ≡ words.now ++ text.number number) }
+{
+    format!(in alloc; "{words} {number}")
+}
+
+/// Words and two numbers behind them.
+fn numbers_text(alloc: Global, words: &str, first: u64, second: u64) -> Result<String, AllocError>
+    ensures { IfOk result (λ s. string_bytes s ≡ words.now ++ (text.number first ++ text.number second)) }
+{
+    format!(in alloc; "{words} {first} {second}")
+}
+
 pub(crate) fn reason_text(alloc: Global, reason: Reason) -> Result<String, AllocError>
     ensures { IfOk result (λ s. string_bytes s ≡ text.reason_text reason) }
 {
     match reason {
-        Reason::Crc { found, wanted } => format!(in alloc; "crc {found} {wanted}"),
-        Reason::Seq { found, wanted } => format!(in alloc; "sequence {found} {wanted}"),
-        Reason::BadKind(word) => format!(in alloc; "kind {word}"),
-        Reason::Attribute(index) => format!(in alloc; "attribute {index}"),
+        Reason::Crc { found, wanted } => numbers_text(alloc, "crc", found, wanted),
+        Reason::Seq { found, wanted } => numbers_text(alloc, "sequence", found, wanted),
+        Reason::BadKind(word) => number_text(alloc, "kind", word),
+        Reason::Attribute(index) => number_text(alloc, "attribute", index),
         Reason::BadPath => format!(in alloc; "path"),
         Reason::Map => format!(in alloc; "map"),
-        Reason::Rest(index) => format!(in alloc; "rest {index}"),
+        Reason::Rest(index) => number_text(alloc, "rest", index),
         Reason::Exists(there) => {
             let name = kind(there);
             format!(in alloc; "exists {name}")
         }
         Reason::NoParent => format!(in alloc; "no parent"),
         Reason::ParentIsFile => format!(in alloc; "parent is a file"),
-        Reason::Overlap(unit) => format!(in alloc; "overlap {unit}"),
+        Reason::Overlap(unit) => number_text(alloc, "overlap", unit),
     }
 }
 
@@ -128,10 +142,7 @@ pub(crate) fn entry_line(alloc: Global, seq: u64, reason: Reason) -> Result<Vec<
 pub(crate) fn played_lines(alloc: Global, m: u64, tree: &Tree) -> Result<Vec<u8>, OutOfMemory>
     ensures { IfOk result (λ bytes. bytes.items ≡ text.reply_text (reply.Played m tree.now)) }
 {
-    let Ok(head) = format!(in alloc; "played {m}") else {
-        return Err(OutOfMemory);
-    };
-    let mut bytes = line(alloc, head.as_str())?;
+    let mut bytes = number_line(alloc, "played", m)?;
     let listing = print_listing(alloc, tree)?;
     put_bytes(listing.as_slice(), &mut bytes)?;
     Ok(bytes)

@@ -6,6 +6,7 @@ ghost use Rattle.fam_outcomes.specs.Texts as text;
 
 use fam_base::{OutOfMemory, escape, put_bytes};
 use std::alloc::{AllocError, Global};
+use uuid::Uuid;
 
 /// A text as a line.
 pub fn line(alloc: Global, words: &str) -> Result<Vec<u8>, OutOfMemory>
@@ -26,6 +27,32 @@ pub fn line_of(alloc: Global, made: Result<String, AllocError>) -> Result<Vec<u8
         Ok(text) => line(alloc, text.as_str()),
         Err(_) => Err(OutOfMemory),
     }
+}
+
+/// The line of words and a number behind them.
+pub(crate) fn number_line(alloc: Global, words: &str, number: u64) -> Result<Vec<u8>, OutOfMemory>
+    ensures { IfOk result (λ bytes. bytes.items ≡ text.line (words.now ++ text.number number)) }
+{
+    line_of(alloc, format!(in alloc; "{words} {number}"))
+}
+
+/// The line of words and two numbers behind them.
+pub(crate) fn numbers_line(
+    alloc: Global,
+    words: &str,
+    first: u64,
+    second: u64,
+) -> Result<Vec<u8>, OutOfMemory>
+    ensures { IfOk result (λ bytes. bytes.items ≡ text.line (words.now ++ (text.number first ++ text.number second))) }
+{
+    line_of(alloc, format!(in alloc; "{words} {first} {second}"))
+}
+
+/// The line of words and a UUID behind them.
+pub(crate) fn uuid_line(alloc: Global, words: &str, uuid: Uuid) -> Result<Vec<u8>, OutOfMemory>
+    ensures { IfOk result (λ bytes. bytes.items ≡ text.line (words.now ++ text.uuid_text uuid)) }
+{
+    line_of(alloc, format!(in alloc; "{words} {uuid}"))
 }
 
 /// The line of a text with bytes in it, which are printed as they are.

@@ -8,7 +8,7 @@ ghost use Rattle.fam_notes.specs.Notes.{note_view};
 
 use crate::answers::answer_text;
 use crate::commands::start_line;
-use crate::lines::{line, line_of, line_with};
+use crate::lines::{line, line_of, line_with, number_line, uuid_line};
 use crate::refusals::{host_name, refusal_line};
 use fam_base::{Entry, HostName, OutOfMemory, Params, put_bytes};
 use fam_format::FIRST_FORMAT;
@@ -55,12 +55,12 @@ pub fn note_text(alloc: Global, note: &Note, names: &[HostName]) -> Result<Vec<u
     ensures { IfOk result (λ bytes. bytes.items ≡ text.note_text names.now (note_view note.now)) }
 {
     match note {
-        Note::Host { uuid, .. } => line_of(alloc, format!(in alloc; "host {uuid}")),
+        Note::Host { uuid, .. } => uuid_line(alloc, "host", *uuid),
         Note::Made { params, .. } => line_of(alloc, made_text(alloc, params)),
-        Note::Cut { k, .. } => line_of(alloc, format!(in alloc; "mkfs halted {k}")),
+        Note::Cut { k, .. } => number_line(alloc, "mkfs halted", *k),
         Note::Start { cmd, .. } => start_line(alloc, cmd),
         Note::Mark { .. } => line(alloc, "mark"),
-        Note::Found { n, .. } => line_of(alloc, format!(in alloc; "found {n}")),
+        Note::Found { n, .. } => number_line(alloc, "found", *n),
         Note::Writes { seq, entry, .. } => writes_line(alloc, *seq, entry.get()),
         Note::Answered { answer, .. } => answer_text(alloc, answer),
         Note::Stop { .. } => line(alloc, "stop"),

@@ -4,7 +4,7 @@ ghost use Rattle.std.specs.Prelude.{◌≡◌, ◌<◌, ◌++◌, IfOk, codes, l
 ghost use Rattle.fam_journal.specs.Names.{NamesCause};
 ghost use Rattle.fam_outcomes.specs.Texts as text;
 
-use crate::lines::{line, line_of, line_with, line_with_name};
+use crate::lines::{line, line_with, line_with_name, number_line, numbers_line, uuid_line};
 use fam_base::{HostName, OutOfMemory};
 use fam_journal::{HostId, Refusal};
 use std::alloc::Global;
@@ -33,36 +33,24 @@ pub fn refusal_line(
         }
         Refusal::TooManyHosts => line(alloc, "refused too many hosts"),
         Refusal::BadGeometry { unit, log } => {
-            line_of(
-                alloc,
-                format!(in alloc; "refused bad geometry {unit} {log}"),
-            )
+            numbers_line(alloc, "refused bad geometry", *unit, *log)
         }
         Refusal::TooSmall { need, have } => {
-            line_of(alloc, format!(in alloc; "refused too small {need} {have}"))
+            numbers_line(alloc, "refused too small", *need, *have)
         }
-        Refusal::ImageSmall(lines) => {
-            line_of(alloc, format!(in alloc; "refused image too small {lines}"))
-        }
+        Refusal::ImageSmall(lines) => number_line(alloc, "refused image too small", *lines),
         Refusal::Busy(host) => line_with(alloc, "refused busy ", host_name(names, *host)),
         Refusal::Dirty(host) => line_with(alloc, "refused dirty ", host_name(names, *host)),
-        Refusal::HasSuper(uuid) => {
-            line_of(alloc, format!(in alloc; "refused has superblock {uuid}"))
-        }
+        Refusal::HasSuper(uuid) => uuid_line(alloc, "refused has superblock", *uuid),
         Refusal::Idle => line(alloc, "refused idle"),
         Refusal::Mounted => line(alloc, "refused mounted"),
         Refusal::NotMounted => line(alloc, "refused not mounted"),
-        Refusal::NoLine { line, lines } => {
-            line_of(alloc, format!(in alloc; "refused no line {line} {lines}"))
-        }
+        Refusal::NoLine { line, lines } => { numbers_line(alloc, "refused no line", *line, *lines) }
         Refusal::NoFile(name) => {
             line_with_name(alloc, "refused no file ", name.text().as_bytes(), "")
         }
-        Refusal::CopyLimit(sum) => { line_of(alloc, format!(in alloc; "refused copy limit {sum}")) }
-        Refusal::BadListing(at) => { line_of(alloc, format!(in alloc; "refused bad listing {at}")) }
-        Refusal::MediaFault(at) => {
-            let at = at.0;
-            line_of(alloc, format!(in alloc; "refused media fault {at}"))
-        }
+        Refusal::CopyLimit(sum) => number_line(alloc, "refused copy limit", *sum),
+        Refusal::BadListing(at) => number_line(alloc, "refused bad listing", *at),
+        Refusal::MediaFault(at) => number_line(alloc, "refused media fault", at.0),
     }
 }

@@ -8,8 +8,9 @@ ghost use Rattle.fam_script.specs.StormLines.{counts_text, front_text, storm_tex
 ghost use Rattle.fam_notes.specs.Notes.{note_view, notes_view};
 
 use crate::counts::Counts;
+use crate::lines::line_with;
 use crate::notes::{note_text, print_note};
-use fam_base::{HostName, OutOfMemory, put_bytes};
+use fam_base::{HostName, OutOfMemory};
 use fam_crc::crc_more;
 use fam_notes::Note;
 use std::alloc::{AllocError, Global};
@@ -135,9 +136,5 @@ pub fn storm_line(
     let Ok(back) = storm_back(alloc, counts, crc) else {
         return Err(OutOfMemory);
     };
-    let mut made = Vec::new(alloc);
-    put_bytes(front.as_bytes(), &mut made)?;
-    put_bytes(back.as_bytes(), &mut made)?;
-    put_bytes(b"\n", &mut made)?;
-    Ok(made)
+    line_with(alloc, front.as_str(), back.as_bytes())
 }

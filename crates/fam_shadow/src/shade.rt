@@ -10,7 +10,7 @@ ghost use Rattle.fam_shadow.specs.Nodes.{IsCall, IsCounted, IsOneMore, IsTornPut
 use fam_media::Failed;
 
 /// What stands at a name.
-#[derive(Clone, Copy, Debug, PartialEq, Eq)]
+#[derive(Clone, Copy, PartialEq, Eq)]
 pub enum Look {
     Nothing,
     Directory,
@@ -18,7 +18,7 @@ pub enum Look {
 }
 
 /// Why a name wasn't made.
-#[derive(Clone, Copy, Debug, PartialEq, Eq)]
+#[derive(Clone, Copy)]
 pub enum ShadeStop {
     /// The folder could not be written.
     Failed,
