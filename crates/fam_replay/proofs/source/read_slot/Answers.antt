@@ -4,7 +4,7 @@ use Rattle.fam_base.specs.declared.entry.Params.{Params}
 use Rattle.fam_base.specs.declared.entry.Entry.{Entry}
 use Rattle.fam_base.specs.Image.{line_at}
 use Rattle.fam_plan.specs.Faults.{reason_of}
-use Rattle.fam_replay.specs.Sources.{FailsAt, IsOfSlots}
+use Rattle.fam_replay.specs.Sources.{FailsAt, IsOfSlot}
 use Rattle.fam_replay.proofs.Exits.{Held, fails_nowhere, slot_other, stopped}
 use Rattle.fam_replay.proofs.Slots.{slot_apart, slot_joins, slot_refused}
 use Rattle.fam_replay.proofs.source.read_slot.Goals as goal
@@ -19,7 +19,7 @@ returns-in_err-words g c =
       told = tt;
       count = tt;
       params = refl;
-      asked = subst (λ (q : Params). FailsAt (IsOfSlots q (length c.args.plan.now.entries + 1)) f) params (subst (λ (n : ℕ). FailsAt (IsOfSlots c.params.result.now (n + 1)) f) c.requires.next e.asked);
+      asked = subst (λ (q : Params). FailsAt (IsOfSlot q (length c.args.plan.now.entries)) f) params (subst (λ (n : ℕ). FailsAt (IsOfSlot c.params.result.now n) f) c.requires.next e.asked);
       fault = λ image told more. e.fault _;
       cause = e.cause;
       quiet = tt;
@@ -80,7 +80,7 @@ returns-in-Err-add g c =
       told = tt;
       count = tt;
       params = c.add.ensures.params;
-      asked = fails_nowhere (IsOfSlots c.args.plan.now.params (length c.args.plan.now.entries + 1)) f other;
+      asked = fails_nowhere (IsOfSlot c.args.plan.now.params (length c.args.plan.now.entries)) f other;
       fault = λ image told more.
           slot_apart (line_at image) c.args.plan.now.params c.params.result.now c.args.plan.now.entries c.in_ok-words.words c.shape_of-count.result.words c.args.seq more
           c.params.ensures c.requires.next c.shape_of-count.ensures.words (e.words image told) c.in-Ok.entry c.in-Ok.ensures.value f (reason_of c.in-Err-add.fault) is c.in-Err-add.ensures.cause;
