@@ -1,5 +1,5 @@
 -- An append that has its places keeps them, and never wants memory.
-use Rattle.std.proofs.Common.{ℕ, ◌≡◌, ◌⊎◌, ◌+◌, ◌<◌, ◌≤◌, Bool, true, false, cond, List, Option, None, Result, Ok, Err, refl, sym, subst, inl, inr, arith}
+use Rattle.std.proofs.Common.{ℕ, ◌≡◌, ◌⊎◌, ◌+◌, ◌<◌, ◌≤◌, Bool, true, false, cond, List, Option, None, Result, Ok, Err, refl, sym, ap, subst, inl, inr, arith}
 use Rattle.std.specs.Prelude.{⊤, IfSome, nat_lt, slice_set, unwrap_or}
 use Rattle.std.proofs.lemmas.Bool.{cases_lt}
 use Rattle.fam_base.specs.Image.{Image}
@@ -281,3 +281,41 @@ pub made : (t next : Task) (cache mid after : CacheState) (r : Result Turn Opera
 made t next cache mid after (Ok turn) ready kept = λ on has. kept on (ready has)
 made t next cache mid after (Err (fault.MediaFault line)) ready kept = tt
 made t next cache mid after (Err fault.OutOfMemory) ready kept = λ has. kept (ready (inr has))
+
+-- A task that has none keeps none.
+
+pub none_kept : (t next : Task) (cache after : CacheState) (said : Result Turn OperationFault) → (HasPlaces t cache → ⊥) → PlacesKept t cache next after said
+none_kept t next cache after (Ok turn) none = λ goes has. absurd (none has)
+none_kept t next cache after (Err (fault.MediaFault line)) none = tt
+none_kept t next cache after (Err fault.OutOfMemory) none = none
+
+pub no_places : (p : Phase) (t : Task) (cache : CacheState) → t.phase ≡ p → (HasPlacesAt p t cache → ⊥) → HasPlaces t cache → ⊥
+no_places p t cache is none has = none (subst (λ (q : Phase). HasPlacesAt q t cache) is has)
+
+-- Behind one operation that isn't the first store of a line of the file an append has its places.
+
+ready_at : (p : Phase) (t : Task) (cache : CacheState) → ((j : ℕ) → p ≡ at.StoreData j 0 → ⊥) → IsReadyAt p t cache
+ready_at (at.StoreData j k) t cache other = λ none. absurd (other j (ap (λ (n : ℕ). at.StoreData j n) none))
+ready_at at.DropMagic t cache other = tt
+ready_at at.Magic t cache other = tt
+ready_at (at.Drop part j) t cache other = tt
+ready_at (at.Word part j k) t cache other = tt
+ready_at at.DropGate t cache other = tt
+ready_at at.Gate t cache other = tt
+ready_at (at.Check i) t cache other = tt
+ready_at at.Decide t cache other = tt
+ready_at (at.SendData j) t cache other = tt
+ready_at (at.StoreSlot i k) t cache other = tt
+ready_at (at.SendSlot i) t cache other = tt
+ready_at at.StoreGate t cache other = tt
+ready_at at.FenceSlot t cache other = tt
+ready_at at.SendGate t cache other = tt
+ready_at at.FenceGate t cache other = tt
+
+ready_kept : (t next : Task) (cache after : CacheState) (said : Result Turn OperationFault) → IsReadyAt t.phase t cache → ReadyPlacesKept t cache next after said → PlacesKept t cache next after said
+ready_kept t next cache after (Ok turn) ready kept = λ goes has. let k = kept goes has in (k.0, k.1 ready)
+ready_kept t next cache after (Err (fault.MediaFault line)) ready kept = tt
+ready_kept t next cache after (Err fault.OutOfMemory) ready kept = kept
+
+pub other_kept : (t next : Task) (cache after : CacheState) (said : Result Turn OperationFault) → ((j : ℕ) → t.phase ≡ at.StoreData j 0 → ⊥) → ReadyPlacesKept t cache next after said → PlacesKept t cache next after said
+other_kept t next cache after said other = ready_kept t next cache after said (ready_at t.phase t cache other)
