@@ -1,6 +1,6 @@
 //! Each test stands for calls that no command comes to.
 
-mod free_runs;
+mod files;
 mod large;
 mod random;
 mod surface;

@@ -2,20 +2,12 @@
 //! to it.
 #![tactic(auto)]
 
-mod description;
-mod file_media;
-mod file_shelf;
-mod folder_shade;
-mod open_file;
 mod std_sink;
 
 use fam_base::{NameText, OutOfMemory};
+use fam_files::{FileMedia, FileShelf, FolderShade, open_to_read, open_to_write};
 use fam_outcomes::Status;
 use fam_top::{dup_of, famfs, famfs_dup, famfs_mail, famfs_shadow, image_of, mail_of, shadow_of};
-use file_media::FileMedia;
-use file_shelf::FileShelf;
-use folder_shade::FolderShade;
-use open_file::{open_to_read, open_to_write};
 use std::env;
 use std::fs::File;
 use std::io::ErrorKind;
@@ -154,9 +146,6 @@ fn run(rt: &HostRuntime, words: &Vec<String>) -> Result<Status, OutOfMemory> {
     );
     Ok(status)
 }
-
-#[cfg(test)]
-mod tests;
 
 /// Does what the program's words say.
 fn ran(rt: &HostRuntime) -> Result<Status, OutOfMemory> {

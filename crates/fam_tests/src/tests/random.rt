@@ -24,7 +24,7 @@ const SLOTS: usize = 15;
 
 /// A device of 538 units of 4,096 bytes, with a log of 15 slots: the first 514 units are superblock and log.
 #[tactic(auto, unfolding(fam_format::specs::Layout::shape_of))]
-fn small() -> Params
+pub(super) fn small() -> Params
     ensures sound { SoundParams result }
     ensures slots { result.slots ≡ 15 }
     ensures words { (geometry result).words ≡ SLOT_WORDS }

@@ -1,7 +1,7 @@
 use Rattle.std.proofs.Common.{◌≡◌, ◌-◌, ◌≤◌, length}
 use Rattle.std.specs.Prelude.{vec_len}
-use Rattle.famfs.specs.declared.file_media.TheConstants.{PAGE_BYTES}
-use Rattle.famfs.proofs.file_media.FileMediaMedia.write_run.Given as goal
+use Rattle.fam_files.specs.declared.file_media.TheConstants.{PAGE_BYTES}
+use Rattle.fam_files.proofs.file_media.FileMediaMedia.write_run.Given as goal
 
 -- so many lines were written
 abbrev pub invariant-loop-from : goal.invariant-loop-from

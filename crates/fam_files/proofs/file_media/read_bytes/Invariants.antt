@@ -1,5 +1,5 @@
 use Rattle.std.proofs.Common.{◌≡◌, ◌≤◌, length}
-use Rattle.famfs.proofs.file_media.read_bytes.Given as goal
+use Rattle.fam_files.proofs.file_media.read_bytes.Given as goal
 
 -- so many bytes were read
 abbrev pub invariant-loop : goal.invariant-loop

@@ -16,7 +16,7 @@ use std::os::unix::fs::{FileExt, MetadataExt};
 const NAME_BYTES: usize = 255;
 
 /// Which file of the system it is, whatever its names are.
-#[derive(Clone, Copy, Debug, PartialEq, Eq)]
+#[derive(Clone, Copy, PartialEq, Eq)]
 struct FileId {
     device: u64,
     inode: u64,

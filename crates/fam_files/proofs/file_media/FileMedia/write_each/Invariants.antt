@@ -1,5 +1,5 @@
 use Rattle.std.proofs.Common.{◌≡◌, ◌≤◌}
-use Rattle.famfs.proofs.file_media.FileMedia.write_each.Given as goal
+use Rattle.fam_files.proofs.file_media.FileMedia.write_each.Given as goal
 
 abbrev pub invariant-loop-k : goal.invariant-loop-k
 invariant-loop-k l = record {

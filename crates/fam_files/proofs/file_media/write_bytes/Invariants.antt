@@ -1,5 +1,5 @@
 use Rattle.std.proofs.Common.{◌≤◌, length}
-use Rattle.famfs.proofs.file_media.write_bytes.Given as goal
+use Rattle.fam_files.proofs.file_media.write_bytes.Given as goal
 
 -- so many bytes were written
 abbrev pub invariant-loop : goal.invariant-loop
