@@ -21,43 +21,43 @@ use Rattle.fam_journal.specs.declared.refusal.Refusal.TheVariants as why
 use Rattle.fam_journal.specs.Calls as call
 use Rattle.fam_journal.specs.Calls.{Does, IsOfSource, may_begin, number_of, refusal_of}
 use Rattle.fam_journal.specs.CallRecords.{FitsMedia, WorldCall, heading}
-use Rattle.fam_journal.specs.EventForms.{UnfitForm}
+use Rattle.fam_journal.specs.EventShapes.{UnfitShape}
 use Rattle.fam_journal.specs.Events.{event_source, mounts, named_source, source_of}
-use Rattle.fam_journal.specs.Forms as form
-use Rattle.fam_journal.specs.Forms.{AtForm, DoesForm, FormByRefusal, FreeForm, HostForm, IsFormed, OfHostForm, forms_behind, forms_of, runs_form, shown_forms}
+use Rattle.fam_journal.specs.Shapes as shape
+use Rattle.fam_journal.specs.Shapes.{AtShape, DoesShape, ShapeByRefusal, FreeShape, HostShape, IsShaped, OfHostShape, shapes_behind, shapes_of, runs_shape, shown_shapes}
 use Rattle.fam_journal.specs.Kept.{Held}
 use Rattle.fam_journal.specs.Machines.{Machines}
 use Rattle.fam_journal.specs.Notes.{Note, Refused, Start}
 use Rattle.fam_journal.specs.View.{HostView, WorldView}
 use Rattle.fam_journal.specs.ByWorld.{acted_by, number_in, refusal_in, with_host}
 use Rattle.fam_journal.proofs.Calls.Members.{changed_here}
-use Rattle.fam_journal.proofs.Forms.EventRows.{mounts_asked}
-use Rattle.fam_journal.proofs.Forms.Operations.{forms_both}
-use Rattle.fam_journal.proofs.Forms.Views.{number_formed, refusal_formed}
+use Rattle.fam_journal.proofs.Shapes.EventRows.{mounts_asked}
+use Rattle.fam_journal.proofs.Shapes.Operations.{shapes_both}
+use Rattle.fam_journal.proofs.Shapes.Views.{number_shaped, refusal_shaped}
 use Rattle.fam_world.proofs.Finishing.{number_same}
 use Rattle.fam_world.proofs.Members.{map_kept}
 use Rattle.fam_world.proofs.Rows.{first_refusal}
-use Rattle.fam_events.specs.WorldChange.{AddsForm, WorldChange, asking, session}
+use Rattle.fam_events.specs.WorldChange.{AddsShape, WorldChange, asking, session}
 use Rattle.fam_events.specs.declared.asks.Asked.{Asked}
 use Rattle.fam_events.specs.declared.fault.EventFault.{EventFault}
 use Rattle.fam_events.specs.declared.fault.EventFault.TheVariants as fault
-use Rattle.fam_events.specs.Begins.{AskBegun, AskRefused, AskSays, AskUndone, Nothing, RefusedForm}
-use Rattle.fam_events.specs.Happens.{EventEnded, IsToSource, SourceForm}
-use Rattle.fam_events.proofs.OverMedia.{count_kept}
+use Rattle.fam_events.specs.Begins.{AskBegun, AskRefused, AskSays, AskUndone, Nothing, RefusedShape}
+use Rattle.fam_events.specs.Happens.{EventEnded, IsToSource, SourceShape}
+use Rattle.fam_journal.proofs.Growth.{count_same}
 use Rattle.fam_events.proofs.WithoutMedia.{quiet_adds, quiet_row, still_adds, still_keeps}
-use Rattle.fam_events.proofs.Running.{finish_as_step, runs_free}
+use Rattle.fam_journal.proofs.Shapes.Running.{finish_as_step, runs_free}
 
 -- a cause of a source
-of_source : (what : Ask) (cause : Refusal) → UnfitForm what cause → IsOfSource cause
+of_source : (what : Ask) (cause : Refusal) → UnfitShape what cause → IsOfSource cause
 of_source what (why.NoFile name) is = tt
 of_source what (why.CopyLimit sum) is = tt
 of_source what (why.BadListing at) is = tt
 of_source what other is = absurd is
 
 -- the notes of a call that refuses
-refuses_form : (name : List ℕ) (cause : Refusal) (lines : ℕ) (hosts : List HostForm) (notes : List Note) → DoesForm (call.Refuses name cause) lines hosts notes → notes ≡ Refused name cause ∷ []
+refuses_shape : (name : List ℕ) (cause : Refusal) (lines : ℕ) (hosts : List HostShape) (notes : List Note) → DoesShape (call.Refuses name cause) lines hosts notes → notes ≡ Refused name cause ∷ []
 unfolding refusal_of
-refuses_form name cause lines hosts notes form = form.0
+refuses_shape name cause lines hosts notes shape = shape.0
 
 refuses_row : (name : List ℕ) (cause : Refusal) (old new : Machines) (notes : List Note) → Does (call.Refuses name cause) old notes new → (notes ≡ Refused name cause ∷ []) × (new ≡ old)
 unfolding refusal_of
@@ -84,9 +84,9 @@ begins_as : (name : List ℕ) (cmd : Cmd) (m : Machines) → refusal_of (call.Be
 unfolding refusal_of
 begins_as name cmd m = refl
 
-module _ (name : List ℕ) (what : Ask) (lines : ℕ) (old : WorldView) (formed : IsFormed old) (fits : FitsMedia lines old.hosts) (told : Option Image) (modelled : IfModelled told (λ image. length image ≡ lines)) (faults : ℕ) (files : Option Files) (copied : ℕ) where
-  abbrev forms : List HostForm
-  forms = forms_of old.journal
+module _ (name : List ℕ) (what : Ask) (lines : ℕ) (old : WorldView) (shaped : IsShaped old) (fits : FitsMedia lines old.hosts) (told : Option Image) (modelled : IfModelled told (λ image. length image ≡ lines)) (faults : ℕ) (files : Option Files) (copied : ℕ) where
+  abbrev shapes : List HostShape
+  shapes = shapes_of old.journal
 
   abbrev first : Option Refusal
   first = refusal_in (call.Begins name (some_cmd (mounts what))) old lines
@@ -94,8 +94,8 @@ module _ (name : List ℕ) (what : Ask) (lines : ℕ) (old : WorldView) (formed 
   some_as : (m : Machines) → refusal_of (call.Begins name (some_cmd (mounts what))) m ≡ may_begin name (mounts what) m
   some_as m = begins_as name (some_cmd (mounts what)) m ∙ ap (λ (mount : Bool). may_begin name mount m) (some_mounts (mounts what))
 
-  told_first : may_begin name (mounts what) (shown_forms lines forms) ≡ first
-  told_first = sym (refusal_formed lines old formed (call.Begins name (some_cmd (mounts what))) tt ∙ some_as (shown_forms lines forms))
+  told_first : may_begin name (mounts what) (shown_shapes lines shapes) ≡ first
+  told_first = sym (refusal_shaped lines old shaped (call.Begins name (some_cmd (mounts what))) tt ∙ some_as (shown_shapes lines shapes))
 
   state_first : (start : Image) (state : Machines) → Held start state old state.memory → length state.memory ≡ lines → may_begin name (mounts what) state ≡ first
   state_first start state held lines_are = sym (some_as state) ∙ first_refusal start state old held (call.Begins name (some_cmd (mounts what))) lines lines_are
@@ -103,14 +103,14 @@ module _ (name : List ℕ) (what : Ask) (lines : ℕ) (old : WorldView) (formed 
   -- no memory was left
   pub undone : (now : ℕ) → AskUndone (asking lines old old told faults files copied now)
   undone now = record {
-    adds = still_adds (asking lines old old told faults files copied now) record { world = refl; media = refl; count = refl } (λ lines hosts notes. notes ≡ []) formed fits refl;
+    adds = still_adds (asking lines old old told faults files copied now) record { world = refl; media = refl; count = refl } (λ lines hosts notes. notes ≡ []) shaped fits refl;
     keeps = still_keeps (asking lines old old told faults files copied now) record { world = refl; media = refl; count = refl } (λ files. Nothing) (λ files_now start state files_are told_is held. (refl, refl));
   }
 
   -- nothing may begin there
   pub may_not : (new : WorldView) (cause : Refusal) → first ≡ Some cause → WorldCall (call.Refuses name cause) lines None old new → AskRefused name what (asking lines old new told faults files copied copied)
   may_not new cause is w = record {
-    adds = of_form (quiet_adds (call.Refuses name cause) lines None old new w (inr (some_cmd (mounts what), is)) formed fits told faults files copied copied);
+    adds = of_shape (quiet_adds (call.Refuses name cause) lines None old new w (inr (some_cmd (mounts what), is)) shaped fits told faults files copied copied);
     keeps = λ start files_now state files_are told_is held.
         let d = quiet_row (call.Refuses name cause) lines None old new w (inr (some_cmd (mounts what), is)) tt start state held (modelled state.memory told_is) in
         let r = refuses_row name cause state d.state d.notes d.row in
@@ -126,25 +126,25 @@ module _ (name : List ℕ) (what : Ask) (lines : ℕ) (old : WorldView) (formed 
         };
   }
     where
-      of_form : AddsForm (DoesForm (call.Refuses name cause)) (asking lines old new told faults files copied copied) → AddsForm (RefusedForm name what) (asking lines old new told faults files copied copied)
-      of_form x = record {
+      of_shape : AddsShape (DoesShape (call.Refuses name cause)) (asking lines old new told faults files copied copied) → AddsShape (RefusedShape name what) (asking lines old new told faults files copied copied)
+      of_shape x = record {
         notes = x.notes;
         joined = x.joined;
         named = x.named;
         counted = x.counted;
         later = x.later;
         fits = x.fits;
-        formed = x.formed;
-        form = subst (λ (o : Option Refusal). FormByRefusal name o x.notes (Rattle.fam_journal.specs.EventForms.UnfitNotes name what x.notes)) (sym (told_first ∙ is)) (refuses_form name cause lines forms x.notes x.form);
+        shaped = x.shaped;
+        shape = subst (λ (o : Option Refusal). ShapeByRefusal name o x.notes (Rattle.fam_journal.specs.EventShapes.UnfitNotes name what x.notes)) (sym (told_first ∙ is)) (refuses_shape name cause lines shapes x.notes x.shape);
       }
 
   module _ (free : first ≡ None) where
     -- the source makes no command
     pub unfit : (new : WorldView) (cause : Refusal) (change : ShelfChange) (now : ℕ) → change.old.files ≡ files → IsUnfit change copied what now cause → WorldCall (call.Refuses name cause) lines None old new → AskRefused name what (asking lines old new told faults files copied now)
     unfit new cause change now same u w = record {
-      adds = of_form (quiet_adds (call.Refuses name cause) lines None old new w (inl (of_source what cause u.form)) formed fits told faults files copied now);
+      adds = of_shape (quiet_adds (call.Refuses name cause) lines None old new w (inl (of_source what cause u.shape)) shaped fits told faults files copied now);
       keeps = λ start files_now state files_are told_is held.
-          let d = quiet_row (call.Refuses name cause) lines None old new w (inl (of_source what cause u.form)) tt start state held (modelled state.memory told_is) in
+          let d = quiet_row (call.Refuses name cause) lines None old new w (inl (of_source what cause u.shape)) tt start state held (modelled state.memory told_is) in
           record {
             comes = record {
               last = session d.state now;
@@ -167,25 +167,25 @@ module _ (name : List ℕ) (what : Ask) (lines : ℕ) (old : WorldView) (formed 
           };
     }
       where
-        of_form : AddsForm (DoesForm (call.Refuses name cause)) (asking lines old new told faults files copied now) → AddsForm (RefusedForm name what) (asking lines old new told faults files copied now)
-        of_form x = record {
+        of_shape : AddsShape (DoesShape (call.Refuses name cause)) (asking lines old new told faults files copied now) → AddsShape (RefusedShape name what) (asking lines old new told faults files copied now)
+        of_shape x = record {
           notes = x.notes;
           joined = x.joined;
           named = x.named;
           counted = x.counted;
           later = x.later;
           fits = x.fits;
-          formed = x.formed;
-          form = subst (λ (o : Option Refusal). FormByRefusal name o x.notes (Rattle.fam_journal.specs.EventForms.UnfitNotes name what x.notes)) (sym (told_first ∙ free))
-              record { why = cause; unfit = u.form; notes_are = refuses_form name cause lines forms x.notes x.form };
+          shaped = x.shaped;
+          shape = subst (λ (o : Option Refusal). ShapeByRefusal name o x.notes (Rattle.fam_journal.specs.EventShapes.UnfitNotes name what x.notes)) (sym (told_first ∙ free))
+              record { why = cause; unfit = u.shape; notes_are = refuses_shape name cause lines shapes x.notes x.shape };
         }
 
     -- the reading of its source ended early
     pub ended : (end : SourceEnd) (change : ShelfChange) → change.old.files ≡ files → IsEnded change copied what end → EventEnded (Begin name what) end (asking lines old old told faults files copied copied) × HasEndCause change end
     ended end change same e = (
       record {
-        adds = still_adds (asking lines old old told faults files copied copied) record { world = refl; media = refl; count = refl } (SourceForm (Begin name what)) formed fits
-            record { none = refl; host = name; source = e.name; reads = reads; free = ap (λ (mount : Bool). may_begin name mount (shown_forms lines forms)) (sym (source_plain what e.name e.source)) ∙ told_first ∙ free };
+        adds = still_adds (asking lines old old told faults files copied copied) record { world = refl; media = refl; count = refl } (SourceShape (Begin name what)) shaped fits
+            record { none = refl; host = name; source = e.name; reads = reads; free = ap (λ (mount : Bool). may_begin name mount (shown_shapes lines shapes)) (sym (source_plain what e.name e.source)) ∙ told_first ∙ free };
         keeps = still_keeps (asking lines old old told faults files copied copied) record { world = refl; media = refl; count = refl } (IsToSource (Begin name what) end)
             (λ files_now start state files_are told_is held. (
               record {
@@ -210,33 +210,33 @@ module _ (name : List ℕ) (what : Ask) (lines : ℕ) (old : WorldView) (formed 
       abbrev a : WorldChange
       a = asking lines old new told faults files copied now
 
-      own_first : may_begin name (is_mount cmd) (shown_forms lines forms) ≡ None
-      own_first = ap (λ (mount : Bool). may_begin name mount (shown_forms lines forms)) (sym (mounts_asked what cmd ready.form)) ∙ told_first ∙ free
+      own_first : may_begin name (is_mount cmd) (shown_shapes lines shapes) ≡ None
+      own_first = ap (λ (mount : Bool). may_begin name mount (shown_shapes lines shapes)) (sym (mounts_asked what cmd ready.shape)) ∙ told_first ∙ free
 
       record Placed (notes : List Note) : Type 0 where
         host : ℕ
-        number : number_of name (shown_forms lines forms) ≡ Some host
-        form : HostForm
-        form_is : slice_get forms host ≡ Some form
+        number : number_of name (shown_shapes lines shapes) ≡ Some host
+        shape : HostShape
+        shape_is : slice_get shapes host ≡ Some shape
         notes_are : notes ≡ Start host cmd ∷ []
 
-      placed : (notes : List Note) → DoesForm (call.Begins name cmd) lines forms notes → Placed notes
+      placed : (notes : List Note) → DoesShape (call.Begins name cmd) lines shapes notes → Placed notes
       unfolding refusal_of
-      placed notes form = by_number (number_of name (shown_forms lines forms)) refl (subst (λ (o : Option Refusal). FormByRefusal name o notes (FreeForm (call.Begins name cmd) lines forms notes)) own_first form)
+      placed notes shape = by_number (number_of name (shown_shapes lines shapes)) refl (subst (λ (o : Option Refusal). ShapeByRefusal name o notes (FreeShape (call.Begins name cmd) lines shapes notes)) own_first shape)
         where
-          by_host : (h : ℕ) → number_of name (shown_forms lines forms) ≡ Some h → (o : Option HostForm) → slice_get forms h ≡ o → OfHostForm o (λ f. notes ≡ Start h cmd ∷ []) → Placed notes
+          by_host : (h : ℕ) → number_of name (shown_shapes lines shapes) ≡ Some h → (o : Option HostShape) → slice_get shapes h ≡ o → OfHostShape o (λ f. notes ≡ Start h cmd ∷ []) → Placed notes
           by_host h number None is x = absurd x
-          by_host h number (Some f) is x = record { host = h; number = number; form = f; form_is = is; notes_are = x }
+          by_host h number (Some f) is x = record { host = h; number = number; shape = f; shape_is = is; notes_are = x }
 
-          by_number : (o : Option ℕ) → number_of name (shown_forms lines forms) ≡ o → AtForm o forms (λ h f. notes ≡ Start h cmd ∷ []) → Placed notes
+          by_number : (o : Option ℕ) → number_of name (shown_shapes lines shapes) ≡ o → AtShape o shapes (λ h f. notes ≡ Start h cmd ∷ []) → Placed notes
           by_number None is x = absurd x
-          by_number (Some h) is x = by_host h is (slice_get forms h) refl x
+          by_number (Some h) is x = by_host h is (slice_get shapes h) refl x
 
-      x : AddsForm (DoesForm (call.Begins name cmd)) a
-      x = quiet_adds (call.Begins name cmd) lines None old new w tt formed fits told faults files copied now
+      x : AddsShape (DoesShape (call.Begins name cmd)) a
+      x = quiet_adds (call.Begins name cmd) lines None old new w tt shaped fits told faults files copied now
 
       p : Placed x.notes
-      p = placed x.notes x.form
+      p = placed x.notes x.shape
 
       -- hosts keep their names
       headings : map heading new.hosts ≡ map heading old.hosts
@@ -252,16 +252,16 @@ module _ (name : List ℕ) (what : Ask) (lines : ℕ) (old : WorldView) (formed 
       number_kept : number_in name new ≡ number_in name old
       number_kept = number_same name new old headings
 
-      abbrev starts : HostForm → HostForm
-      starts host = record host { task = Some (record { cmd = cmd; stage = form.Begun }) }
+      abbrev starts : HostShape → HostShape
+      starts host = record host { task = Some (record { cmd = cmd; stage = shape.Begun }) }
 
-      runs : runs_form (slice_get (forms_of new.journal) p.host) ≡ true
+      runs : runs_shape (slice_get (shapes_of new.journal) p.host) ≡ true
       runs =
-          ap (λ (j : List Note). runs_form (slice_get (forms_of j) p.host)) x.joined
-          ∙ ap (λ (fs : List HostForm). runs_form (slice_get fs p.host)) (forms_both [] old.journal x.notes)
-          ∙ ap (λ (ns : List Note). runs_form (slice_get (forms_behind forms ns) p.host)) p.notes_are
-          ∙ ap runs_form (changed_here p.host starts forms)
-          ∙ ap (λ (o : Option HostForm). runs_form (option_map starts o)) p.form_is
+          ap (λ (j : List Note). runs_shape (slice_get (shapes_of j) p.host)) x.joined
+          ∙ ap (λ (fs : List HostShape). runs_shape (slice_get fs p.host)) (shapes_both [] old.journal x.notes)
+          ∙ ap (λ (ns : List Note). runs_shape (slice_get (shapes_behind shapes ns) p.host)) p.notes_are
+          ∙ ap runs_shape (changed_here p.host starts shapes)
+          ∙ ap (λ (o : Option HostShape). runs_shape (option_map starts o)) p.shape_is
 
       pub begun : AskBegun name what a
       begun = record {
@@ -272,10 +272,10 @@ module _ (name : List ℕ) (what : Ask) (lines : ℕ) (old : WorldView) (formed 
           counted = x.counted;
           later = x.later;
           fits = x.fits;
-          formed = x.formed;
-          form = record {
+          shaped = x.shaped;
+          shape = record {
             free = told_first ∙ free;
-            starts = record { host = p.host; number = p.number; cmd = cmd; asked = ready.form; rest = []; notes_are = p.notes_are; follow = refl };
+            starts = record { host = p.host; number = p.number; cmd = cmd; asked = ready.shape; rest = []; notes_are = p.notes_are; follow = refl };
           };
         };
         keeps = λ start files_now state files_are told_is held.
@@ -302,8 +302,8 @@ module _ (name : List ℕ) (what : Ask) (lines : ℕ) (old : WorldView) (formed 
               held = d.held;
             };
         number = number_kept;
-        count_is = count_kept new.hosts old.hosts headings;
-        runs = finish_as_step name new lines ∙ runs_free lines new x.formed name p.host (number_kept ∙ number_formed lines old formed name ∙ p.number) runs;
+        count_is = count_same new.hosts old.hosts headings;
+        runs = finish_as_step name new lines ∙ runs_free lines new x.shaped name p.host (number_kept ∙ number_shaped lines old shaped name ∙ p.number) runs;
       }
 
 -- a call that refuses or begins, or finds no memory

@@ -19,12 +19,12 @@ use Rattle.fam_journal.specs.declared.event.Event.TheVariants as event
 use Rattle.fam_journal.specs.declared.refusal.Refusal.{Refusal}
 use Rattle.fam_journal.specs.declared.refusal.Refusal.TheVariants as why
 use Rattle.fam_journal.specs.Calls as call
-use Rattle.fam_journal.specs.Calls.{Acts, ActsAt, AtNumber, BreaksOff, ByRefusal, Call, Completes, CutsAt, Does, OnHost, Unfinished, name_of, DoesOperations, busy_at, may_begin, number_of, refusal_of, when}
+use Rattle.fam_journal.specs.Calls.{Acts, ActsAt, AtNumber, CutCall, ByRefusal, Call, Completes, CutsAt, Does, OnHost, Unfinished, asked_name, DoesOperations, busy_at, may_begin, number_of, refusal_of, when}
 use Rattle.fam_journal.specs.CallRecords.{FinishPart, FitsMedia}
 use Rattle.fam_journal.specs.Ends.{CutCallReads, CutEventReads}
-use Rattle.fam_journal.specs.EventForms.{BeginForm, EventBreaksForm, EventForm, NoMore, StartForm, UnfitNotes}
+use Rattle.fam_journal.specs.EventShapes.{BeginForm, EventBreaksShape, EventShape, NoMore, StartShape, UnfitNotes}
 use Rattle.fam_journal.specs.Events.{BreaksEvent, Calls, DoesEvent, Session, mounts}
-use Rattle.fam_journal.specs.Forms.{ActsForm, AtForm, BreaksForm, CompletesForm, DoesForm, FormByRefusal, FreeForm, HostForm, IsFormed, OfHostForm, PartForm, UnfinishedForm, forms_after, forms_behind, forms_of, runs_form, shown_forms}
+use Rattle.fam_journal.specs.Shapes.{ActsShape, AtShape, BreaksShape, CompletesShape, DoesShape, ShapeByRefusal, FreeShape, HostShape, IsShaped, OfHostShape, PartShape, UnfinishedShape, shapes_after, shapes_behind, shapes_of, runs_shape, shown_shapes}
 use Rattle.fam_journal.specs.Kept.{Held}
 use Rattle.fam_journal.specs.Machines.{HostState, Machines}
 use Rattle.fam_journal.specs.Notes.{Note, Start}
@@ -32,26 +32,26 @@ use Rattle.fam_journal.specs.Past.{State}
 use Rattle.fam_journal.specs.Names.{AreNamed}
 use Rattle.fam_journal.specs.View.{WorldView}
 use Rattle.fam_journal.proofs.Calls.Shown.{number_shown}
-use Rattle.fam_journal.proofs.Forms.Operations.{forms_both}
-use Rattle.fam_journal.proofs.Forms.Views.{number_formed, refusal_formed}
+use Rattle.fam_journal.proofs.Shapes.Operations.{shapes_both}
+use Rattle.fam_journal.proofs.Shapes.Views.{number_shaped, refusal_shaped}
 use Rattle.fam_journal.proofs.Runs.Unique.{faults_both}
 use Rattle.fam_world.proofs.Rows.{first_refusal}
 use Rattle.fam_events.specs.declared.fault.EventFault.{EventFault}
 use Rattle.fam_events.specs.declared.fault.EventFault.TheVariants as fault
-use Rattle.fam_events.specs.WorldChange.{AddsForm, WorldChange, Breaks, Keeps, Told, asking, session}
+use Rattle.fam_events.specs.WorldChange.{AddsShape, WorldChange, ComesBroken, ComesHeld, Told, asking, session}
 use Rattle.fam_events.specs.declared.asks.Asked.{Asked}
 use Rattle.fam_events.specs.declared.asks.Asked.TheVariants as asked
-use Rattle.fam_events.specs.Begins.{AskBegun, AskRefused, AskSays, AskUndone, BegunForm, Nothing, Refuses, RefusedForm, Starts}
+use Rattle.fam_events.specs.Begins.{AskBegun, AskRefused, AskSays, AskUndone, BegunShape, Nothing, Refuses, RefusedShape, AskStarts}
 use Rattle.fam_events.specs.Calls.{CallDone, CallPart, CallSays, CallsBreak, CallsPart}
-use Rattle.fam_events.proofs.Lists.{named_more}
-use Rattle.fam_events.proofs.Running.{busy_is, finish_as_step, free_runs}
-use Rattle.fam_events.specs.Happens.{EventDone, EventEnded, EventPart, EventSays, FormOfPart, IsDoneBy, IsPart, IsToSource, SourceForm}
+use Rattle.fam_journal.proofs.Growth.{named_both}
+use Rattle.fam_journal.proofs.Shapes.Running.{busy_is, finish_as_step, free_runs}
+use Rattle.fam_events.specs.Happens.{EventDone, EventEnded, EventPart, EventSays, ShapeOfPart, IsDoneBy, IsPart, IsToSource, SourceShape}
 
--- a form of notes that is as strong
-pub adds_as : (P Q : ℕ → List HostForm → List Note → Type 0) (a : WorldChange) → ((lines : ℕ) (hosts : List HostForm) (notes : List Note) → P lines hosts notes → Q lines hosts notes) → AddsForm P a → AddsForm Q a
-adds_as P Q a weaker x = record { notes = x.notes; joined = x.joined; named = x.named; counted = x.counted; later = x.later; fits = x.fits; formed = x.formed; form = weaker a.lines (forms_of a.old.journal) x.notes x.form }
+-- a shape of notes that is as strong
+pub adds_as : (P Q : ℕ → List HostShape → List Note → Type 0) (a : WorldChange) → ((lines : ℕ) (hosts : List HostShape) (notes : List Note) → P lines hosts notes → Q lines hosts notes) → AddsShape P a → AddsShape Q a
+adds_as P Q a weaker x = record { notes = x.notes; joined = x.joined; named = x.named; counted = x.counted; later = x.later; fits = x.fits; shaped = x.shaped; shape = weaker a.lines (shapes_of a.old.journal) x.notes x.shape }
 
-pub keeps_as : (P Q : Files → Session → List Note → Session → Type 0) (a : WorldChange) → ((files : Files) (old : Session) (notes : List Note) (new : Session) → old.copied ≡ a.copied → P files old notes new → Q files old notes new) → Told (λ files start. Keeps (P files) start) a → Told (λ files start. Keeps (Q files) start) a
+pub keeps_as : (P Q : Files → Session → List Note → Session → Type 0) (a : WorldChange) → ((files : Files) (old : Session) (notes : List Note) (new : Session) → old.copied ≡ a.copied → P files old notes new → Q files old notes new) → Told (λ files start. ComesHeld (P files) start) a → Told (λ files start. ComesHeld (Q files) start) a
 keeps_as P Q a weaker x start files state files_are told_is held =
     let k = x start files state files_are told_is held in
     record {
@@ -60,7 +60,7 @@ keeps_as P Q a weaker x start files state files_are told_is held =
     }
 
 breaks_as : (P Q : Session → List Note → Session → Type 0) (R S : Session → State → Image → Type 0) (a : WorldChange) → ((old : Session) (notes : List Note) (new : Session) → P old notes new → Q old notes new) → ((old : Session) (state : State) (after : Image) → R old state after → S old state after)
-    → Told (λ files start. Breaks P R start) a → Told (λ files start. Breaks Q S start) a
+    → Told (λ files start. ComesBroken P R start) a → Told (λ files start. ComesBroken Q S start) a
 breaks_as P Q R S a weaker left x start files state files_are told_is held =
     let k = x start files state files_are told_is held in
     record {
@@ -72,25 +72,25 @@ breaks_as P Q R S a weaker left x start files state files_are told_is held =
 -- an event that is a call
 pub record IsCallOf (e : Event) (c : Call) : Type 0 where
   pub does : (files : Files) (old : Session) (notes : List Note) (new : Session) → Calls c old notes new → DoesEvent files e old notes new
-  pub form : (lines : ℕ) (hosts : List HostForm) (notes : List Note) → DoesForm c lines hosts notes → EventForm e lines hosts notes
+  pub shape : (lines : ℕ) (hosts : List HostShape) (notes : List Note) → DoesShape c lines hosts notes → EventShape e lines hosts notes
   pub breaks : (old : Session) (notes : List Note) (new : Session) → CallsBreak c old notes new → BreaksEvent e old notes new
   pub left : (old : Session) (state : State) (after : Image) → CutCallReads c old.machines state after → CutEventReads e old state after
-  pub broken : (lines : ℕ) (hosts : List HostForm) (notes : List Note) → BreaksForm c lines hosts notes → EventBreaksForm e lines hosts notes
+  pub broken : (lines : ℕ) (hosts : List HostShape) (notes : List Note) → BreaksShape c lines hosts notes → EventBreaksShape e lines hosts notes
   pub part : (files : Files) (old : Session) (notes : List Note) (new : Session) → CallsPart c old notes new → IsPart e files old notes new
-  pub partly : (lines : ℕ) (hosts : List HostForm) (notes : List Note) → PartForm c lines hosts notes → FormOfPart e lines hosts notes
+  pub partly : (lines : ℕ) (hosts : List HostShape) (notes : List Note) → PartShape c lines hosts notes → ShapeOfPart e lines hosts notes
 
 pub event_says : (e : Event) (c : Call) (shelf : ShelfChange) (a : WorldChange) → IsCallOf e c → a.copied_now ≡ a.copied → (r : Result (Unit {0}) EventFault) → CallSays c a r → EventSays e shelf a r
 event_says e c shelf a of same (Ok x) says = record {
-  adds = adds_as (DoesForm c) (EventForm e) a of.form says.adds;
+  adds = adds_as (DoesShape c) (EventShape e) a of.shape says.adds;
   keeps = keeps_as (λ files. Calls c) (IsDoneBy e a.copied_now) a (λ files old notes new first does. (of.does files old notes new does, does.1 ∙ first ∙ sym same)) says.keeps;
 }
 event_says e c shelf a of same (Err fault.MkfsFailed) says = record {
-  adds = adds_as (BreaksForm c) (EventBreaksForm e) a of.broken says.adds;
+  adds = adds_as (BreaksShape c) (EventBreaksShape e) a of.broken says.adds;
   keeps = breaks_as (CallsBreak c) (BreaksEvent e) (λ old. CutCallReads c old.machines) (CutEventReads e) a of.breaks of.left says.keeps;
 }
 event_says e c shelf a of same (Err (fault.SourceEnded end)) says = absurd says
 event_says e c shelf a of same (Err fault.OutOfMemory) says = record {
-  adds = adds_as (PartForm c) (FormOfPart e) a of.partly says.adds;
+  adds = adds_as (PartShape c) (ShapeOfPart e) a of.partly says.adds;
   keeps = keeps_as (λ files. CallsPart c) (IsPart e) a (λ files old notes new first. of.part files old notes new) says.keeps;
 }
 
@@ -99,8 +99,8 @@ same_session : (old new : Session) → new.machines ≡ old.machines → new.cop
 same_session old new machines copied = Rattle.std.proofs.Common.ap₂ (λ (m : Machines) (n : ℕ). record { machines = m; copied = n }) machines copied
 
 -- nothing but a mkfs is cut
-none_cut : (c : Call) (old new : Machines) (notes : List Note) → ((h : ℕ) (host : HostState) → CutsAt c h host old notes new → ⊥) → BreaksOff c old notes new → ⊥
-none_cut c old new notes never x = by_number (number_of (name_of c) old) x.1
+none_cut : (c : Call) (old new : Machines) (notes : List Note) → ((h : ℕ) (host : HostState) → CutsAt c h host old notes new → ⊥) → CutCall c old notes new → ⊥
+none_cut c old new notes never x = by_number (number_of (asked_name c) old) x.1
   where
     by_host : (h : ℕ) (o : Option HostState) → OnHost o (λ host. CutsAt c h host old notes new) → ⊥
     by_host h None x = x
@@ -113,7 +113,7 @@ none_cut c old new notes never x = by_number (number_of (name_of c) old) x.1
 pub host_call : (name uuid : List ℕ) → IsCallOf (event.Host name uuid) (call.Declares name uuid)
 host_call name uuid = record {
   does = λ files old notes new x. x;
-  form = λ lines hosts notes x. x;
+  shape = λ lines hosts notes x. x;
   breaks = λ old notes new x. none_cut (call.Declares name uuid) old.machines new.machines notes (λ h host z. z) x.0;
   left = λ old state after x. x;
   broken = λ lines hosts notes x. x;
@@ -124,7 +124,7 @@ host_call name uuid = record {
 pub mkfs_call : (name : List ℕ) (request : MkfsRequest) → IsCallOf (event.Mkfs name request.fs request.unit request.log request.format request.force request.halt) (call.Makes name request)
 mkfs_call name request = record {
   does = λ files old notes new x. x;
-  form = λ lines hosts notes x. x;
+  shape = λ lines hosts notes x. x;
   breaks = λ old notes new x. x;
   left = λ old state after x. x;
   broken = λ lines hosts notes x. x;
@@ -135,7 +135,7 @@ mkfs_call name request = record {
 pub stop_call : (name : List ℕ) → IsCallOf (event.Stop name) (call.Stops name)
 stop_call name = record {
   does = λ files old notes new x. x;
-  form = λ lines hosts notes x. x;
+  shape = λ lines hosts notes x. x;
   breaks = λ old notes new x. none_cut (call.Stops name) old.machines new.machines notes (λ h host z. z) x.0;
   left = λ old state after x. x;
   broken = λ lines hosts notes x. x;
@@ -146,7 +146,7 @@ stop_call name = record {
 pub halt_call : (name : List ℕ) → IsCallOf (event.Halt name) (call.Halts name)
 halt_call name = record {
   does = λ files old notes new x. x;
-  form = λ lines hosts notes x. x;
+  shape = λ lines hosts notes x. x;
   breaks = λ old notes new x. none_cut (call.Halts name) old.machines new.machines notes (λ h host z. z) x.0;
   left = λ old state after x. x;
   broken = λ lines hosts notes x. x;
@@ -157,7 +157,7 @@ halt_call name = record {
 pub umount_call : (name : List ℕ) → IsCallOf (event.Umount name) (call.Umounts name)
 umount_call name = record {
   does = λ files old notes new x. x;
-  form = λ lines hosts notes x. x;
+  shape = λ lines hosts notes x. x;
   breaks = λ old notes new x. none_cut (call.Umounts name) old.machines new.machines notes (λ h host z. z) x.0;
   left = λ old state after x. x;
   broken = λ lines hosts notes x. x;
@@ -168,7 +168,7 @@ umount_call name = record {
 pub evict_call : (name : List ℕ) (line : LineNo) → IsCallOf (event.Evict name line) (call.Moves name line.0 Evict)
 evict_call name line = record {
   does = λ files old notes new x. x;
-  form = λ lines hosts notes x. x;
+  shape = λ lines hosts notes x. x;
   breaks = λ old notes new x. none_cut (call.Moves name line.0 Evict) old.machines new.machines notes (λ h host z. z) x.0;
   left = λ old state after x. x;
   broken = λ lines hosts notes x. x;
@@ -179,7 +179,7 @@ evict_call name line = record {
 pub leak_call : (name : List ℕ) (line : LineNo) (mask : Mask) → IsCallOf (event.Leak name line mask) (call.Moves name line.0 (Leak mask.0))
 leak_call name line mask = record {
   does = λ files old notes new x. x;
-  form = λ lines hosts notes x. x;
+  shape = λ lines hosts notes x. x;
   breaks = λ old notes new x. none_cut (call.Moves name line.0 (Leak mask.0)) old.machines new.machines notes (λ h host z. z) x.0;
   left = λ old state after x. x;
   broken = λ lines hosts notes x. x;
@@ -190,7 +190,7 @@ leak_call name line mask = record {
 pub fetch_call : (name : List ℕ) (line : LineNo) (mask : Mask) → IsCallOf (event.Fetch name line mask) (call.Moves name line.0 (Fetch mask.0))
 fetch_call name line mask = record {
   does = λ files old notes new x. x;
-  form = λ lines hosts notes x. x;
+  shape = λ lines hosts notes x. x;
   breaks = λ old notes new x. none_cut (call.Moves name line.0 (Fetch mask.0)) old.machines new.machines notes (λ h host z. z) x.0;
   left = λ old state after x. x;
   broken = λ lines hosts notes x. x;
@@ -215,64 +215,64 @@ finish_part files name old new notes (inl x) copied = by_busy (busy_at x.host ol
         inr record { host = x.host; number = x.number; busy = ap (λ (b : Bool). when (not b) why.Idle) is; does = x.does; copied = copied }
     by_busy false is = let none = idle_none x.host x.does.count old.machines new.machines notes is x.does.does in inl (none.0, same_session old new none.1 copied)
 
-finish_form : (name : List ℕ) (lines : ℕ) (hosts : List HostForm) (notes : List Note) → PartForm (call.Finishes name) lines hosts notes → FormOfPart (event.Finish name) lines hosts notes
-finish_form name lines hosts notes (inl none) = inl none
-finish_form name lines hosts notes (inr x) = inr x
+finish_shape : (name : List ℕ) (lines : ℕ) (hosts : List HostShape) (notes : List Note) → PartShape (call.Finishes name) lines hosts notes → ShapeOfPart (event.Finish name) lines hosts notes
+finish_shape name lines hosts notes (inl none) = inl none
+finish_shape name lines hosts notes (inr x) = inr x
 
 pub finish_call : (name : List ℕ) → IsCallOf (event.Finish name) (call.Finishes name)
 finish_call name = record {
   does = λ files old notes new x. x;
-  form = λ lines hosts notes x. x;
+  shape = λ lines hosts notes x. x;
   breaks = λ old notes new x. none_cut (call.Finishes name) old.machines new.machines notes (λ h host z. z) x.0;
   left = λ old state after x. x;
   broken = λ lines hosts notes x. x;
   part = λ files old notes new x. finish_part files name old new notes x.0 x.1;
-  partly = finish_form name;
+  partly = finish_shape name;
 }
 
 -- Commands that begin.
 
 -- a refusal is the event's own
-refused_as : (Q : ℕ → List HostForm → List Note → Type 0) (name : List ℕ) (what : Ask) (lines : ℕ) (hosts : List HostForm) (notes : List Note) → RefusedForm name what lines hosts notes → BeginForm Q name what lines hosts notes
-refused_as Q name what lines hosts notes form = by_refusal (may_begin name (mounts what) (shown_forms lines hosts)) form
+refused_as : (Q : ℕ → List HostShape → List Note → Type 0) (name : List ℕ) (what : Ask) (lines : ℕ) (hosts : List HostShape) (notes : List Note) → RefusedShape name what lines hosts notes → BeginForm Q name what lines hosts notes
+refused_as Q name what lines hosts notes shape = by_refusal (may_begin name (mounts what) (shown_shapes lines hosts)) shape
   where
-    by_refusal : (o : Option Refusal) → FormByRefusal name o notes (UnfitNotes name what notes) → FormByRefusal name o notes (UnfitNotes name what notes ⊎ StartForm Q name what lines hosts notes)
+    by_refusal : (o : Option Refusal) → ShapeByRefusal name o notes (UnfitNotes name what notes) → ShapeByRefusal name o notes (UnfitNotes name what notes ⊎ StartShape Q name what lines hosts notes)
     by_refusal None x = inl x
     by_refusal (Some cause) x = x
 
-started_as : (Q : ℕ → List HostForm → List Note → Type 0) (name : List ℕ) (what : Ask) (lines : ℕ) (hosts : List HostForm) (notes : List Note) → may_begin name (mounts what) (shown_forms lines hosts) ≡ None → StartForm Q name what lines hosts notes → BeginForm Q name what lines hosts notes
+started_as : (Q : ℕ → List HostShape → List Note → Type 0) (name : List ℕ) (what : Ask) (lines : ℕ) (hosts : List HostShape) (notes : List Note) → may_begin name (mounts what) (shown_shapes lines hosts) ≡ None → StartShape Q name what lines hosts notes → BeginForm Q name what lines hosts notes
 started_as Q name what lines hosts notes free starts =
-    subst (λ (o : Option Refusal). FormByRefusal name o notes (UnfitNotes name what notes ⊎ StartForm Q name what lines hosts notes)) (sym free) (inr starts)
+    subst (λ (o : Option Refusal). ShapeByRefusal name o notes (UnfitNotes name what notes ⊎ StartShape Q name what lines hosts notes)) (sym free) (inr starts)
 
 pub begin_refused : (name : List ℕ) (what : Ask) (a : WorldChange) → AskRefused name what a → EventDone (event.Begin name what) a
 begin_refused name what a x = record {
-  adds = adds_as (RefusedForm name what) (EventForm (event.Begin name what)) a (refused_as NoMore name what) x.adds;
+  adds = adds_as (RefusedShape name what) (EventShape (event.Begin name what)) a (refused_as NoMore name what) x.adds;
   keeps = keeps_as (Refuses name what a.copied_now) (IsDoneBy (event.Begin name what) a.copied_now) a (λ files old notes new first does. (inr does.0, does.1)) x.keeps;
 }
 
 pub run_refused : (name : List ℕ) (what : Ask) (a : WorldChange) → AskRefused name what a → EventDone (event.Run name what) a
 run_refused name what a x = record {
-  adds = adds_as (RefusedForm name what) (EventForm (event.Run name what)) a (refused_as CompletesForm name what) x.adds;
+  adds = adds_as (RefusedShape name what) (EventShape (event.Run name what)) a (refused_as CompletesShape name what) x.adds;
   keeps = keeps_as (Refuses name what a.copied_now) (IsDoneBy (event.Run name what) a.copied_now) a (λ files old notes new first does. (inr does.0, does.1)) x.keeps;
 }
 
 pub begin_begun : (name : List ℕ) (what : Ask) (a : WorldChange) → AskBegun name what a → EventDone (event.Begin name what) a
 begin_begun name what a x = record {
-  adds = adds_as (BegunForm name what) (EventForm (event.Begin name what)) a (λ lines hosts notes form. started_as NoMore name what lines hosts notes form.free form.starts) x.adds;
-  keeps = keeps_as (Starts name what a.copied_now) (IsDoneBy (event.Begin name what) a.copied_now) a (λ files old notes new first does. (inl does.0, does.1)) x.keeps;
+  adds = adds_as (BegunShape name what) (EventShape (event.Begin name what)) a (λ lines hosts notes shape. started_as NoMore name what lines hosts notes shape.free shape.starts) x.adds;
+  keeps = keeps_as (AskStarts name what a.copied_now) (IsDoneBy (event.Begin name what) a.copied_now) a (λ files old notes new first does. (inl does.0, does.1)) x.keeps;
 }
 
 -- nothing was done
 pub begin_undone : (e : Event) (a : WorldChange) → AskUndone a → EventPart e a
 begin_undone e a x = record {
-  adds = adds_as (λ lines hosts notes. notes ≡ []) (FormOfPart e) a (λ lines hosts notes none. inl none) x.adds;
+  adds = adds_as (λ lines hosts notes. notes ≡ []) (ShapeOfPart e) a (λ lines hosts notes none. inl none) x.adds;
   keeps = keeps_as (λ files. Nothing) (IsPart e) a (λ files old notes new first does. inl does) x.keeps;
 }
 
 -- a source of a begin is one of a run
 pub run_ended : (name : List ℕ) (what : Ask) (end : SourceEnd) (a : WorldChange) → EventEnded (event.Begin name what) end a → EventEnded (event.Run name what) end a
 run_ended name what end a x = record {
-  adds = adds_as (SourceForm (event.Begin name what)) (SourceForm (event.Run name what)) a (λ lines hosts notes form. record { none = form.none; host = form.host; source = form.source; reads = form.reads; free = form.free }) x.adds;
+  adds = adds_as (SourceShape (event.Begin name what)) (SourceShape (event.Run name what)) a (λ lines hosts notes shape. record { none = shape.none; host = shape.host; source = shape.source; reads = shape.reads; free = shape.free }) x.adds;
   keeps = keeps_as (IsToSource (event.Begin name what) end) (IsToSource (event.Run name what) end) a
       (λ files old notes new first does. (record { host = does.0.host; source = does.0.source; reads = does.0.reads; free = does.0.free; ends = does.0.ends }, does.1, does.2)) x.keeps;
 }
@@ -300,7 +300,7 @@ with_lines n m same name what shelf old new told faults files copied now r says 
 
 -- A run: it begins, and then a finish goes on from there.
 
-module _ (name : List ℕ) (what : Ask) (lines : ℕ) (old mid new : WorldView) (told told_now : Option Image) (faults faults_now : ℕ) (files : Option Files) (copied now : ℕ) (formed : IsFormed old) (begun : AskBegun name what (asking lines old mid told faults files copied now)) (modelled : IfModelled told (λ image. length image ≡ lines)) where
+module _ (name : List ℕ) (what : Ask) (lines : ℕ) (old mid new : WorldView) (told told_now : Option Image) (faults faults_now : ℕ) (files : Option Files) (copied now : ℕ) (shaped : IsShaped old) (begun : AskBegun name what (asking lines old mid told faults files copied now)) (modelled : IfModelled told (λ image. length image ≡ lines)) where
   abbrev over : MediaChange
   over = record { old = record { image = told; faults = faults }; new = record { image = told_now; faults = faults_now } }
 
@@ -311,50 +311,50 @@ module _ (name : List ℕ) (what : Ask) (lines : ℕ) (old mid new : WorldView) 
   abbrev a : WorldChange
   a = record { lines = lines; old = old; new = new; media = over; files = files; copied = copied; copied_now = now }
 
-  abbrev forms : List HostForm
-  forms = forms_of old.journal
+  abbrev shapes : List HostShape
+  shapes = shapes_of old.journal
 
-  abbrev start : StartForm NoMore name what lines forms begun.adds.notes
-  start = begun.adds.form.starts
+  abbrev start : StartShape NoMore name what lines shapes begun.adds.notes
+  start = begun.adds.shape.starts
 
   -- the hosts behind its start
-  forms_mid : forms_of mid.journal ≡ forms_after forms (Start start.host start.cmd)
-  forms_mid =
-      ap forms_of begun.adds.joined
-      ∙ forms_both [] old.journal begun.adds.notes
-      ∙ ap (λ (ns : List Note). forms_behind forms ns) (start.notes_are ∙ ap (λ (ns : List Note). Start start.host start.cmd ∷ ns) start.follow)
+  shapes_mid : shapes_of mid.journal ≡ shapes_after shapes (Start start.host start.cmd)
+  shapes_mid =
+      ap shapes_of begun.adds.joined
+      ∙ shapes_both [] old.journal begun.adds.notes
+      ∙ ap (λ (ns : List Note). shapes_behind shapes ns) (start.notes_are ∙ ap (λ (ns : List Note). Start start.host start.cmd ∷ ns) start.follow)
 
-  number_mid : number_of name (shown_forms lines (forms_of mid.journal)) ≡ Some start.host
-  number_mid = sym (number_formed lines mid begun.adds.formed name) ∙ begun.number ∙ number_formed lines old formed name ∙ start.number
+  number_mid : number_of name (shown_shapes lines (shapes_of mid.journal)) ≡ Some start.host
+  number_mid = sym (number_shaped lines mid begun.adds.shaped name) ∙ begun.number ∙ number_shaped lines old shaped name ∙ start.number
 
   -- with notes of operations behind it
-  joined : (P Q : ℕ → List HostForm → List Note → Type 0) → AddsForm P b → ((notes : List Note) → P lines (forms_of mid.journal) notes → Q lines forms (begun.adds.notes ++ notes)) → AddsForm Q a
-  joined P Q x form = record {
+  joined : (P Q : ℕ → List HostShape → List Note → Type 0) → AddsShape P b → ((notes : List Note) → P lines (shapes_of mid.journal) notes → Q lines shapes (begun.adds.notes ++ notes)) → AddsShape Q a
+  joined P Q x shape = record {
     notes = begun.adds.notes ++ x.notes;
     joined = x.joined ∙ ap (λ (j : List Note). j ++ x.notes) begun.adds.joined ∙ append_assoc old.journal begun.adds.notes x.notes;
-    named = named_more (length old.hosts) begun.adds.notes x.notes begun.adds.named (subst (λ (n : ℕ). AreNamed n x.notes) begun.count_is x.named);
+    named = named_both (length old.hosts) begun.adds.notes x.notes begun.adds.named (subst (λ (n : ℕ). AreNamed n x.notes) begun.count_is x.named);
     counted = let m = begun.adds.counted in let n = x.counted in let sum = faults_both begun.adds.notes x.notes in omega (arith, m, n, sum);
     later = x.later;
     fits = x.fits;
-    formed = x.formed;
-    form = form x.notes x.form;
+    shaped = x.shaped;
+    shape = shape x.notes x.shape;
   }
 
-  starting_form : (Q : ℕ → List HostForm → List Note → Type 0) (notes : List Note) → Q start.host (forms_of mid.journal) notes → StartForm Q name what lines forms (begun.adds.notes ++ notes)
-  starting_form Q notes is = record {
+  starting_shape : (Q : ℕ → List HostShape → List Note → Type 0) (notes : List Note) → Q start.host (shapes_of mid.journal) notes → StartShape Q name what lines shapes (begun.adds.notes ++ notes)
+  starting_shape Q notes is = record {
     host = start.host;
     number = start.number;
     cmd = start.cmd;
     asked = start.asked;
     rest = notes;
     notes_are = ap (λ (ns : List Note). ns ++ notes) (start.notes_are ∙ ap (λ (ns : List Note). Start start.host start.cmd ∷ ns) start.follow);
-    follow = subst (λ (fs : List HostForm). Q start.host fs notes) forms_mid is;
+    follow = subst (λ (fs : List HostShape). Q start.host fs notes) shapes_mid is;
   }
 
   -- and where the image is modelled
-  joins : (P : Session → List Note → Session → Type 0) (Q : Files → Session → List Note → Session → Type 0) → Told (λ files start. Keeps P start) b
-      → ((files_now : Files) (first : Image) (state : Machines) (k : Keeps (Starts name what now files_now) first (asking lines old mid told faults files copied now) state) (m : Keeps P first b k.comes.last.machines)
-      → Q files_now (session state copied) (k.comes.notes ++ m.comes.notes) m.comes.last) → Told (λ files first. Keeps (Q files) first) a
+  joins : (P : Session → List Note → Session → Type 0) (Q : Files → Session → List Note → Session → Type 0) → Told (λ files start. ComesHeld P start) b
+      → ((files_now : Files) (first : Image) (state : Machines) (k : ComesHeld (AskStarts name what now files_now) first (asking lines old mid told faults files copied now) state) (m : ComesHeld P first b k.comes.last.machines)
+      → Q files_now (session state copied) (k.comes.notes ++ m.comes.notes) m.comes.last) → Told (λ files first. ComesHeld (Q files) first) a
   joins P Q x row first files_now state files_are told_is held =
       let k = begun.keeps first files_now state files_are told_is held in
       let m = x first files_now k.comes.last.machines files_are k.comes.told_is k.held in
@@ -369,15 +369,15 @@ module _ (name : List ℕ) (what : Ask) (lines : ℕ) (old mid new : WorldView) 
         held = m.held;
       }
 
-  completes_form : (notes : List Note) → DoesForm (call.Finishes name) lines (forms_of mid.journal) notes → CompletesForm start.host (forms_of mid.journal) notes
-  completes_form notes form =
-      by_form (slice_get (forms_of mid.journal) start.host)
-      (subst (λ (o : Option ℕ). AtForm o (forms_of mid.journal) (λ h f. ActsForm (call.Finishes name) h f lines (forms_of mid.journal) notes)) number_mid
-      (subst (λ (r : Option Refusal). FormByRefusal name r notes (FreeForm (call.Finishes name) lines (forms_of mid.journal) notes)) (sym (refusal_formed lines mid begun.adds.formed (call.Finishes name) tt) ∙ begun.runs) form))
+  completes_shape : (notes : List Note) → DoesShape (call.Finishes name) lines (shapes_of mid.journal) notes → CompletesShape start.host (shapes_of mid.journal) notes
+  completes_shape notes shape =
+      by_shape (slice_get (shapes_of mid.journal) start.host)
+      (subst (λ (o : Option ℕ). AtShape o (shapes_of mid.journal) (λ h f. ActsShape (call.Finishes name) h f lines (shapes_of mid.journal) notes)) number_mid
+      (subst (λ (r : Option Refusal). ShapeByRefusal name r notes (FreeShape (call.Finishes name) lines (shapes_of mid.journal) notes)) (sym (refusal_shaped lines mid begun.adds.shaped (call.Finishes name) tt) ∙ begun.runs) shape))
     where
-      by_form : (o : Option HostForm) → OfHostForm o (λ f. ActsForm (call.Finishes name) start.host f lines (forms_of mid.journal) notes) → CompletesForm start.host (forms_of mid.journal) notes
-      by_form None none = absurd none
-      by_form (Some f) x = x
+      by_shape : (o : Option HostShape) → OfHostShape o (λ f. ActsShape (call.Finishes name) start.host f lines (shapes_of mid.journal) notes) → CompletesShape start.host (shapes_of mid.journal) notes
+      by_shape None none = absurd none
+      by_shape (Some f) x = x
 
   completes : (first : Image) (state : Machines) → Held first state mid state.memory → length state.memory ≡ lines → (notes : List Note) (left : Machines) → Does (call.Finishes name) state notes left → (h : ℕ) × (number_of name state ≡ Some h) × Completes h state notes left
   completes first state held lines_are notes left row =
@@ -397,8 +397,8 @@ module _ (name : List ℕ) (what : Ask) (lines : ℕ) (old mid new : WorldView) 
 
   run_done : CallDone (call.Finishes name) b → EventDone (event.Run name what) a
   run_done x = record {
-    adds = joined (DoesForm (call.Finishes name)) (EventForm (event.Run name what)) x.adds (λ notes form.
-        started_as CompletesForm name what lines forms (begun.adds.notes ++ notes) begun.adds.form.free (starting_form CompletesForm notes (completes_form notes form)));
+    adds = joined (DoesShape (call.Finishes name)) (EventShape (event.Run name what)) x.adds (λ notes shape.
+        started_as CompletesShape name what lines shapes (begun.adds.notes ++ notes) begun.adds.shape.free (starting_shape CompletesShape notes (completes_shape notes shape)));
     keeps = joins (Calls (call.Finishes name)) (IsDoneBy (event.Run name what) now) x.keeps (λ files_now first state k m.
         let c = completes first k.comes.last.machines k.held (lines_mid k.comes.last.machines k.comes.told_is) m.comes.notes m.comes.last.machines m.comes.does.0 in (
           inl record {
@@ -419,26 +419,26 @@ module _ (name : List ℕ) (what : Ask) (lines : ℕ) (old mid new : WorldView) 
   -- some operations of it, without its answer, where no memory was left
 
   -- the host runs it
-  runs_mid : runs_form (slice_get (forms_of mid.journal) start.host) ≡ true
+  runs_mid : runs_shape (slice_get (shapes_of mid.journal) start.host) ≡ true
   runs_mid =
-      let r = free_runs lines mid begun.adds.formed name (sym (finish_as_step name mid lines) ∙ begun.runs) in
-      subst (λ (h : ℕ). runs_form (slice_get (forms_of mid.journal) h) ≡ true) (same_Some r.0 start.host (sym r.1 ∙ number_formed lines mid begun.adds.formed name ∙ number_mid)) r.2
+      let r = free_runs lines mid begun.adds.shaped name (sym (finish_as_step name mid lines) ∙ begun.runs) in
+      subst (λ (h : ℕ). runs_shape (slice_get (shapes_of mid.journal) h) ≡ true) (same_Some r.0 start.host (sym r.1 ∙ number_shaped lines mid begun.adds.shaped name ∙ number_mid)) r.2
 
-  part_form : (notes : List Note) → PartForm (call.Finishes name) lines (forms_of mid.journal) notes → UnfinishedForm start.host (forms_of mid.journal) notes
-  part_form notes (inl none) = subst (λ (ns : List Note). UnfinishedForm start.host (forms_of mid.journal) ns) (sym none) record { operations = tt; runs = runs_mid }
-  part_form notes (inr x) = subst (λ (h : ℕ). UnfinishedForm h (forms_of mid.journal) notes) (same_Some x.host start.host (sym x.number ∙ number_mid)) x.part
+  part_shape : (notes : List Note) → PartShape (call.Finishes name) lines (shapes_of mid.journal) notes → UnfinishedShape start.host (shapes_of mid.journal) notes
+  part_shape notes (inl none) = subst (λ (ns : List Note). UnfinishedShape start.host (shapes_of mid.journal) ns) (sym none) record { operations = tt; runs = runs_mid }
+  part_shape notes (inr x) = subst (λ (h : ℕ). UnfinishedShape h (shapes_of mid.journal) notes) (same_Some x.host start.host (sym x.number ∙ number_mid)) x.part
 
   unfinished : (first : Image) (state : Machines) → Held first state mid state.memory → (notes : List Note) (left : Machines) → FinishPart name state notes left → (h : ℕ) × (number_of name state ≡ Some h) × Unfinished h state notes left
   unfinished first state held notes left (inl x) = (x.host, x.number, x.does)
   unfinished first state held notes left (inr x) = (
     start.host,
-    number_shown (length first) state mid name held.stands ∙ number_formed lines mid begun.adds.formed name ∙ number_mid,
-    record { count = 0; does = x; runs = ap (busy_at start.host) x.1 ∙ busy_is first state mid held begun.adds.formed start.host ∙ runs_mid },
+    number_shown (length first) state mid name held.stands ∙ number_shaped lines mid begun.adds.shaped name ∙ number_mid,
+    record { count = 0; does = x; runs = ap (busy_at start.host) x.1 ∙ busy_is first state mid held begun.adds.shaped start.host ∙ runs_mid },
   )
 
   run_part : CallPart (call.Finishes name) b → EventPart (event.Run name what) a
   run_part x = record {
-    adds = joined (PartForm (call.Finishes name)) (FormOfPart (event.Run name what)) x.adds (λ notes form. inr (starting_form UnfinishedForm notes (part_form notes form)));
+    adds = joined (PartShape (call.Finishes name)) (ShapeOfPart (event.Run name what)) x.adds (λ notes shape. inr (starting_shape UnfinishedShape notes (part_shape notes shape)));
     keeps = joins (CallsPart (call.Finishes name)) (IsPart (event.Run name what)) x.keeps (λ files_now first state k m.
         let c = unfinished first k.comes.last.machines k.held m.comes.notes m.comes.last.machines m.comes.does.0 in
         inr record {
@@ -456,6 +456,6 @@ module _ (name : List ℕ) (what : Ask) (lines : ℕ) (old mid new : WorldView) 
 
   pub run_says : (shelf : ShelfChange) (r : Result (Unit {0}) EventFault) → CallSays (call.Finishes name) b r → EventSays (event.Run name what) shelf a r
   run_says shelf (Ok x) says = run_done says
-  run_says shelf (Err fault.MkfsFailed) says = absurd says.adds.form
+  run_says shelf (Err fault.MkfsFailed) says = absurd says.adds.shape
   run_says shelf (Err (fault.SourceEnded end)) says = absurd says
   run_says shelf (Err fault.OutOfMemory) says = run_part says

@@ -1,8 +1,6 @@
-pub mod Lists
 pub mod Refusals
 pub mod WithoutMedia
 pub mod OverMedia
-pub mod Running
 pub mod Asking
 pub mod Stepping
 pub mod Counted

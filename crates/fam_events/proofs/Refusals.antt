@@ -10,7 +10,7 @@ use Rattle.fam_format.specs.Stop.{or_else}
 use Rattle.fam_journal.specs.declared.refusal.Refusal.{Refusal}
 use Rattle.fam_journal.specs.declared.refusal.Refusal.TheVariants as why
 use Rattle.fam_journal.specs.Calls as call
-use Rattle.fam_journal.specs.Calls.{Call, IsOfSource, begins_refusal, busy_at, has_name, keeps_at, umounts_refusal, host_limit, idle_refusal, is_same, name_of, number_of, on_host, refusal_of, same_refusal, when}
+use Rattle.fam_journal.specs.Calls.{Call, IsOfSource, begins_refusal, busy_at, has_name, keeps_at, umounts_refusal, host_limit, idle_refusal, is_same, asked_name, number_of, on_host, refusal_of, same_refusal, when}
 use Rattle.fam_journal.specs.Ends.{cause_faults, faults_of}
 use Rattle.fam_journal.specs.Machines.{Machines}
 use Rattle.fam_journal.specs.Members.{index_from, index_of}
@@ -170,5 +170,5 @@ module _ (lines : ℕ) (old : WorldView) where
   hosts_notes c takes = by_refusal (refusal_in c old lines) refl
     where
       by_refusal : (o : Option Refusal) → refusal_in c old lines ≡ o → HostsNotes c (acted_by o c lines old)
-      by_refusal (Some cause) is = one_refused c (name_of c) cause _ (world_own c (is_quiet c takes) cause is) refl
+      by_refusal (Some cause) is = one_refused c (asked_name c) cause _ (world_own c (is_quiet c takes) cause is) refl
       by_refusal None is = acted_notes c takes

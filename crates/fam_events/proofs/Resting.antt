@@ -8,7 +8,7 @@ use Rattle.fam_commands.specs.Task.{mounted}
 use Rattle.fam_rules.specs.Decide.{wish_of}
 use Rattle.fam_journal.specs.declared.event.Ask.{Ask}
 use Rattle.fam_journal.specs.declared.event.Ask.TheVariants as ask
-use Rattle.fam_journal.specs.EventForms.{AskForm}
+use Rattle.fam_journal.specs.EventShapes.{AskShape}
 use Rattle.fam_journal.specs.declared.refusal.Refusal.{Refusal}
 use Rattle.fam_journal.specs.Calls as call
 use Rattle.fam_journal.specs.CallRecords.{IsUnstoredAt, WorldCall}
@@ -58,11 +58,11 @@ module _ (name : List ℕ) (cmd : Cmd) (lines : ℕ) (old new : WorldView) (begi
       by_old (Some v) is = subst IsReader (same_Some (with_task v) view is) (mounted_reads v.kept cmd v.uuid lines none)
 
 -- the command of an ask that only reads appends nothing
-pub asked_reads : (what : Ask) (cmd : Cmd) → AskForm what cmd → AsksToRead what → wish_of cmd ≡ None
-asked_reads (ask.Plain own) cmd form none = ap wish_of form ∙ none
-asked_reads (ask.Cp source path attr stripe) cmd form none = absurd none
-asked_reads (ask.VerifySource path source) cmd form none = ap wish_of form.1
-asked_reads (ask.Check source) cmd form none = ap wish_of form.1
+pub asked_reads : (what : Ask) (cmd : Cmd) → AskShape what cmd → AsksToRead what → wish_of cmd ≡ None
+asked_reads (ask.Plain own) cmd shape none = ap wish_of shape ∙ none
+asked_reads (ask.Cp source path attr stripe) cmd shape none = absurd none
+asked_reads (ask.VerifySource path source) cmd shape none = ap wish_of shape.1
+asked_reads (ask.Check source) cmd shape none = ap wish_of shape.1
 
 pub begun_reading : (r : Result Asked EventFault) (W R P : Type 0) → OnOk r (W → P) → (R → W) → IfOk r (λ asked. asked ≡ Begun → R → P)
 begun_reading (Ok x) W R P so from = λ begun reads. so (from reads)

@@ -9,7 +9,7 @@ use Rattle.fam_journal.specs.declared.refusal.Refusal.{Refusal}
 use Rattle.fam_journal.specs.Calls as call
 use Rattle.fam_journal.specs.Calls.{Call, Does}
 use Rattle.fam_journal.specs.CallRecords.{DoesPart, DoesRow, FitsMedia, IsSoundCall, WorldCall}
-use Rattle.fam_journal.specs.Forms.{DoesForm, HostForm, IsFormed, PartForm, forms_of}
+use Rattle.fam_journal.specs.Shapes.{DoesShape, HostShape, IsShaped, PartShape, shapes_of}
 use Rattle.fam_journal.specs.Kept.{Held}
 use Rattle.fam_journal.specs.Machines.{Machines}
 use Rattle.fam_journal.specs.Notes.{Note}
@@ -17,13 +17,13 @@ use Rattle.fam_journal.specs.View.{WorldStands, WorldView}
 use Rattle.fam_journal.specs.ByWorld.{TakesNoMedia, world_after}
 use Rattle.fam_journal.proofs.JournalLaws.{kept_on}
 use Rattle.fam_journal.proofs.Calls.WorldRows.{row_done}
-use Rattle.fam_journal.proofs.Forms.WithoutMedia.{solo_form}
+use Rattle.fam_journal.proofs.Shapes.WithoutMedia.{solo_shape}
 use Rattle.fam_world.specs.Answers.{IfAnswered}
 use Rattle.fam_world.specs.declared.fault.WorldFault.{WorldFault}
 use Rattle.fam_world.specs.declared.fault.WorldFault.TheVariants as fault
-use Rattle.fam_world.proofs.Finishing.{behind_same}
+use Rattle.fam_journal.proofs.Growth.{behind_same}
 use Rattle.fam_world.proofs.Fits.{world_fits}
-use Rattle.fam_events.specs.WorldChange.{AddsForm, WorldChange, Keeps, Told, asking, session, still}
+use Rattle.fam_events.specs.WorldChange.{AddsShape, WorldChange, ComesHeld, Told, asking, session, still}
 use Rattle.fam_events.specs.Calls.{CallDone, CallPart, CallSays, CallsPart, outcome}
 use Rattle.fam_events.specs.Steps.{IsStill}
 use Rattle.fam_events.proofs.Refusals.{hosts_notes}
@@ -46,9 +46,9 @@ module _ (c : Call) (lines : ℕ) (answered : Option Refusal) (old new : WorldVi
         held = kept_on start state x.left old new c x.notes held sound x.row here joined;
       }
 
-  pub quiet_adds : IsFormed old → FitsMedia lines old.hosts → (told : Option Image) (faults : ℕ) (files : Option Files) (copied copied_now : ℕ) → AddsForm (DoesForm c) (asking lines old new told faults files copied copied_now)
-  quiet_adds formed fits told faults files copied copied_now =
-      let x = solo_form lines old formed c takes in
+  pub quiet_adds : IsShaped old → FitsMedia lines old.hosts → (told : Option Image) (faults : ℕ) (files : Option Files) (copied copied_now : ℕ) → AddsShape (DoesShape c) (asking lines old new told faults files copied copied_now)
+  quiet_adds shaped fits told faults files copied copied_now =
+      let x = solo_shape lines old shaped c takes in
       let n = hosts_notes lines old c takes in
       let same : n.notes ≡ x.notes = behind_same old.journal n.notes x.notes (sym n.joined ∙ x.joined) in
       record {
@@ -58,15 +58,15 @@ module _ (c : Call) (lines : ℕ) (answered : Option Refusal) (old new : WorldVi
         counted = let none = n.faultless in omega (arith, none);
         later = omega arith;
         fits = subst (λ (z : WorldView). FitsMedia lines z.hosts) (sym w.after) (world_fits c lines old fits);
-        formed = subst IsFormed (sym w.after) x.formed;
-        form = subst (λ (z : List Note). DoesForm c lines (forms_of old.journal) z) (sym same) x.form;
+        shaped = subst IsShaped (sym w.after) x.shaped;
+        shape = subst (λ (z : List Note). DoesShape c lines (shapes_of old.journal) z) (sym same) x.shape;
       }
 
 -- nothing is done
 
-pub nothing_form : (c : Call) (lines : ℕ) (hosts : List HostForm) → PartForm c lines hosts []
-nothing_form (call.Finishes name) lines hosts = inl refl
-nothing_form other lines hosts = refl
+pub nothing_shape : (c : Call) (lines : ℕ) (hosts : List HostShape) → PartShape c lines hosts []
+nothing_shape (call.Finishes name) lines hosts = inl refl
+nothing_shape other lines hosts = refl
 
 pub nothing_part : (c : Call) (state : Machines) → DoesPart c state [] state
 nothing_part (call.Finishes name) state = inr (refl, refl)
@@ -76,20 +76,20 @@ module _ (a : WorldChange) (still : IsStill a) where
   same_journal : a.new.journal ≡ a.old.journal ++ []
   same_journal = ap (λ (z : WorldView). z.journal) still.world ∙ sym (append-nil a.old.journal)
 
-  pub still_adds : (form : ℕ → List HostForm → List Note → Type 0) → IsFormed a.old → FitsMedia a.lines a.old.hosts → form a.lines (forms_of a.old.journal) [] → AddsForm form a
-  still_adds form formed fits is = record {
+  pub still_adds : (shape : ℕ → List HostShape → List Note → Type 0) → IsShaped a.old → FitsMedia a.lines a.old.hosts → shape a.lines (shapes_of a.old.journal) [] → AddsShape shape a
+  still_adds shape shaped fits is = record {
     notes = [];
     joined = same_journal;
     named = tt;
     counted = let same = still.count in omega (arith, same);
     later = let same = still.count in omega (arith, same);
     fits = subst (λ (z : WorldView). FitsMedia a.lines z.hosts) (sym still.world) fits;
-    formed = subst IsFormed (sym still.world) formed;
-    form = is;
+    shaped = subst IsShaped (sym still.world) shaped;
+    shape = is;
   }
 
   pub still_keeps : (P : Files → Rattle.fam_journal.specs.Events.Session → List Note → Rattle.fam_journal.specs.Events.Session → Type 0) → ((files : Files) (start : Image) (state : Machines) → a.files ≡ Some files → a.media.old.image ≡ Some state.memory → Held start state a.old state.memory → P files (session state a.copied) [] (session state a.copied))
-      → Told (λ files start. Keeps (P files) start) a
+      → Told (λ files start. ComesHeld (P files) start) a
   still_keeps P each start files state files_are told_is held = record {
     comes = record {
       last = session state a.copied;
@@ -101,18 +101,18 @@ module _ (a : WorldChange) (still : IsStill a) where
     held = subst (λ (z : WorldView). Held start state z state.memory) (sym still.world) held;
   }
 
-  pub still_part : (c : Call) → IsFormed a.old → FitsMedia a.lines a.old.hosts → CallPart c a
-  still_part c formed fits = record {
-    adds = still_adds (PartForm c) formed fits (nothing_form c a.lines (forms_of a.old.journal));
+  pub still_part : (c : Call) → IsShaped a.old → FitsMedia a.lines a.old.hosts → CallPart c a
+  still_part c shaped fits = record {
+    adds = still_adds (PartShape c) shaped fits (nothing_shape c a.lines (shapes_of a.old.journal));
     keeps = still_keeps (λ files. CallsPart c) (λ files start state files_are told_is held. (nothing_part c state, refl));
   }
 
 -- a call with its answer
-module _ (c : Call) (lines : ℕ) (old new : WorldView) (sound : IsSoundCall c) (takes : TakesNoMedia c lines old) (formed : IsFormed old) (fits : FitsMedia lines old.hosts)
+module _ (c : Call) (lines : ℕ) (old new : WorldView) (sound : IsSoundCall c) (takes : TakesNoMedia c lines old) (shaped : IsShaped old) (fits : FitsMedia lines old.hosts)
     (told : Option Image) (faults : ℕ) (files : Option Files) (copied : ℕ) (modelled : IfModelled told (λ image. length image ≡ lines)) where
   quiet_done : (answered : Option Refusal) → WorldCall c lines answered old new → CallDone c (still lines old new told faults files copied)
   quiet_done answered w = record {
-    adds = quiet_adds c lines answered old new w takes formed fits told faults files copied copied;
+    adds = quiet_adds c lines answered old new w takes shaped fits told faults files copied copied;
     keeps = λ start files state files_are told_is held.
         let d = quiet_row c lines answered old new w takes sound start state held (modelled state.memory told_is) in
         record {
@@ -124,4 +124,4 @@ module _ (c : Call) (lines : ℕ) (old new : WorldView) (sound : IsSoundCall c) 
   pub quiet_says : (called : Result (Unit {0}) WorldFault) → IfAnswered called (λ answered. WorldCall c lines answered old new) → (IsErrOf called fault.OutOfMemory → new ≡ old) → CallSays c (still lines old new told faults files copied) (outcome called)
   quiet_says (Ok x) w undone = quiet_done None w
   quiet_says (Err (fault.Refused cause)) w undone = quiet_done (Some cause) w
-  quiet_says (Err fault.OutOfMemory) w undone = still_part (still lines old new told faults files copied) (record { world = undone refl; media = refl; count = refl }) c formed fits
+  quiet_says (Err fault.OutOfMemory) w undone = still_part (still lines old new told faults files copied) (record { world = undone refl; media = refl; count = refl }) c shaped fits

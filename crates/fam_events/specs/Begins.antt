@@ -6,9 +6,9 @@ use Rattle.fam_sources.specs.Sourced.{HasEndCause}
 use Rattle.fam_journal.specs.declared.event.Ask.{Ask}
 use Rattle.fam_journal.specs.declared.event.Event.TheVariants.{Begin}
 use Rattle.fam_journal.specs.Calls.{may_begin}
-use Rattle.fam_journal.specs.EventForms.{NoMore, StartForm, UnfitNotes}
-use Rattle.fam_journal.specs.Events.{IsBegun, RefusesEvent, Session, mounts}
-use Rattle.fam_journal.specs.Forms.{FormByRefusal, HostForm, shown_forms}
+use Rattle.fam_journal.specs.EventShapes.{NoMore, StartShape, UnfitNotes}
+use Rattle.fam_journal.specs.Events.{CommandBegins, RefusesEvent, Session, mounts}
+use Rattle.fam_journal.specs.Shapes.{ShapeByRefusal, HostShape, shown_shapes}
 use Rattle.fam_journal.specs.Notes.{Note}
 use Rattle.fam_journal.specs.ByWorld.{number_in, refusal_in}
 use Rattle.fam_journal.specs.Calls as call
@@ -16,12 +16,12 @@ use Rattle.fam_events.specs.declared.asks.Asked.{Asked}
 use Rattle.fam_events.specs.declared.asks.Asked.TheVariants.{Begun, Refused}
 use Rattle.fam_events.specs.declared.fault.EventFault.{EventFault}
 use Rattle.fam_events.specs.declared.fault.EventFault.TheVariants as fault
-use Rattle.fam_events.specs.WorldChange.{AddsForm, WorldChange, Keeps, Told}
+use Rattle.fam_events.specs.WorldChange.{AddsShape, WorldChange, ComesHeld, Told}
 use Rattle.fam_events.specs.Happens.{EventEnded}
 
 -- nothing may begin there, or the source is none
-abbrev pub RefusedForm : List ℕ → Ask → ℕ → List HostForm → List Note → Type 0
-RefusedForm name what lines hosts notes = FormByRefusal name (may_begin name (mounts what) (shown_forms lines hosts)) notes (UnfitNotes name what notes)
+abbrev pub RefusedShape : List ℕ → Ask → ℕ → List HostShape → List Note → Type 0
+RefusedShape name what lines hosts notes = ShapeByRefusal name (may_begin name (mounts what) (shown_shapes lines hosts)) notes (UnfitNotes name what notes)
 
 -- an ask is refused, and its media isn't touched
 abbrev pub Refuses : List ℕ → Ask → ℕ → Files → Session → List Note → Session → Type 0
@@ -29,22 +29,22 @@ Refuses name what copied files old notes new = RefusesEvent files name what old 
 
 -- an ask was refused: its note, and what stays
 pub record AskRefused (name : List ℕ) (what : Ask) (a : WorldChange) : Type 0 where
-  pub adds : AddsForm (RefusedForm name what) a
-  pub keeps : Told (λ files start. Keeps (Refuses name what a.copied_now files) start) a
+  pub adds : AddsShape (RefusedShape name what) a
+  pub keeps : Told (λ files start. ComesHeld (Refuses name what a.copied_now files) start) a
 
 -- the command begins: nothing stood against it, and now it runs
-pub record BegunForm (name : List ℕ) (what : Ask) (lines : ℕ) (hosts : List HostForm) (notes : List Note) : Type 0 where
-  pub free : may_begin name (mounts what) (shown_forms lines hosts) ≡ None
-  pub starts : StartForm NoMore name what lines hosts notes
+pub record BegunShape (name : List ℕ) (what : Ask) (lines : ℕ) (hosts : List HostShape) (notes : List Note) : Type 0 where
+  pub free : may_begin name (mounts what) (shown_shapes lines hosts) ≡ None
+  pub starts : StartShape NoMore name what lines hosts notes
 
 -- a host begins what it is asked for
-abbrev pub Starts : List ℕ → Ask → ℕ → Files → Session → List Note → Session → Type 0
-Starts name what copied files old notes new = IsBegun files name what old notes new × (new.copied ≡ copied)
+abbrev pub AskStarts : List ℕ → Ask → ℕ → Files → Session → List Note → Session → Type 0
+AskStarts name what copied files old notes new = CommandBegins files name what old notes new × (new.copied ≡ copied)
 
 -- a host began what it is asked for: its note, and what stays
 pub record AskBegun (name : List ℕ) (what : Ask) (a : WorldChange) : Type 0 where
-  pub adds : AddsForm (BegunForm name what) a
-  pub keeps : Told (λ files start. Keeps (Starts name what a.copied_now files) start) a
+  pub adds : AddsShape (BegunShape name what) a
+  pub keeps : Told (λ files start. ComesHeld (AskStarts name what a.copied_now files) start) a
   pub number : number_in name a.new ≡ number_in name a.old
   pub count_is : length a.new.hosts ≡ length a.old.hosts
   pub runs : refusal_in (call.Finishes name) a.new a.lines ≡ None
@@ -55,8 +55,8 @@ Nothing old notes new = (notes ≡ []) × (new ≡ old)
 
 -- no memory was found: all is as it was
 pub record AskUndone (a : WorldChange) : Type 0 where
-  pub adds : AddsForm (λ lines hosts notes. notes ≡ []) a
-  pub keeps : Told (λ files start. Keeps Nothing start) a
+  pub adds : AddsShape (λ lines hosts notes. notes ≡ []) a
+  pub keeps : Told (λ files start. ComesHeld Nothing start) a
 
 -- what is promised of an ask, by how it came out
 abbrev pub AskSays : List ℕ → Ask → ShelfChange → WorldChange → Result Asked EventFault → Type 0

@@ -1,13 +1,13 @@
 -- What calls of the world come to, as parts of events.
 use Rattle.std.specs.Prelude.{◌≡◌, List, Result, Ok, Err}
 use Rattle.fam_journal.specs.declared.refusal.Refusal.{Refusal}
-use Rattle.fam_journal.specs.Calls.{BreaksOff, Call}
+use Rattle.fam_journal.specs.Calls.{CutCall, Call}
 use Rattle.fam_journal.specs.CallRecords.{DoesPart}
 use Rattle.fam_journal.specs.Ends.{CutCallReads}
 use Rattle.fam_journal.specs.Events.{Calls, Session}
-use Rattle.fam_journal.specs.Forms.{BreaksForm, DoesForm, PartForm}
+use Rattle.fam_journal.specs.Shapes.{BreaksShape, DoesShape, PartShape}
 use Rattle.fam_journal.specs.Notes.{Note}
-use Rattle.fam_events.specs.WorldChange.{WorldChange, AddsForm, Breaks, Keeps, Told}
+use Rattle.fam_events.specs.WorldChange.{WorldChange, AddsShape, ComesBroken, ComesHeld, Told}
 use Rattle.fam_events.specs.declared.fault.EventFault.{EventFault}
 use Rattle.fam_events.specs.declared.fault.EventFault.TheVariants as fault
 use Rattle.fam_world.specs.declared.fault.WorldFault.{WorldFault}
@@ -44,22 +44,22 @@ CallsPart c old notes new = DoesPart c old.machines notes new.machines × (new.c
 
 -- a call is cut by a media fault, behind which nothing goes on
 abbrev pub CallsBreak : Call → Session → List Note → Session → Type 0
-CallsBreak c old notes new = BreaksOff c old.machines notes new.machines × (new.copied ≡ old.copied)
+CallsBreak c old notes new = CutCall c old.machines notes new.machines × (new.copied ≡ old.copied)
 
 -- the call did its row
 pub record CallDone (c : Call) (a : WorldChange) : Type 0 where
-  pub adds : AddsForm (DoesForm c) a
-  pub keeps : Told (λ files start. Keeps (Calls c) start) a
+  pub adds : AddsShape (DoesShape c) a
+  pub keeps : Told (λ files start. ComesHeld (Calls c) start) a
 
 -- a mkfs was cut
 pub record CallBroken (c : Call) (a : WorldChange) : Type 0 where
-  pub adds : AddsForm (BreaksForm c) a
-  pub keeps : Told (λ files start. Breaks (CallsBreak c) (λ old. CutCallReads c old.machines) start) a
+  pub adds : AddsShape (BreaksShape c) a
+  pub keeps : Told (λ files start. ComesBroken (CallsBreak c) (λ old. CutCallReads c old.machines) start) a
 
 -- no memory was left
 pub record CallPart (c : Call) (a : WorldChange) : Type 0 where
-  pub adds : AddsForm (PartForm c) a
-  pub keeps : Told (λ files start. Keeps (CallsPart c) start) a
+  pub adds : AddsShape (PartShape c) a
+  pub keeps : Told (λ files start. ComesHeld (CallsPart c) start) a
 
 -- by how it went
 abbrev pub CallSays : Call → WorldChange → Result (Unit {0}) EventFault → Type 0

@@ -6,7 +6,7 @@ use Rattle.fam_media.specs.States.{change, MediaState, MediaChange}
 use Rattle.fam_journal.specs.CallRecords.{FitsMedia}
 use Rattle.fam_journal.specs.Ends.{HasCounted}
 use Rattle.fam_journal.specs.Events.{Session}
-use Rattle.fam_journal.specs.Forms.{HostForm, IsFormed, forms_of}
+use Rattle.fam_journal.specs.Shapes.{HostShape, IsShaped, shapes_of}
 use Rattle.fam_journal.specs.Kept.{Held}
 use Rattle.fam_journal.specs.Legal.{Legal}
 use Rattle.fam_journal.specs.Machines.{Machines}
@@ -54,17 +54,17 @@ world_change size state media media_now old new files copied copied_now = record
   copied_now = copied_now;
 }
 
--- On every media and shelf: notes of a form are added, which name hosts that were declared; the media's count rose by as many
+-- On every media and shelf: notes of a shape are added, which name hosts that were declared; the media's count rose by as many
 -- faults as they tell; tasks and cached lines are those of the media; and hosts are what the journal tells.
-pub record AddsForm (P : ℕ → List HostForm → List Note → Type 0) (a : WorldChange) : Type 0 where
+pub record AddsShape (P : ℕ → List HostShape → List Note → Type 0) (a : WorldChange) : Type 0 where
   pub notes : List Note
   pub joined : a.new.journal ≡ a.old.journal ++ notes
   pub named : AreNamed (length a.old.hosts) notes
   pub counted : HasCounted a.media.old.faults a.media.new.faults notes
   pub later : a.media.old.faults ≤ a.media.new.faults
   pub fits : FitsMedia a.lines a.new.hosts
-  pub formed : IsFormed a.new
-  pub form : P a.lines (forms_of a.old.journal) notes
+  pub shaped : IsShaped a.new
+  pub shape : P a.lines (shapes_of a.old.journal) notes
 
 -- Where image and files are modelled: on a state at which the world was held a relation of sessions holds, with the notes that
 -- are added, and the media has its last image.
@@ -82,12 +82,12 @@ pub record Comes (P : Session → List Note → Session → Type 0) (a : WorldCh
   pub joined : a.new.journal ≡ a.old.journal ++ notes
 
 -- and the world is held again, at the last state
-pub record Keeps (P : Session → List Note → Session → Type 0) (start : Image) (a : WorldChange) (state : Machines) : Type 0 where
+pub record ComesHeld (P : Session → List Note → Session → Type 0) (start : Image) (a : WorldChange) (state : Machines) : Type 0 where
   pub comes : Comes P a state
   pub held : Held start comes.last.machines a.new comes.last.machines.memory
 
 -- or the journal is legal and no more is held, but what the image reads as, by the session before and what its journal settles
-pub record Breaks (P : Session → List Note → Session → Type 0) (R : Session → State → Image → Type 0) (start : Image) (a : WorldChange) (state : Machines) : Type 0 where
+pub record ComesBroken (P : Session → List Note → Session → Type 0) (R : Session → State → Image → Type 0) (start : Image) (a : WorldChange) (state : Machines) : Type 0 where
   pub comes : Comes P a state
   pub legal : Legal start a.new.journal
   pub reads : R (session state a.copied) (past_of start a.old.journal).state comes.last.machines.memory

@@ -12,7 +12,7 @@ ghost use Rattle.fam_journal.specs.Calls.{Begins, Refuses};
 ghost use Rattle.fam_journal.specs.ByWorld.{refusal_in};
 ghost use Rattle.fam_journal.specs.Events.{mounts};
 ghost use Rattle.fam_commands.specs.Classes.{is_mount};
-ghost use Rattle.fam_journal.specs.Forms.{IsFormed};
+ghost use Rattle.fam_journal.specs.Shapes.{IsShaped};
 ghost use Rattle.fam_grammar.specs.Sound.{IsSoundAsk};
 ghost use Rattle.fam_protocol.specs.Tasks.{IsCommand};
 ghost use Rattle.fam_tasks.specs.Sound.{most_lines};
@@ -122,7 +122,7 @@ fn read<S: Shelf>(
 ) -> Result<Asked, EventFault>
     requires sound { IsSoundAsk what }
     requires most { lines ≤ most_lines }
-    requires formed { IsFormed world.old }
+    requires shaped { IsShaped world.old }
     requires free { (cmd : Command) → is_mount cmd ≡ mounts what
         → refusal_in (Begins name.now cmd) world.old lines ≡ None }
     ensures says { (told : Option Image) (faults : ℕ) → IfModelled told (λ image. length image ≡ lines)
@@ -164,7 +164,7 @@ pub(crate) fn ask<S: Shelf>(
 ) -> Result<Asked, EventFault>
     requires sound { IsSoundAsk what }
     requires most { lines ≤ most_lines }
-    requires formed { IsFormed world.old }
+    requires shaped { IsShaped world.old }
     ensures says { (told : Option Image) (faults : ℕ) → IfModelled told (λ image. length image ≡ lines)
         → FitsMedia lines world.old.hosts
         → AskSays name.now what (change S.state shelf.old shelf.new) (asking lines world.old world.new

@@ -6,7 +6,7 @@ ghost use Rattle.fam_format.specs.Params.{is_format};
 ghost use Rattle.fam_journal.specs.Calls.{Declares, Finishes, Halts, Makes, Moves, Stops, Umounts};
 ghost use Rattle.fam_journal.specs.ByWorld.{number_in};
 ghost use Rattle.fam_journal.specs.CallRecords.{FitsMedia, IsUnstoredAt};
-ghost use Rattle.fam_journal.specs.Forms.{IsFormed};
+ghost use Rattle.fam_journal.specs.Shapes.{IsShaped};
 ghost use Rattle.fam_machine.specs.HostMoves as how;
 ghost use Rattle.fam_media.specs.Files.{Files};
 ghost use Rattle.fam_media.specs.Outside.{IfModelled};
@@ -49,7 +49,7 @@ fn made(called: Result<(), WorldFault>) -> Result<(), EventFault>
 
 /// Declares a host.
 pub(crate) fn declare(world: &mut World, name: &HostName, uuid: Uuid) -> Result<(), EventFault>
-    requires formed { IsFormed world.old }
+    requires shaped { IsShaped world.old }
     ensures says { (lines : ℕ) (told : Option Image) (faults : ℕ) (files : Option Files) (copied : ℕ)
         → IfModelled told (λ image. length image ≡ lines) → FitsMedia lines world.old.hosts
         → CallSays (Declares name.now uuid) (still lines world.old world.new told faults files copied) result }
@@ -60,7 +60,7 @@ pub(crate) fn declare(world: &mut World, name: &HostName, uuid: Uuid) -> Result<
 
 /// Ends a host's task.
 pub(crate) fn stop(world: &mut World, name: &HostName) -> Result<(), EventFault>
-    requires formed { IsFormed world.old }
+    requires shaped { IsShaped world.old }
     ensures says { (lines : ℕ) (told : Option Image) (faults : ℕ) (files : Option Files) (copied : ℕ)
         → IfModelled told (λ image. length image ≡ lines) → FitsMedia lines world.old.hosts
         → CallSays (Stops name.now) (still lines world.old world.new told faults files copied) result }
@@ -70,7 +70,7 @@ pub(crate) fn stop(world: &mut World, name: &HostName) -> Result<(), EventFault>
 
 /// Ends a host's task, and loses its cache and what it keeps of the log.
 pub(crate) fn halt(world: &mut World, name: &HostName) -> Result<(), EventFault>
-    requires formed { IsFormed world.old }
+    requires shaped { IsShaped world.old }
     ensures says { (lines : ℕ) (told : Option Image) (faults : ℕ) (files : Option Files) (copied : ℕ)
         → IfModelled told (λ image. length image ≡ lines) → FitsMedia lines world.old.hosts
         → CallSays (Halts name.now) (still lines world.old world.new told faults files copied) result }
@@ -80,7 +80,7 @@ pub(crate) fn halt(world: &mut World, name: &HostName) -> Result<(), EventFault>
 
 /// A host forgets what it keeps of the log.
 pub(crate) fn umount(world: &mut World, name: &HostName) -> Result<(), EventFault>
-    requires formed { IsFormed world.old }
+    requires shaped { IsShaped world.old }
     ensures says { (lines : ℕ) (told : Option Image) (faults : ℕ) (files : Option Files) (copied : ℕ)
         → IfModelled told (λ image. length image ≡ lines) → FitsMedia lines world.old.hosts
         → CallSays (Umounts name.now) (still lines world.old world.new told faults files copied) result }
@@ -95,7 +95,7 @@ pub(crate) fn make<M: Media>(
     name: &HostName,
     request: MkfsRequest,
 ) -> Result<(), EventFault>
-    requires formed { IsFormed world.old }
+    requires shaped { IsShaped world.old }
     requires fits { FitsMedia (M.size media.old) world.old.hosts }
     requires format { IsTrue (is_format request.format) }
     ensures says { (files : Option Files) (copied : ℕ) → CallSays (Makes name.now request) (world_change M.size M.state
@@ -125,7 +125,7 @@ pub(crate) fn finish<M: Media>(
     media: &mut M,
     name: &HostName,
 ) -> Result<(), EventFault>
-    requires formed { IsFormed world.old }
+    requires shaped { IsShaped world.old }
     requires fits { FitsMedia (M.size media.old) world.old.hosts }
     ensures says { (files : Option Files) (copied : ℕ) → CallSays (Finishes name.now) (world_change M.size M.state
         media.old media.new world.old world.new files copied copied) result }
@@ -144,7 +144,7 @@ pub(crate) fn conclude<M: Media>(
     media: &mut M,
     name: &HostName,
 ) -> Result<(), EventFault>
-    requires formed { IsFormed world.old }
+    requires shaped { IsShaped world.old }
     requires fits { FitsMedia (M.size media.old) world.old.hosts }
     requires reads { ReadsOf name.now world.old world.old }
     ensures says { (files : Option Files) (copied : ℕ) → CallShows (Finishes name.now) (world_change M.size M.state
@@ -164,7 +164,7 @@ pub(crate) fn evict<M: Media>(
     name: &HostName,
     line: LineNo,
 ) -> Result<(), EventFault>
-    requires formed { IsFormed world.old }
+    requires shaped { IsShaped world.old }
     requires fits { FitsMedia (M.size media.old) world.old.hosts }
     ensures says { (files : Option Files) (copied : ℕ) → CallSays (Moves name.now line.0 how.Evict) (world_change M.size M.state
         media.old media.new world.old world.new files copied copied) result }
@@ -182,7 +182,7 @@ pub(crate) fn leak<M: Media>(
     line: LineNo,
     mask: Mask,
 ) -> Result<(), EventFault>
-    requires formed { IsFormed world.old }
+    requires shaped { IsShaped world.old }
     requires fits { FitsMedia (M.size media.old) world.old.hosts }
     ensures says { (files : Option Files) (copied : ℕ) → CallSays (Moves name.now line.0 (how.Leak mask.0)) (world_change M.size M.state
         media.old media.new world.old world.new files copied copied) result }
@@ -200,7 +200,7 @@ pub(crate) fn fetch<M: Media>(
     line: LineNo,
     mask: Mask,
 ) -> Result<(), EventFault>
-    requires formed { IsFormed world.old }
+    requires shaped { IsShaped world.old }
     requires fits { FitsMedia (M.size media.old) world.old.hosts }
     ensures says { (files : Option Files) (copied : ℕ) → CallSays (Moves name.now line.0 (how.Fetch mask.0)) (world_change M.size M.state
         media.old media.new world.old world.new files copied copied) result }

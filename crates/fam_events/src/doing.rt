@@ -4,7 +4,7 @@ ghost use Rattle.std.specs.Prelude.{◌≡◌, OnErr, Some};
 ghost use Rattle.fam_grammar.specs.Sound.{IsSoundAsk, IsSoundEvent};
 ghost use Rattle.fam_journal.specs.declared.event.Event.TheVariants as event;
 ghost use Rattle.fam_journal.specs.CallRecords.{FitsMedia};
-ghost use Rattle.fam_journal.specs.Forms.{IsFormed};
+ghost use Rattle.fam_journal.specs.Shapes.{IsShaped};
 ghost use Rattle.fam_media.specs.Causes.{IsShelfSteady};
 ghost use Rattle.fam_media.specs.Outside.{IfModelled};
 ghost use Rattle.fam_media.specs.States.{change};
@@ -36,7 +36,7 @@ fn begin<M: Media, S: Shelf>(
     what: Ask,
 ) -> Result<(), EventFault>
     requires sound { IsSoundAsk what }
-    requires formed { IsFormed world.old }
+    requires shaped { IsShaped world.old }
     requires fits { FitsMedia (M.size media.old) world.old.hosts }
     ensures says { EventSays (event.Begin name what) (change S.state shelf.old shelf.new)
         (world_change M.size M.state media.old media.new world.old world.new (S.state shelf.old).files copied.old copied.new) result }
@@ -60,7 +60,7 @@ fn run<M: Media, S: Shelf>(
     what: Ask,
 ) -> Result<(), EventFault>
     requires sound { IsSoundAsk what }
-    requires formed { IsFormed world.old }
+    requires shaped { IsShaped world.old }
     requires fits { FitsMedia (M.size media.old) world.old.hosts }
     ensures says { EventSays (event.Run name what) (change S.state shelf.old shelf.new)
         (world_change M.size M.state media.old media.new world.old world.new (S.state shelf.old).files copied.old copied.new) result }
@@ -89,7 +89,7 @@ pub fn run_last<M: Media, S: Shelf>(
     what: Ask,
 ) -> Result<(), EventFault>
     requires sound { IsSoundAsk what }
-    requires formed { IsFormed world.old }
+    requires shaped { IsShaped world.old }
     requires fits { FitsMedia (M.size media.old) world.old.hosts }
 
     // What `happen` says of the world is said of one with the same journal.
@@ -127,7 +127,7 @@ pub fn happen<M: Media, S: Shelf>(
     event: Event,
 ) -> Result<(), EventFault>
     requires sound { IsSoundEvent event }
-    requires formed { IsFormed world.old }
+    requires shaped { IsShaped world.old }
     requires fits { FitsMedia (M.size media.old) world.old.hosts }
     ensures says { EventSays event (change S.state shelf.old shelf.new)
         (world_change M.size M.state media.old media.new world.old world.new (S.state shelf.old).files copied.old copied.new) result }

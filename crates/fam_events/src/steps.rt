@@ -5,7 +5,7 @@ ghost use Rattle.fam_journal.specs.declared.event.Event.TheVariants.{Step};
 ghost use Rattle.fam_journal.specs.CallRecords.{FitsMedia};
 ghost use Rattle.fam_journal.specs.Calls.{Steps};
 ghost use Rattle.fam_world.specs.Answers.{IsUntouched};
-ghost use Rattle.fam_journal.specs.Forms.{IsFormed};
+ghost use Rattle.fam_journal.specs.Shapes.{IsShaped};
 ghost use Rattle.fam_media.specs.Files.{Files};
 ghost use Rattle.fam_media.specs.States.{ShelfChange};
 ghost use Rattle.fam_events.specs.WorldChange.{world_change};
@@ -24,7 +24,7 @@ pub(crate) fn step<M: Media>(
     count: u64,
 ) -> Result<(), EventFault>
     requires some { 0 < count }
-    requires formed { IsFormed world.old }
+    requires shaped { IsShaped world.old }
     requires fits { FitsMedia (M.size media.old) world.old.hosts }
     ensures says { (shelf : ShelfChange) (files : Option Files) (copied : ℕ) → EventSays (Step name.now count) shelf
         (world_change M.size M.state media.old media.new world.old world.new files copied copied) result }

@@ -12,7 +12,7 @@ use Rattle.uuid.proofs.TextLemmas.{by_index_at, by_index_length}
 use Rattle.uuid.specs.Text.{by_index, byte_of_digits, close_brace, digits_of, has_hyphens, has_urn_prefix, is_hex_digit, open_brace, parsed, parsed_braced, parsed_hyphenated, parsed_simple, parsed_urn, value_of}
 use Rattle.fam_format.specs.Params.{IsUuid}
 use Rattle.fam_journal.specs.declared.event.Event.{Event}
-use Rattle.fam_journal.specs.Laws.{AreSound, IsSoundEvent}
+use Rattle.fam_journal.specs.Laws.{AreSound, IsValidEvent}
 use Rattle.fam_grammar.specs.declared.keywords.EventWord.{EventWord}
 use Rattle.fam_grammar.specs.declared.keywords.EventWord.TheVariants as word
 use Rattle.fam_grammar.specs.Keywords.{event_word}
@@ -111,43 +111,43 @@ uuid_sound s id is = of_some (uuid_of s) id (word_parses s) is
 
 -- Events.
 
-steps_uuids : (end : ℕ) (name : List ℕ) (words : List Word) → Holds IsSoundEvent (steps_line end name words)
+steps_uuids : (end : ℕ) (name : List ℕ) (words : List Word) → Holds IsValidEvent (steps_line end name words)
 steps_uuids end name [] = tt
-steps_uuids end name (w ∷ words) = behind IsSoundEvent (word_of steps_of end (w ∷ words)) _ (λ count rest. ends_holds IsSoundEvent _ rest tt)
+steps_uuids end name (w ∷ words) = behind IsValidEvent (word_of steps_of end (w ∷ words)) _ (λ count rest. ends_holds IsValidEvent _ rest tt)
 
-event_uuids : (end : ℕ) (name : EventWord) (words : List Word) → Holds IsSoundEvent (event_behind end name words)
+event_uuids : (end : ℕ) (name : EventWord) (words : List Word) → Holds IsValidEvent (event_behind end name words)
 event_uuids end word.Host words =
-    behind IsSoundEvent (word_of name_of end words) _ (λ name rest.
-    then_holds IsUuid IsSoundEvent (word_of uuid_of end rest) _ (word_holds IsUuid uuid_of end rest uuid_sound) (λ uuid rest is. ends_holds IsSoundEvent _ rest is))
+    behind IsValidEvent (word_of name_of end words) _ (λ name rest.
+    then_holds IsUuid IsValidEvent (word_of uuid_of end rest) _ (word_holds IsUuid uuid_of end rest uuid_sound) (λ uuid rest is. ends_holds IsValidEvent _ rest is))
 event_uuids end word.Mkfs words =
-    behind IsSoundEvent (word_of name_of end words) _ (λ name rest.
-    then_holds IsUuid IsSoundEvent (word_of uuid_of end rest) _ (word_holds IsUuid uuid_of end rest uuid_sound)
-    (λ fs rest is. then_holds HasFormat IsSoundEvent (mkfs_options no_mkfs_options rest) _ (options_format rest) (λ o none has. record { fs = is; format = format_sound o has })))
-event_uuids end word.Begin words = behind IsSoundEvent (word_of name_of end words) _ (λ name rest. behind IsSoundEvent (ask_line end rest) _ (λ asked none. tt))
-event_uuids end word.Run words = behind IsSoundEvent (word_of name_of end words) _ (λ name rest. behind IsSoundEvent (ask_line end rest) _ (λ asked none. tt))
-event_uuids end word.Step words = behind IsSoundEvent (word_of name_of end words) _ (λ name rest. steps_uuids end name rest)
+    behind IsValidEvent (word_of name_of end words) _ (λ name rest.
+    then_holds IsUuid IsValidEvent (word_of uuid_of end rest) _ (word_holds IsUuid uuid_of end rest uuid_sound)
+    (λ fs rest is. then_holds HasFormat IsValidEvent (mkfs_options no_mkfs_options rest) _ (options_format rest) (λ o none has. record { fs = is; format = format_sound o has })))
+event_uuids end word.Begin words = behind IsValidEvent (word_of name_of end words) _ (λ name rest. behind IsValidEvent (ask_line end rest) _ (λ asked none. tt))
+event_uuids end word.Run words = behind IsValidEvent (word_of name_of end words) _ (λ name rest. behind IsValidEvent (ask_line end rest) _ (λ asked none. tt))
+event_uuids end word.Step words = behind IsValidEvent (word_of name_of end words) _ (λ name rest. steps_uuids end name rest)
 event_uuids end word.Evict words =
-    behind IsSoundEvent (word_of name_of end words) _ (λ name rest. behind IsSoundEvent (word_of number_of_text end rest) _ (λ at rest. ends_holds IsSoundEvent _ rest tt))
+    behind IsValidEvent (word_of name_of end words) _ (λ name rest. behind IsValidEvent (word_of number_of_text end rest) _ (λ at rest. ends_holds IsValidEvent _ rest tt))
 event_uuids end word.Leak words =
-    behind IsSoundEvent (word_of name_of end words) _ (λ name rest.
-    behind IsSoundEvent (word_of number_of_text end rest) _ (λ at rest. behind IsSoundEvent (word_of mask_of end rest) _ (λ mask rest. ends_holds IsSoundEvent _ rest tt)))
+    behind IsValidEvent (word_of name_of end words) _ (λ name rest.
+    behind IsValidEvent (word_of number_of_text end rest) _ (λ at rest. behind IsValidEvent (word_of mask_of end rest) _ (λ mask rest. ends_holds IsValidEvent _ rest tt)))
 event_uuids end word.Fetch words =
-    behind IsSoundEvent (word_of name_of end words) _ (λ name rest.
-    behind IsSoundEvent (word_of number_of_text end rest) _ (λ at rest. behind IsSoundEvent (word_of mask_of end rest) _ (λ mask rest. ends_holds IsSoundEvent _ rest tt)))
-event_uuids end other words = behind IsSoundEvent (word_of name_of end words) _ (λ name rest. ends_holds IsSoundEvent _ rest tt)
+    behind IsValidEvent (word_of name_of end words) _ (λ name rest.
+    behind IsValidEvent (word_of number_of_text end rest) _ (λ at rest. behind IsValidEvent (word_of mask_of end rest) _ (λ mask rest. ends_holds IsValidEvent _ rest tt)))
+event_uuids end other words = behind IsValidEvent (word_of name_of end words) _ (λ name rest. ends_holds IsValidEvent _ rest tt)
 
-line_uuids : (end : ℕ) (words : List Word) → Holds IsSoundEvent (event_line end words)
+line_uuids : (end : ℕ) (words : List Word) → Holds IsValidEvent (event_line end words)
 unfolding event_line
-line_uuids end words = behind IsSoundEvent (word_of event_word end words) _ (λ name rest. event_uuids end name rest)
+line_uuids end words = behind IsValidEvent (word_of event_word end words) _ (λ name rest. event_uuids end name rest)
 
 -- Lines and scripts.
 
 abbrev IfLine : LineReading Event → Type 0
 IfLine (Ok None) = ⊤
-IfLine (Ok (Some event)) = IsSoundEvent event
+IfLine (Ok (Some event)) = IsValidEvent event
 IfLine (Err column) = ⊤
 
-reading_uuids : (r : Reading Event) → Holds IsSoundEvent r → IfLine (event_or_column r)
+reading_uuids : (r : Reading Event) → Holds IsValidEvent r → IfLine (event_or_column r)
 reading_uuids (Reads e rest) is = is
 reading_uuids (Misfit column) is = tt
 

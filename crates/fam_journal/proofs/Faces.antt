@@ -105,7 +105,7 @@ module _ (a b : Machines) (alike : map face a.hosts ≡ map face b.hosts) where
     refusal_looks (call.Moves name line move) other = simp (number_same name, lines)
     refusal_looks (call.Refuses name cause) other = refl
     refusal_looks (call.Halts name) other = simp (number_same name)
-    refusal_looks c other = step_same (call.name_of c)
+    refusal_looks c other = step_same (call.asked_name c)
 
     pub refusal_same : map dirt a.hosts ≡ map dirt b.hosts → (c : Call) → refusal_of c a ≡ refusal_of c b
     unfolding refusal_of

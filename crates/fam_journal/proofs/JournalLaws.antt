@@ -2,12 +2,12 @@
 use Rattle.std.proofs.Common.{◌≡◌, inl, inr, List, ◌∷◌, [], ◌++◌, length, refl, sym, subst}
 use Rattle.fam_base.specs.Image.{Image}
 use Rattle.fam_journal.specs.Calls as call
-use Rattle.fam_journal.specs.Calls.{BreaksOff, Call, Does}
+use Rattle.fam_journal.specs.Calls.{CutCall, Call, Does}
 use Rattle.fam_journal.specs.Ends.{CutCallReads, ReadsAs}
 use Rattle.fam_journal.specs.View.{WorldStands, WorldView, empty_world}
 use Rattle.fam_journal.specs.Kept.{Held, Reached}
 use Rattle.fam_journal.specs.CallRecords.{DoesPart, IsSoundCall}
-use Rattle.fam_journal.specs.Laws.{IsImage, MaySayNext, TaskAt, turn_at}
+use Rattle.fam_journal.specs.Laws.{IsImage, MaySayNext, TaskAt, task_turn}
 use Rattle.fam_journal.specs.Legal.{Legal}
 use Rattle.fam_journal.specs.Machines.{Machines, unused}
 use Rattle.fam_journal.specs.Notes.{Note, Refused}
@@ -26,9 +26,9 @@ begun image is = record {
   kept = record { views = []; held = held_first image is.limit is.normal; uuids = λ k host none. absurd cc };
 }
 
-pub said : (at : TaskAt) (says : MaySayNext at) → Bridged at.past says.now at.host (turn_at at)
+pub said : (at : TaskAt) (says : MaySayNext at) → Bridged at.past says.now at.host (task_turn at)
 said at says =
-    bridged at.past.start at.past.hosts at.host at.told at.is at.kept at.task.cmd at.task.me at.task at.words at.made at.word at.joined at.standing (turn_at at) refl at.was at.me says.hosts says.shared says.now at.past.state says.bad says.halted says.stage says.says
+    bridged at.past.start at.past.hosts at.host at.told at.is at.kept at.task.cmd at.task.me at.task at.words at.made at.word at.joined at.standing (task_turn at) refl at.was at.me says.hosts says.shared says.now at.past.state says.bad says.halted says.stage says.says
 
 pub kept_on : (start : Image) (state left : Machines) (old new : WorldView) (call : Call) (notes : List Note) → Held start state old state.memory → IsSoundCall call → Does call state notes left
     → WorldStands (length start) left new → new.journal ≡ old.journal ++ notes → Held start left new left.memory
@@ -51,12 +51,12 @@ part_on start state left old new call notes held does stands journal = record {
   kept = subst (λ (z : List Note). Reached start left z) (sym journal) (part_does start state left old.journal notes call held.kept does);
 }
 
-pub cut_legal : (start : Image) (state left : Machines) (old : WorldView) (call : Call) (notes : List Note) → Held start state old state.memory → BreaksOff call state notes left → Legal start (old.journal ++ notes)
+pub cut_legal : (start : Image) (state left : Machines) (old : WorldView) (call : Call) (notes : List Note) → Held start state old state.memory → CutCall call state notes left → Legal start (old.journal ++ notes)
 cut_legal start state left old call notes held breaks =
     let b = cut_notes call state left notes breaks in
     subst (λ (z : List Note). Legal start (old.journal ++ z)) (sym b.2) (legal_both (first_past start) old.journal (Refused b.0 b.1 ∷ []) held.kept.held.legal (tt, tt))
 
-pub cut_reads_as : (start : Image) (state left : Machines) (old : WorldView) (call : Call) (notes : List Note) → Held start state old state.memory → IsSoundCall call → BreaksOff call state notes left
+pub cut_reads_as : (start : Image) (state left : Machines) (old : WorldView) (call : Call) (notes : List Note) → Held start state old state.memory → IsSoundCall call → CutCall call state notes left
     → CutCallReads call state (past_of start old.journal).state left.memory
 cut_reads_as start state left old call notes held sound breaks = call_cut start state old.journal held.kept call sound notes left breaks
 

@@ -3,4 +3,5 @@ pub mod JournalLaws
 pub mod Settled
 pub mod Calls
 pub mod Runs
-pub mod Forms
+pub mod Shapes
+pub mod Growth

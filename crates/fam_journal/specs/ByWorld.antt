@@ -6,7 +6,7 @@ use Rattle.fam_journal.specs.Calls as call
 use Rattle.fam_base.specs.declared.cmd.Cmd.{Cmd}
 use Rattle.fam_base.specs.declared.cmd.Cmd.TheVariants.{Logplay}
 use Rattle.fam_journal.specs.declared.refusal.Refusal.{Refusal}
-use Rattle.fam_journal.specs.Calls.{refusal_of, Call, Does, IsOfSource, busy_at, name_of, number_of}
+use Rattle.fam_journal.specs.Calls.{refusal_of, Call, Does, IsOfSource, busy_at, asked_name, number_of}
 use Rattle.fam_journal.specs.Machines.{task_begun, HostState, Machines, TaskState}
 use Rattle.fam_journal.specs.Members.{changed_at}
 use Rattle.fam_journal.specs.Notes.{Note, Host, Start, Stop, Halt, Umount, Refused}
@@ -67,7 +67,7 @@ acted (call.Refuses name cause) lines world = with_notes (Refused name cause ∷
 
 -- the world behind a call that takes no media: with its refusal noted, or with what it does
 abbrev pub acted_by : Option Refusal → Call → ℕ → WorldView → WorldView
-acted_by (Some cause) c lines world = with_notes (Refused (name_of c) cause ∷ []) world
+acted_by (Some cause) c lines world = with_notes (Refused (asked_name c) cause ∷ []) world
 acted_by None c lines world = acted c lines world
 
 -- the world after such a call, on an image of so many lines
@@ -89,7 +89,7 @@ TakesNoMedia (call.Refuses name cause) lines world =
     IsOfSource cause ⊎ ((cmd : Cmd) × (refusal_in (call.Begins name cmd) world lines ≡ Some cause))
 
 -- so it is what the call's row says, of the state that the world stands for
-pub record IsRow (c : Call) (lines : ℕ) (state : Machines) (old new : WorldView) : Type 0 where
+pub record IsCallRow (c : Call) (lines : ℕ) (state : Machines) (old new : WorldView) : Type 0 where
   pub left : Machines
   pub notes : List Note
   pub row : Does c state notes left

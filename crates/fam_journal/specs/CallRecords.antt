@@ -17,9 +17,9 @@ use Rattle.fam_media.specs.States.{MediaChange}
 use Rattle.fam_protocol.specs.Tasks.{IsCommand}
 use Rattle.fam_journal.specs.Calls as call
 use Rattle.fam_journal.specs.declared.refusal.Refusal.{Refusal}
-use Rattle.fam_journal.specs.Calls.{Call, Does, BreaksOff, IsSoundRequest, Unfinished, name_of, number_of}
+use Rattle.fam_journal.specs.Calls.{Call, Does, CutCall, IsSoundRequest, Unfinished, asked_name, number_of}
 use Rattle.fam_journal.specs.Ends.{CutCallReads, HasCounted, is_answer_note}
-use Rattle.fam_journal.specs.Forms.{BreaksForm, DoesForm, HostForm, IsFormed, PartForm, forms_of}
+use Rattle.fam_journal.specs.Shapes.{BreaksShape, DoesShape, HostShape, IsShaped, PartShape, shapes_of}
 use Rattle.fam_journal.specs.Legal.{Legal}
 use Rattle.fam_journal.specs.Machines.{Machines, notes_of}
 use Rattle.fam_journal.specs.Names.{AreNamed}
@@ -47,7 +47,7 @@ pub record DoesRow (start : Image) (told : Option Image) (does : List Note → M
 pub record LeavesBroken (start : Image) (told : Option Image) (c : Call) (begun : Machines) (old new : WorldView) : Type 0 where
   pub state : Machines
   pub notes : List Note
-  pub row : BreaksOff c begun notes state
+  pub row : CutCall c begun notes state
   pub told_is : told ≡ Some state.memory
   pub joined : new.journal ≡ old.journal ++ notes
   pub stands : WorldStands (length start) state new
@@ -127,12 +127,12 @@ FitsMedia lines views = (h : ℕ) (view : HostView) → slice_get views h ≡ So
 abbrev pub heading : HostView → List ℕ × List ℕ
 heading view = (view.name, view.uuid)
 
--- a call that takes no media adds notes of its form, and the world's hosts are what its journal tells again
-pub record HasForm (c : Call) (lines : ℕ) (old new : WorldView) : Type 0 where
+-- a call that takes no media adds notes of its shape, and the world's hosts are what its journal tells again
+pub record HasShape (c : Call) (lines : ℕ) (old new : WorldView) : Type 0 where
   pub notes : List Note
   pub joined : new.journal ≡ old.journal ++ notes
-  pub form : DoesForm c lines (forms_of old.journal) notes
-  pub formed : IsFormed new
+  pub shape : DoesShape c lines (shapes_of old.journal) notes
+  pub shaped : IsShaped new
 
 -- notes are added that name declared hosts; the media's count rose by as many faults as they tell; hosts keep their names and
 -- UUIDs; what fitted the media fits it still; and hosts that were what the journal tells are so still
@@ -144,11 +144,11 @@ pub record Adds (lines before now : ℕ) (old new : WorldView) : Type 0 where
   pub named : AreNamed (length new.hosts) notes
   pub hosts : map heading new.hosts ≡ map heading old.hosts
   pub fits : FitsMedia lines old.hosts → FitsMedia lines new.hosts
-  pub formed : IsFormed old → IsFormed new
+  pub shaped : IsShaped old → IsShaped new
 
 -- what a call adds that didn't lack memory: all of its row, or what a media fault left of it
-abbrev pub CallForm : Call → ℕ → List HostForm → List Note → Type 0
-CallForm c lines hosts notes = DoesForm c lines hosts notes ⊎ BreaksForm c lines hosts notes
+abbrev pub CallShape : Call → ℕ → List HostShape → List Note → Type 0
+CallShape c lines hosts notes = DoesShape c lines hosts notes ⊎ BreaksShape c lines hosts notes
 
 -- the cause of a refusal that is noted; other notes have none; by the class of the note
 abbrev pub cause_noted_in : NoteClass → Option Refusal
@@ -207,13 +207,13 @@ IsLate (call.Refuses name own) cause = cause ≡ own
 
 -- a call that didn't lack memory answers the refusal that it notes, if any (`said`); that is the first one that the world
 -- alone tells, and then no host changes (`refused`); where the world tells none, only a late one comes (`free`). Its notes
--- are those of such a call, by what the journal tells (`form`)
+-- are those of such a call, by what the journal tells (`shape`)
 pub record Answers (c : Call) (lines : ℕ) (answered : Option Refusal) (before now : ℕ) (old new : WorldView) : Type 0 where
   pub adds : Adds lines before now old new
   pub said : answered ≡ refusal_noted adds.notes
-  pub refused : (cause : Refusal) → refusal_in c old lines ≡ Some cause → (adds.notes ≡ Refused (name_of c) cause ∷ []) × (new.hosts ≡ old.hosts)
+  pub refused : (cause : Refusal) → refusal_in c old lines ≡ Some cause → (adds.notes ≡ Refused (asked_name c) cause ∷ []) × (new.hosts ≡ old.hosts)
   pub free : (cause : Refusal) → refusal_in c old lines ≡ None → answered ≡ Some cause → IsLate c cause
-  pub form : IsFormed old → CallForm c lines (forms_of old.journal) adds.notes
+  pub shape : IsShaped old → CallShape c lines (shapes_of old.journal) adds.notes
 
 -- a step says besides whether its task is over: just where it noted an answer
 pub record AnswersStep (name : List ℕ) (lines : ℕ) (answered : Option Refusal) (over : Bool) (before now : ℕ) (old new : WorldView) : Type 0 where
@@ -268,7 +268,7 @@ IsUnstoredAt h world =
 -- a finish that found no memory: what it did until then stands
 pub record FinishOutOfMemory (name : List ℕ) (lines : ℕ) (media : MediaChange) (old new : WorldView) : Type 0 where
   pub adds : Adds lines media.old.faults media.new.faults old new
-  pub form : IsFormed old → PartForm (call.Finishes name) lines (forms_of old.journal) adds.notes
+  pub shape : IsShaped old → PartShape (call.Finishes name) lines (shapes_of old.journal) adds.notes
   pub parts : (start : Image) → CallParts (call.Finishes name) start media.old.image media.new.image old new
   -- the host has a task just where it had one: neither an answer nor a media fault hides behind the want of memory
   pub runs : (h : ℕ) → number_in name old ≡ Some h → busy_in h new ≡ busy_in h old

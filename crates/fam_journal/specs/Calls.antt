@@ -44,17 +44,17 @@ pub record IsSoundRequest (request : MkfsRequest) : Type 0 where
   pub format : IsTrue (is_format request.format)
 
 -- the host that is asked
-abbrev pub name_of : Call → List ℕ
-name_of (Declares name uuid) = name
-name_of (Makes name request) = name
-name_of (Begins name cmd) = name
-name_of (Steps name) = name
-name_of (Finishes name) = name
-name_of (Stops name) = name
-name_of (Halts name) = name
-name_of (Umounts name) = name
-name_of (Moves name line move) = name
-name_of (Refuses name cause) = name
+abbrev pub asked_name : Call → List ℕ
+asked_name (Declares name uuid) = name
+asked_name (Makes name request) = name
+asked_name (Begins name cmd) = name
+asked_name (Steps name) = name
+asked_name (Finishes name) = name
+asked_name (Stops name) = name
+asked_name (Halts name) = name
+asked_name (Umounts name) = name
+asked_name (Moves name line move) = name
+asked_name (Refuses name cause) = name
 
 -- Refusals, in the order in which they are tried.
 
@@ -295,7 +295,7 @@ AtNumber (Some h) m P = AtHost h m (P h)
 
 -- what a call does of the host that it names
 abbrev pub ActsOf : Call → Machines → List Note → Machines → Type 0
-ActsOf call old notes new = AtNumber (number_of (name_of call) old) old (λ h host. ActsAt call h host old notes new)
+ActsOf call old notes new = AtNumber (number_of (asked_name call) old) old (λ h host. ActsAt call h host old notes new)
 
 -- what a call does that isn't refused, and after which the run goes on; a host is declared behind the others
 abbrev pub Acts : Call → Machines → List Note → Machines → Type 0
@@ -318,7 +318,7 @@ ByRefusal name None notes old new acts = acts
 
 -- what a call does after which the run goes on
 abbrev pub Does : Call → Machines → List Note → Machines → Type 0
-Does call old notes new = ByRefusal (name_of call) (refusal_of call old) notes old new (Acts call old notes new)
+Does call old notes new = ByRefusal (asked_name call) (refusal_of call old) notes old new (Acts call old notes new)
 
 -- making a file system is cut by a media fault: nothing goes on behind it
 abbrev pub CutsAt : Call → ℕ → HostState → Machines → List Note → Machines → Type 0
@@ -334,6 +334,6 @@ CutsAt (Moves name line move) h host old notes new = ⊥
 CutsAt (Refuses name cause) h host old notes new = ⊥
 
 -- a call that isn't refused at once is cut by a media fault, behind which nothing goes on
-abbrev pub BreaksOff : Call → Machines → List Note → Machines → Type 0
-BreaksOff call old notes new =
-    (refusal_of call old ≡ None) × AtNumber (number_of (name_of call) old) old (λ h host. CutsAt call h host old notes new)
+abbrev pub CutCall : Call → Machines → List Note → Machines → Type 0
+CutCall call old notes new =
+    (refusal_of call old ≡ None) × AtNumber (number_of (asked_name call) old) old (λ h host. CutsAt call h host old notes new)

@@ -179,24 +179,24 @@ pub record CanEnd (h : ℕ) (state : Machines) : Type 0 where
 -- Runs in which no count rose.
 
 -- a command that is run and isn't refused ends in an answer
-abbrev pub RunEnds : Event → List Note → Type 0
-RunEnds (event.Host name uuid) notes = ⊤
-RunEnds (event.Mkfs name fs unit log format force halt) notes = ⊤
-RunEnds (event.Begin name what) notes = ⊤
-RunEnds (event.Run name what) notes = EndsInAnswer notes ⊎ ((why : Refusal) × (notes ≡ Refused name why ∷ []))
-RunEnds (event.Step name count) notes = ⊤
-RunEnds (event.Finish name) notes = ⊤
-RunEnds (event.Stop name) notes = ⊤
-RunEnds (event.Halt name) notes = ⊤
-RunEnds (event.Umount name) notes = ⊤
-RunEnds (event.Evict name line) notes = ⊤
-RunEnds (event.Leak name line mask) notes = ⊤
-RunEnds (event.Fetch name line mask) notes = ⊤
+abbrev pub RunAnswers : Event → List Note → Type 0
+RunAnswers (event.Host name uuid) notes = ⊤
+RunAnswers (event.Mkfs name fs unit log format force halt) notes = ⊤
+RunAnswers (event.Begin name what) notes = ⊤
+RunAnswers (event.Run name what) notes = EndsInAnswer notes ⊎ ((why : Refusal) × (notes ≡ Refused name why ∷ []))
+RunAnswers (event.Step name count) notes = ⊤
+RunAnswers (event.Finish name) notes = ⊤
+RunAnswers (event.Stop name) notes = ⊤
+RunAnswers (event.Halt name) notes = ⊤
+RunAnswers (event.Umount name) notes = ⊤
+RunAnswers (event.Evict name line) notes = ⊤
+RunAnswers (event.Leak name line mask) notes = ⊤
+RunAnswers (event.Fetch name line mask) notes = ⊤
 
 -- each run of a script's events has ended in its answer
 abbrev pub RunsEnd : (files : Files) (events : List Event) (old : Session) (journal : List Note) (new : Session) → Follows files events old journal new → Type 0
 RunsEnd files [] old journal new follows = ⊤
-RunsEnd files (e ∷ events) old journal new follows = RunEnds e follows.1 × RunsEnd files events follows.0 follows.2 new follows.4
+RunsEnd files (e ∷ events) old journal new follows = RunAnswers e follows.1 × RunsEnd files events follows.0 follows.2 new follows.4
 
 -- all events are done, no note tells a fault, every answer is one of the rules, and every command that is run ends in one or
 -- is refused

@@ -17,7 +17,7 @@ use Rattle.fam_journal.specs.declared.event.Event.TheVariants as event
 use Rattle.fam_journal.specs.declared.refusal.Refusal.{Refusal}
 use Rattle.fam_journal.specs.declared.refusal.Refusal.TheVariants as why
 use Rattle.fam_journal.specs.Calls as call
-use Rattle.fam_journal.specs.Calls.{Call, Begins, Refuses, Does, BreaksOff, DoesOperations, Completes, Unfinished, idle_refusal, may_begin, number_of, on_host}
+use Rattle.fam_journal.specs.Calls.{Call, Begins, Refuses, Does, CutCall, DoesOperations, Completes, Unfinished, idle_refusal, may_begin, number_of, on_host}
 use Rattle.fam_tree.specs.Listings.{ListingSays}
 use Rattle.fam_machine.specs.HostMoves.{Evict, Leak, Fetch}
 use Rattle.fam_journal.specs.Machines.{Machines, unused}
@@ -108,7 +108,7 @@ abbrev pub RefusesEvent : Files → List ℕ → Ask → Session → List Note �
 RefusesEvent files name what old notes new = MayNot name what old notes new ⊎ HasNoSource files name what old notes new
 
 -- a command begins. Its path, numbers and bytes fit: those of a source are bytes, since it was read
-pub record IsBegun (files : Files) (name : List ℕ) (what : Ask) (old : Session) (notes : List Note) (new : Session) : Type 0 where
+pub record CommandBegins (files : Files) (name : List ℕ) (what : Ask) (old : Session) (notes : List Note) (new : Session) : Type 0 where
   pub free : may_begin name (mounts what) old.machines ≡ None
   pub cmd : Cmd
   pub copied : ℕ
@@ -122,7 +122,7 @@ pub record Continues (P : ℕ → Machines → List Note → Machines → Type 0
   pub mid : Session
   pub first : List Note
   pub rest : List Note
-  pub begun : IsBegun files name what old first mid
+  pub begun : CommandBegins files name what old first mid
   pub host : ℕ
   pub number : number_of name mid.machines ≡ Some host
   pub does : P host mid.machines rest new.machines
@@ -148,7 +148,7 @@ pub record MayNotStep (name : List ℕ) (old : Session) (notes : List Note) (new
 abbrev pub DoesEvent : Files → Event → Session → List Note → Session → Type 0
 DoesEvent files (event.Host name uuid) old notes new = Calls (call.Declares name uuid) old notes new
 DoesEvent files (event.Mkfs name fs unit log format force halt) old notes new = Calls (call.Makes name (mkfs_request fs unit log format force halt)) old notes new
-DoesEvent files (event.Begin name what) old notes new = IsBegun files name what old notes new ⊎ RefusesEvent files name what old notes new
+DoesEvent files (event.Begin name what) old notes new = CommandBegins files name what old notes new ⊎ RefusesEvent files name what old notes new
 DoesEvent files (event.Run name what) old notes new = Continues Completes files name what old notes new ⊎ RefusesEvent files name what old notes new
 DoesEvent files (event.Step name count) old notes new = StepsBy (λ h. DoesOperations h count) name old notes new ⊎ MayNotStep name old notes new
 DoesEvent files (event.Finish name) old notes new = Calls (call.Finishes name) old notes new
@@ -163,7 +163,7 @@ DoesEvent files (event.Fetch name line mask) old notes new = Calls (call.Moves n
 abbrev pub BreaksEvent : Event → Session → List Note → Session → Type 0
 BreaksEvent (event.Host name uuid) old notes new = ⊥
 BreaksEvent (event.Mkfs name fs unit log format force halt) old notes new =
-    BreaksOff (call.Makes name (mkfs_request fs unit log format force halt)) old.machines notes new.machines × (new.copied ≡ old.copied)
+    CutCall (call.Makes name (mkfs_request fs unit log format force halt)) old.machines notes new.machines × (new.copied ≡ old.copied)
 BreaksEvent (event.Begin name what) old notes new = ⊥
 BreaksEvent (event.Run name what) old notes new = ⊥
 BreaksEvent (event.Step name count) old notes new = ⊥

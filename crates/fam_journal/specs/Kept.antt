@@ -80,14 +80,14 @@ IfHalted (Bad origin damage gate) now = IsClearedFrom origin damage now
 IfHalted (Sound p history pending) now = ⊤
 
 -- a task as a run of the protocol: with the floor that the journal tells, and the entry that it named
-abbrev pub run_of : Task → HostPast → Run
-run_of t told = record { task = t; floor = told.floor; named = told.wrote }
+abbrev pub protocol_run : Task → HostPast → Run
+protocol_run t told = record { task = t; floor = told.floor; named = told.wrote }
 
 -- the run of a host that has a task
 abbrev pub run_with : Option Task → Option HostPast → Option Run
 run_with None told = None
 run_with (Some t) None = None
-run_with (Some t) (Some told) = Some (run_of t told)
+run_with (Some t) (Some told) = Some (protocol_run t told)
 
 -- the run of the host at one number, or none
 abbrev pub run_at : Option HostView → Option HostPast → Option Run

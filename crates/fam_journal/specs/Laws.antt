@@ -12,7 +12,7 @@ use Rattle.fam_commands.specs.Turns.{Turn}
 use Rattle.fam_protocol.specs.SharedState.{SharedState}
 use Rattle.fam_protocol.specs.Steps.{TurnSays}
 use Rattle.fam_protocol.specs.Invariant.{Hosts, InvariantBy}
-use Rattle.fam_journal.specs.Kept.{IfHalted, TaskTold, run_of, settled_of}
+use Rattle.fam_journal.specs.Kept.{IfHalted, TaskTold, protocol_run, settled_of}
 use Rattle.fam_format.specs.Layout.{device_limit}
 use Rattle.fam_format.specs.Params.{IsUuid}
 use Rattle.fam_format.specs.Reading.{Lines}
@@ -26,12 +26,12 @@ use Rattle.fam_journal.specs.Calls.{IsSoundRequest}
 use Rattle.fam_machine.specs.MkfsRequest.{mkfs_request}
 use Rattle.fam_journal.specs.Legal.{Legal}
 use Rattle.fam_journal.specs.Notes.{Note, Answered, Replied}
-use Rattle.fam_journal.specs.Past.{Damage, Given, HostPast, Past, State, Bad, Sound, count_of, first_state, past_of, with_pending}
+use Rattle.fam_journal.specs.Past.{Damage, Given, HostPast, Past, State, Bad, Sound, reply_count, first_state, past_of, with_pending}
 
 -- the entries that an answer may be of: the history, and the pending entry behind it
-abbrev pub entries_at : State → List File
-entries_at (Bad origin damage gate) = []
-entries_at (Sound p history pending) = with_pending history pending
+abbrev pub answerable_entries : State → List File
+answerable_entries (Bad origin damage gate) = []
+answerable_entries (Sound p history pending) = with_pending history pending
 
 -- no note ends the history before it
 abbrev pub NoneEnds : List Note → Type 0
@@ -58,9 +58,9 @@ pub record IsPrefix (first all : List File) : Type 0 where
   pub is : all ≡ first ++ rest
 
 -- nothing is pending, and so many entries are settled
-abbrev pub IsFree : ℕ → State → Type 0
-IsFree seq (Bad origin damage gate) = ⊥
-IsFree seq (Sound p history pending) = (pending ≡ None) × (seq ≡ length history)
+abbrev pub NonePending : ℕ → State → Type 0
+NonePending seq (Bad origin damage gate) = ⊥
+NonePending seq (Sound p history pending) = (pending ≡ None) × (seq ≡ length history)
 
 -- two answers of entries in one legal journal, with no note between them that ends a history
 pub record TwoAnswers (start : Image) : Type 0 where
@@ -74,17 +74,17 @@ pub record TwoAnswers (start : Image) : Type 0 where
   pub none : NoneEnds between
   pub m : ℕ
   pub n : ℕ
-  pub first_count : count_of first ≡ Some m
-  pub second_count : count_of second ≡ Some n
+  pub first_count : reply_count first ≡ Some m
+  pub second_count : reply_count second ≡ Some n
 
 -- the entries of each answer
 abbrev pub first_entries : {start : Image} → TwoAnswers start → List File
-first_entries {start} two = take two.m (entries_at (past_of start two.before).state)
+first_entries {start} two = take two.m (answerable_entries (past_of start two.before).state)
 
 -- the entries of the second answer
 abbrev pub second_entries : {start : Image} → TwoAnswers start → List File
 second_entries {start} two =
-    take two.n (entries_at (past_of start (two.before ++ Answered two.first_host (Replied two.first) ∷ two.between)).state)
+    take two.n (answerable_entries (past_of start (two.before ++ Answered two.first_host (Replied two.first) ∷ two.between)).state)
 
 -- bytes are one listing, or one first bad line
 abbrev pub OneListing : Type 0
@@ -96,24 +96,24 @@ pub record AreSame (notes other : List Note) (state left : Session) : Type 0 whe
   pub states_are : state ≡ left
 
 -- an event's UUIDs are such, and its format is one
-abbrev pub IsSoundEvent : Event → Type 0
-IsSoundEvent (event.Host name uuid) = IsUuid uuid
-IsSoundEvent (event.Mkfs name fs unit log format force halt) = IsSoundRequest (mkfs_request fs unit log format force halt)
-IsSoundEvent (event.Begin name what) = ⊤
-IsSoundEvent (event.Run name what) = ⊤
-IsSoundEvent (event.Step name count) = ⊤
-IsSoundEvent (event.Finish name) = ⊤
-IsSoundEvent (event.Stop name) = ⊤
-IsSoundEvent (event.Halt name) = ⊤
-IsSoundEvent (event.Umount name) = ⊤
-IsSoundEvent (event.Evict name line) = ⊤
-IsSoundEvent (event.Leak name line mask) = ⊤
-IsSoundEvent (event.Fetch name line mask) = ⊤
+abbrev pub IsValidEvent : Event → Type 0
+IsValidEvent (event.Host name uuid) = IsUuid uuid
+IsValidEvent (event.Mkfs name fs unit log format force halt) = IsSoundRequest (mkfs_request fs unit log format force halt)
+IsValidEvent (event.Begin name what) = ⊤
+IsValidEvent (event.Run name what) = ⊤
+IsValidEvent (event.Step name count) = ⊤
+IsValidEvent (event.Finish name) = ⊤
+IsValidEvent (event.Stop name) = ⊤
+IsValidEvent (event.Halt name) = ⊤
+IsValidEvent (event.Umount name) = ⊤
+IsValidEvent (event.Evict name line) = ⊤
+IsValidEvent (event.Leak name line mask) = ⊤
+IsValidEvent (event.Fetch name line mask) = ⊤
 
 -- each event is within its limits
 abbrev pub AreSound : List Event → Type 0
 AreSound [] = ⊤
-AreSound (e ∷ events) = IsSoundEvent e × AreSound events
+AreSound (e ∷ events) = IsValidEvent e × AreSound events
 
 -- an image that a run may begin with
 pub record IsImage (image : Image) : Type 0 where
@@ -143,11 +143,11 @@ pub record TaskAt : Type 0 where
   pub me : told.uuid ≡ task.me
 
 -- the turn
-abbrev pub turn_at : TaskAt → Turn
-turn_at at = turn_given at.task at.word
+abbrev pub task_turn : TaskAt → Turn
+task_turn at = turn_given at.task at.word
 
 -- a damaged state of an image that was handed in is what that reads as, and it has so many lines
-pub record IsOwn (lines : ℕ) (image : Image) (damage : Damage) (gate : ℕ) : Type 0 where
+pub record IsOwnDamage (lines : ℕ) (image : Image) (damage : Damage) (gate : ℕ) : Type 0 where
   pub reads : first_state image ≡ Bad (Given image) damage gate
   pub lines_are : length image ≡ lines
 
@@ -156,7 +156,7 @@ pub record MaySayNext (at : TaskAt) : Type 0 where
   pub now : Lines
   pub hosts : Hosts
   pub shared : SharedState
-  pub bad : (image : Image) (damage : Damage) (gate : ℕ) → at.past.state ≡ Bad (Given image) damage gate → IsOwn (length at.past.start) image damage gate
+  pub bad : (image : Image) (damage : Damage) (gate : ℕ) → at.past.state ≡ Bad (Given image) damage gate → IsOwnDamage (length at.past.start) image damage gate
   pub halted : IfHalted at.past.state now
   pub stage : InvariantBy (settled_of at.past.state now) (length at.past.start) hosts shared
-  pub says : TurnSays (turn_at at) (run_of at.task at.told) (settled_of at.past.state now) (length at.past.start) hosts
+  pub says : TurnSays (task_turn at) (protocol_run at.task at.told) (settled_of at.past.state now) (length at.past.start) hosts

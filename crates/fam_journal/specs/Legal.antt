@@ -114,9 +114,9 @@ DamagedSuper p (Given image) damage = GivenSuper p image damage
 DamagedSuper p Halted damage = ⊥
 
 -- the superblock has these parameters
-abbrev pub HasSuper : Params → State → Type 0
-HasSuper p (Sound q history pending) = p ≡ q
-HasSuper p (Bad origin damage gate) = DamagedSuper p origin damage
+abbrev pub HasParams : Params → State → Type 0
+HasParams p (Sound q history pending) = p ≡ q
+HasParams p (Bad origin damage gate) = DamagedSuper p origin damage
 
 -- what the host's command wants to append has a path for which a slot has no room, and the host may append
 pub record NamesLong (p : Params) (host : HostPast) (limit : ℕ) : Type 0 where
@@ -129,7 +129,7 @@ pub record NamesLong (p : Params) (host : HostPast) (limit : ℕ) : Type 0 where
 -- so it is by the superblock
 pub record IsLong (limit : ℕ) (host : HostPast) (state : State) : Type 0 where
   pub params : Params
-  pub super : HasSuper params state
+  pub super : HasParams params state
   pub names : NamesLong params host limit
 
 -- an append may be refused so: another host may append alone, or the path is too long, or the rules decide it

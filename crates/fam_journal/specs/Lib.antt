@@ -16,5 +16,5 @@ pub mod ByWorld
 pub mod CallRecords
 pub mod Laws
 pub mod Complete
-pub mod Forms
-pub mod EventForms
+pub mod Shapes
+pub mod EventShapes

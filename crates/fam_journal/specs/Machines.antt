@@ -124,16 +124,16 @@ served h m host t op (Some note) =
     Some (record { notes = notes_of h note; left = with_parts h (operated op (machine_of m host)) (task_behind note on) (host_keeps note on (length m.memory) host.kept) m })
 
 -- the media failed in it, and left this: the task is gone. None: it asks nothing of memory
-abbrev pub cut : ℕ → Machines → Option Failure → Option Done
-cut h m None = None
-cut h m (Some failure) =
+abbrev pub cut_task : ℕ → Machines → Option Failure → Option Done
+cut_task h m None = None
+cut_task h m (Some failure) =
     Some (record { notes = Answered h (MediaFault failure.line.0) ∷ []; left = with_machine h failure.left None m })
 
 -- the operation that a task does next comes out so, where there is one
 abbrev pub op_done : Outcome → ℕ → Machines → HostState → TaskState → Option Op → Option Done
 op_done outcome h m host t None = None
 op_done Passes h m host t (Some op) = served h m host t op (next_note t (length m.memory) (given op (machine_of m host)))
-op_done (Fails through) h m host t (Some op) = cut h m (failed through op (machine_of m host))
+op_done (Fails through) h m host t (Some op) = cut_task h m (failed through op (machine_of m host))
 
 -- a host's task does its next operation, where it has one
 abbrev pub task_done : Outcome → ℕ → Machines → HostState → Option TaskState → Option Done

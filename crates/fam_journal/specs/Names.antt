@@ -18,21 +18,21 @@ abbrev pub NamesCause : ℕ → Refusal → Type 0
 NamesCause n cause = NamesCauseIn n (refusal_class cause)
 
 -- a note names one of so many hosts; by the class of the note
-abbrev pub IsNamedIn : ℕ → NoteClass → Type 0
-IsNamedIn n (Declared name uuid) = ⊤
-IsNamedIn n (Formatted host p) = host < n
-IsNamedIn n (Going host) = host < n
-IsNamedIn n (Answering host answer) = host < n
-IsNamedIn n (Refusing name cause) = NamesCause n cause
+abbrev pub NamesHostIn : ℕ → NoteClass → Type 0
+NamesHostIn n (Declared name uuid) = ⊤
+NamesHostIn n (Formatted host p) = host < n
+NamesHostIn n (Going host) = host < n
+NamesHostIn n (Answering host answer) = host < n
+NamesHostIn n (Refusing name cause) = NamesCause n cause
 
 -- so of a note, by its class
-abbrev pub IsNamed : ℕ → Note → Type 0
-IsNamed n note = IsNamedIn n (note_class note)
+abbrev pub NamesHost : ℕ → Note → Type 0
+NamesHost n note = NamesHostIn n (note_class note)
 
 -- each of these notes names one of so many hosts
 abbrev pub AreNamed : ℕ → List Note → Type 0
 AreNamed n [] = ⊤
-AreNamed n (note ∷ notes) = IsNamed n note × AreNamed n notes
+AreNamed n (note ∷ notes) = NamesHost n note × AreNamed n notes
 
 -- how many hosts are declared behind a note; by the class of the note
 abbrev pub declared_after_in : ℕ → NoteClass → ℕ
@@ -49,4 +49,4 @@ declared_after n note = declared_after_in n (note_class note)
 -- each note names a host that is declared before it: one of the first so many, or of the notes before
 abbrev pub NameDeclared : ℕ → List Note → Type 0
 NameDeclared n [] = ⊤
-NameDeclared n (note ∷ notes) = IsNamed n note × NameDeclared (declared_after n note) notes
+NameDeclared n (note ∷ notes) = NamesHost n note × NameDeclared (declared_after n note) notes

@@ -102,8 +102,8 @@ count_of_in (Reporting report) = reported_count report.log
 count_of_in Faulty = None
 
 -- so of a reply, by its class
-abbrev pub count_of : Reply → Option ℕ
-count_of given = count_of_in (reply_class given)
+abbrev pub reply_count : Reply → Option ℕ
+reply_count given = count_of_in (reply_class given)
 
 -- so many entries were shown, where any were
 abbrev pub shows_count : Option ℕ → State → State
@@ -123,9 +123,9 @@ abbrev pub replied : Reply → State → State
 replied given state = replied_in (reply_class given) state
 
 -- the state after a task's end
-abbrev pub ended : Answer → State → State
-ended (Replied given) state = replied given state
-ended (MediaFault line) state = state
+abbrev pub ended_state : Answer → State → State
+ended_state (Replied given) state = replied given state
+ended_state (MediaFault line) state = state
 
 -- the maker of a file system halted after so many operations: from its first send on there is no superblock, since word 0 of
 -- line 0 is zero, and before it all is as it was
@@ -167,7 +167,7 @@ state_after past (Start h cmd) = past.state
 state_after past (Mark h) = past.state
 state_after past (Found h n) = finds n past.state
 state_after past (Writes h seq e) = pends (record { entry = e; bytes = filled_bytes (cmd_of (slice_get past.hosts h)) e.size }) past.state
-state_after past (Answered h answer) = ended answer past.state
+state_after past (Answered h answer) = ended_state answer past.state
 state_after past (Stop h) = past.state
 state_after past (Halt h) = past.state
 state_after past (Umount h) = past.state

@@ -3,20 +3,20 @@
 ghost use Rattle.std.specs.Prelude.{◌≡◌, ◌≤◌, ◌++◌, true, ℕ, Some, None, List, [], ◌∷◌, length, slice_get, slice_index, take};
 ghost use Rattle.fam_base.specs.declared.entry.Entry.{Entry};
 ghost use Rattle.fam_base.specs.Image.{Image};
-ghost use Rattle.fam_journal.specs.Calls.{busy_at, refusal_of, BreaksOff, Call, Completes, Does, Steps};
-ghost use Rattle.fam_journal.specs.CallRecords.{IsStepped, DoesPart, HasForm, IsSoundCall};
+ghost use Rattle.fam_journal.specs.Calls.{busy_at, refusal_of, CutCall, Call, Completes, Does, Steps};
+ghost use Rattle.fam_journal.specs.CallRecords.{IsStepped, DoesPart, HasShape, IsSoundCall};
 ghost use Rattle.fam_commands.specs.Keeping.{kept_after};
 ghost use Rattle.fam_commands.specs.Task.{Task};
 ghost use Rattle.fam_journal.specs.Complete.{AreRuled, CanEnd, EndsInAnswer};
 ghost use Rattle.fam_journal.specs.Ends.{CutCallReads, Ending, EventsDone, IsFaultless, ReadsAs};
 ghost use Rattle.fam_journal.specs.Events.{Continues, Session, first_session};
-ghost use Rattle.fam_journal.specs.EventForms.{EndsForm, FollowsForm};
+ghost use Rattle.fam_journal.specs.EventShapes.{EndsShape, FollowsShape};
 ghost use Rattle.fam_journal.specs.Follows.{Follows};
-ghost use Rattle.fam_journal.specs.Forms.{AreFormed, BreaksForm, DoesForm, HostForm, IsFormed, PartForm, forms_behind, forms_of};
+ghost use Rattle.fam_journal.specs.Shapes.{AreShaped, BreaksShape, DoesShape, HostShape, IsShaped, PartShape, shapes_behind, shapes_of};
 ghost use Rattle.fam_journal.specs.View.{HostView, WorldStands, WorldView, empty_world};
 ghost use Rattle.fam_journal.specs.Kept.{Held, Reached, settled_of};
-ghost use Rattle.fam_journal.specs.ByWorld.{number_in, refusal_in, IsRow, TakesNoMedia, world_after};
-ghost use Rattle.fam_journal.specs.Laws.{AreSame, AreSound, IsFree, IsPrefix, IsUncut, NoneEnds, MaySayNext, IsImage, IsSettled, TaskAt, TwoAnswers, first_entries, history_at, second_entries, turn_at};
+ghost use Rattle.fam_journal.specs.ByWorld.{number_in, refusal_in, IsCallRow, TakesNoMedia, world_after};
+ghost use Rattle.fam_journal.specs.Laws.{AreSame, AreSound, NonePending, IsPrefix, IsUncut, NoneEnds, MaySayNext, IsImage, IsSettled, TaskAt, TwoAnswers, first_entries, history_at, second_entries, task_turn};
 ghost use Rattle.fam_journal.specs.Legal.{Legal, LegalBehind, cleared_report};
 ghost use Rattle.fam_rules.specs.Reports.{report_of};
 ghost use Rattle.fam_format.specs.Reading.{Lines};
@@ -39,10 +39,10 @@ pub fn a_new_world_is_held()
 /// What the protocol lets a task say is what the journal allows next (`legal`), and what the protocol settles by it is
 /// what the journal settles (`settles`): for every turn, on sound and on damaged images.
 pub fn what_a_task_says_is_legal()
-    ensures legal { (at : TaskAt) → MaySayNext at → LegalBehind at.past (notes_of at.host (note_of (turn_at at))) }
+    ensures legal { (at : TaskAt) → MaySayNext at → LegalBehind at.past (notes_of at.host (note_of (task_turn at))) }
     ensures settles { (at : TaskAt) → (says : MaySayNext at)
-        → settled_of (past_behind at.past (notes_of at.host (note_of (turn_at at)))).state says.now
-        ≡ turn_settles (turn_at at) (settled_of at.past.state says.now) }
+        → settled_of (past_behind at.past (notes_of at.host (note_of (task_turn at)))).state says.now
+        ≡ turn_settles (task_turn at) (settled_of at.past.state says.now) }
 {}
 
 /// Whatever a call of the world does, as its row has it, a world that was held is held again once it stands for the
@@ -65,10 +65,10 @@ pub fn a_row_keeps_what_is_held()
     // Where the media fails in a mkfs the journal is legal, and that the world is held is no longer said. The image reads
     // as before, as no superblock, or as the new file system with the parameters that this mkfs asks for.
     ensures cut { (start : Image) (state left : Machines) (old : WorldView) (call : Call) (notes : List Note)
-        → Held start state old state.memory → BreaksOff call state notes left
+        → Held start state old state.memory → CutCall call state notes left
         → Legal start (old.journal ++ notes) }
     ensures cut_reads { (start : Image) (state left : Machines) (old : WorldView) (call : Call) (notes : List Note)
-        → Held start state old state.memory → IsSoundCall call → BreaksOff call state notes left
+        → Held start state old state.memory → IsSoundCall call → CutCall call state notes left
         → CutCallReads call state (past_of start old.journal).state left.memory }
 {}
 
@@ -125,7 +125,7 @@ pub fn the_history_only_grows()
 /// send (`grows`).
 pub fn at_most_one_entry_is_pending()
     ensures writes { (start : Image) (before rest : List Note) (host seq : ℕ) (entry : Entry)
-        → Legal start (before ++ Writes host seq entry ∷ rest) → IsFree seq (past_of start before).state }
+        → Legal start (before ++ Writes host seq entry ∷ rest) → NonePending seq (past_of start before).state }
     ensures grows { (start : Image) (before behind : List Note) → NoneEnds behind
         → IsPrefix (history_at (past_of start before).state) (history_at (past_of start (before ++ behind)).state) }
 {}
@@ -162,7 +162,7 @@ pub fn a_refusal_is_told_by_the_world()
 pub fn a_call_without_media_does_its_row()
     ensures { (state : Machines) (world : WorldView) (call : Call) → WorldStands (length state.memory) state world
         → TakesNoMedia call (length state.memory) world
-        → IsRow call (length state.memory) state world (world_after call (length state.memory) world) }
+        → IsCallRow call (length state.memory) state world (world_after call (length state.memory) world) }
 {}
 
 /// An operation that the media serves is the row of a step, where the world makes of its own host what its own task
@@ -174,50 +174,50 @@ pub fn an_operation_does_its_row()
         → slice_get world.hosts h ≡ Some view → view.task ≡ Some t → IsStepped name h view t state world }
 {}
 
-/// Whatever a call of the world does on a state whose hosts are what notes tell, its notes have the form that those
+/// Whatever a call of the world does on a state whose hosts are what notes tell, its notes have the shape that those
 /// notes allow, whatever memory holds; and the hosts behind it are what the notes tell then (`does`). So have those of
 /// a mkfs that a media fault cuts (`cut`), and of a call for which no memory was found (`part`). A state's hosts are
 /// what a journal tells where a world of such hosts stands for it (`world`).
-pub fn a_row_has_its_form()
-    ensures does { (lines : ℕ) (state left : Machines) (hosts : List HostForm) (notes : List Note) (call : Call)
-        → AreFormed lines state hosts → Does call state notes left
-        → DoesForm call lines hosts notes × AreFormed lines left (forms_behind hosts notes) }
-    ensures cut { (lines : ℕ) (state left : Machines) (hosts : List HostForm) (notes : List Note) (call : Call)
-        → AreFormed lines state hosts → BreaksOff call state notes left → BreaksForm call lines hosts notes }
-    ensures part { (lines : ℕ) (state left : Machines) (hosts : List HostForm) (notes : List Note) (call : Call)
-        → AreFormed lines state hosts → DoesPart call state notes left → PartForm call lines hosts notes }
-    ensures world { (state : Machines) (world : WorldView) → WorldStands (length state.memory) state world → IsFormed world
-        → AreFormed (length state.memory) state (forms_of world.journal) }
+pub fn a_row_has_its_shape()
+    ensures does { (lines : ℕ) (state left : Machines) (hosts : List HostShape) (notes : List Note) (call : Call)
+        → AreShaped lines state hosts → Does call state notes left
+        → DoesShape call lines hosts notes × AreShaped lines left (shapes_behind hosts notes) }
+    ensures cut { (lines : ℕ) (state left : Machines) (hosts : List HostShape) (notes : List Note) (call : Call)
+        → AreShaped lines state hosts → CutCall call state notes left → BreaksShape call lines hosts notes }
+    ensures part { (lines : ℕ) (state left : Machines) (hosts : List HostShape) (notes : List Note) (call : Call)
+        → AreShaped lines state hosts → DoesPart call state notes left → PartShape call lines hosts notes }
+    ensures world { (state : Machines) (world : WorldView) → WorldStands (length state.memory) state world → IsShaped world
+        → AreShaped (length state.memory) state (shapes_of world.journal) }
 {}
 
-/// The journal of events that follow from an image has their form, on a media of as many lines (`follows`); and so has
+/// The journal of events that follow from an image has their shape, on a media of as many lines (`follows`); and so has
 /// the journal of a run, however it ends (`ends`).
-pub fn a_run_has_its_form()
+pub fn a_run_has_its_shape()
     ensures follows { (files : Files) (events : List Event) (image : Image) (journal : List Note) (last : Session)
-        → Follows files events (first_session image) journal last → FollowsForm (length image) events [] journal }
+        → Follows files events (first_session image) journal last → FollowsShape (length image) events [] journal }
     ensures ends { (files : Files) (events : List Event) (image : Image) (journal : List Note) (last : Session) (ending : Ending)
-        → EventsDone ending files events (first_session image) journal last → EndsForm ending (length image) events [] journal }
+        → EventsDone ending files events (first_session image) journal last → EndsShape ending (length image) events [] journal }
 {}
 
-/// Whatever word an operation of a world's own task gives, what its turn notes has the form of a step (`form`), and the
+/// Whatever word an operation of a world's own task gives, what its turn notes has the shape of a step (`shape`), and the
 /// world's hosts are what its journal tells again, whatever cache the host has then (`world`). So a world keeps it on a
 /// media whose content isn't modelled.
-pub fn an_operation_has_its_form()
-    ensures form { (lines : ℕ) (world : WorldView) (name : List ℕ) (h : ℕ) (view : HostView) (t : Task) (word : ℕ)
-        → IsFormed world → number_in name world ≡ Some h → slice_get world.hosts h ≡ Some view → view.task ≡ Some t
+pub fn an_operation_has_its_shape()
+    ensures shape { (lines : ℕ) (world : WorldView) (name : List ℕ) (h : ℕ) (view : HostView) (t : Task) (word : ℕ)
+        → IsShaped world → number_in name world ≡ Some h → slice_get world.hosts h ≡ Some view → view.task ≡ Some t
         → refusal_in (Steps name) world lines ≡ None
-        → DoesForm (Steps name) lines (forms_of world.journal) (notes_of h (note_of (turn_given t word))) }
+        → DoesShape (Steps name) lines (shapes_of world.journal) (notes_of h (note_of (turn_given t word))) }
     ensures world { (world : WorldView) (h : ℕ) (view : HostView) (t : Task) (word : ℕ) (cache : Cache)
-        → IsFormed world → slice_get world.hosts h ≡ Some view → view.task ≡ Some t
-        → IsFormed (record {
+        → IsShaped world → slice_get world.hosts h ≡ Some view → view.task ≡ Some t
+        → IsShaped (record {
           hosts = changed_at h (λ (v : HostView). record v { cache = cache; task = task_after (turn_given t word); kept = kept_after (turn_given t word) t v.kept }) world.hosts;
           journal = world.journal ++ notes_of h (note_of (turn_given t word));
         }) }
 {}
 
-/// What a call that takes no media makes of a world, as the world alone tells it, has its form where the world's hosts
+/// What a call that takes no media makes of a world, as the world alone tells it, has its shape where the world's hosts
 /// are what its journal tells; and they are so again.
-pub fn a_call_without_media_has_its_form()
-    ensures { (lines : ℕ) (world : WorldView) (call : Call) → IsFormed world → TakesNoMedia call lines world
-        → HasForm call lines world (world_after call lines world) }
+pub fn a_call_without_media_has_its_shape()
+    ensures { (lines : ℕ) (world : WorldView) (call : Call) → IsShaped world → TakesNoMedia call lines world
+        → HasShape call lines world (world_after call lines world) }
 {}

@@ -2,7 +2,7 @@
 //! follow a list of events.
 //!
 //! `specs/Notes.antt` has the notes, `specs/Past.antt` what they settle, `specs/Legal.antt` which of them the history
-//! before them allows. `specs/Forms.antt` and `EventForms.antt` say which notes a call and an event may add whatever
+//! before them allows. `specs/Shapes.antt` and `EventShapes.antt` say which notes a call and an event may add whatever
 //! memory holds. `specs/Machines.antt`, `Calls.antt` and `Events.antt` have the machine of all hosts and what each call
 //! of the world and each event of a script does on it; `specs/Follows.antt` puts events one after another.
 //! `specs/Ends.antt` has how the run of a script ends. `specs/Kept.antt` is what a world keeps, and
@@ -18,11 +18,11 @@ pub use event::{Ask, Event};
 pub use fam_protocol::is_command;
 pub use host_id::HostId;
 pub use laws::{
-    a_call_without_media_does_its_row, a_call_without_media_has_its_form,
+    a_call_without_media_does_its_row, a_call_without_media_has_its_shape,
     a_clean_run_is_the_only_one, a_damaged_image_stays, a_held_image_reads_as_its_journal,
-    a_new_world_is_held, a_refusal_is_told_by_the_world, a_row_has_its_form,
-    a_row_keeps_what_is_held, a_run_has_its_form, a_run_is_settled, an_operation_does_its_row,
-    an_operation_has_its_form, at_most_one_entry_is_pending, every_answer_is_of_the_rules,
+    a_new_world_is_held, a_refusal_is_told_by_the_world, a_row_has_its_shape,
+    a_row_keeps_what_is_held, a_run_has_its_shape, a_run_is_settled, an_operation_does_its_row,
+    an_operation_has_its_shape, at_most_one_entry_is_pending, every_answer_is_of_the_rules,
     the_history_only_grows, what_a_task_says_is_legal,
 };
 pub use refusal::Refusal;

@@ -12,7 +12,7 @@ use Rattle.fam_journal.specs.declared.event.Event.TheVariants as event
 use Rattle.fam_outcomes.specs.declared.status.Status.{Status}
 use Rattle.fam_outcomes.specs.declared.status.Status.TheVariants as status
 use Rattle.fam_journal.specs.Calls.{refusal_of}
-use Rattle.fam_journal.specs.Complete.{IsComplete, RunEnds, RunsEnd}
+use Rattle.fam_journal.specs.Complete.{IsComplete, RunAnswers, RunsEnd}
 use Rattle.fam_journal.specs.Ends.{AllDone, Ending, HasCounted, IsFaultless, MkfsFails, EndsOutOfMemory, EndsOutOfMemoryBroken, SinkFails, SourceFails, faults_of}
 use Rattle.fam_journal.specs.Events.{DoesEvent, Session, first_session}
 use Rattle.fam_journal.specs.Follows.{Faulted, Follows, Short, SourceEnd}
@@ -28,7 +28,7 @@ use Rattle.fam_journal.proofs.Runs.Unique.{clean_prefix, clean_rest}
 -- Events.
 
 module _ (files : Files) where
-  event_ends : (e : Event) (old new : Session) (notes : List Note) → IsFaultless notes → DoesEvent files e old notes new → RunEnds e notes
+  event_ends : (e : Event) (old new : Session) (notes : List Note) → IsFaultless notes → DoesEvent files e old notes new → RunAnswers e notes
   unfolding refusal_of
   event_ends (event.Run name what) old new notes clean (inl x) = inl (run_ends files name what old new notes x clean)
   event_ends (event.Run name what) old new notes clean (inr (inl x)) = inr (x.cause, x.notes_are)

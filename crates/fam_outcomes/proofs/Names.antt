@@ -21,14 +21,14 @@ use Rattle.fam_journal.specs.declared.refusal.Refusal.TheVariants as why
 use Rattle.fam_commands.specs.Classes.{is_mount}
 use Rattle.fam_base.specs.declared.entry.Params.{Params}
 use Rattle.fam_journal.specs.Calls as call
-use Rattle.fam_journal.specs.Calls.{Acts, ActsAt, AtNumber, ByRefusal, Call, Does, MakesOrHalts, OnHost, DoesOperations, begins_refusal, busy_at, busy_refusal, cause_of, dirty_from, dirty_refusal, has_name, host_limit, idle_refusal, is_engaged, is_same, keeps_at, line_refusal, makes_refusal, may_begin, name_of, number_of, on_host, refusal_of, same_refusal, umounts_refusal, when}
-use Rattle.fam_journal.specs.Events.{BytesSay, DoesEvent, IsBegun, RefusesEvent, ListingIs, MayNotStep, Session, SourceSays, Sourced, Unfit, WithinSays, copy_limit, mounts}
+use Rattle.fam_journal.specs.Calls.{Acts, ActsAt, AtNumber, ByRefusal, Call, Does, MakesOrHalts, OnHost, DoesOperations, begins_refusal, busy_at, busy_refusal, cause_of, dirty_from, dirty_refusal, has_name, host_limit, idle_refusal, is_engaged, is_same, keeps_at, line_refusal, makes_refusal, may_begin, asked_name, number_of, on_host, refusal_of, same_refusal, umounts_refusal, when}
+use Rattle.fam_journal.specs.Events.{BytesSay, DoesEvent, CommandBegins, RefusesEvent, ListingIs, MayNotStep, Session, SourceSays, Sourced, Unfit, WithinSays, copy_limit, mounts}
 use Rattle.fam_journal.specs.Follows.{Follows}
-use Rattle.fam_journal.specs.Machines.{Done, Fails, HostState, Machines, Operation, Outcome, Passes, TaskState, cut, host_done, notes_of, op_done, operation, served, task_done}
+use Rattle.fam_journal.specs.Machines.{Done, Fails, HostState, Machines, Operation, Outcome, Passes, TaskState, cut_task, host_done, notes_of, op_done, operation, served, task_done}
 use Rattle.fam_journal.specs.Members.{changed_at, index_from, index_of}
 use Rattle.fam_machine.specs.Mkfs.{EarlyRefusal, early_refusal}
 use Rattle.fam_machine.specs.Mkfs as early
-use Rattle.fam_journal.specs.Names.{AreNamed, IsNamed, NameDeclared, NamesCause, declared_after}
+use Rattle.fam_journal.specs.Names.{AreNamed, NamesHost, NameDeclared, NamesCause, declared_after}
 use Rattle.fam_journal.specs.Notes.{Note, Host, Start, Mark, Writes, Stop, Refused}
 use Rattle.fam_journal.specs.Past.{HostPast, Past, hosts_after, past_after, past_behind}
 use Rattle.fam_outcomes.specs.Texts.{names_after, names_behind, note_line, render, render_behind}
@@ -192,7 +192,7 @@ cause_more n k le (why.Busy host) is = omega (arith, le, is)
 cause_more n k le (why.Dirty host) is = omega (arith, le, is)
 cause_more n k le e is = tt
 
-note_more : (n k : ℕ) → n ≤ k → (note : Note) → IsNamed n note → IsNamed k note
+note_more : (n k : ℕ) → n ≤ k → (note : Note) → NamesHost n note → NamesHost k note
 note_more n k le (Host name uuid) is = tt
 note_more n k le (Refused name cause) is = cause_more n k le cause is
 note_more n k le e is = omega (arith, le, is)
@@ -240,7 +240,7 @@ named_as old new left notes told e f is =
 named_same : (old new : Machines) (notes : List Note) → length new.hosts ≡ length old.hosts → NameDeclared (length old.hosts) notes → declared_behind (length old.hosts) notes ≡ length old.hosts → Named old notes new
 named_same old new notes same are count = record { named = are; count = same ∙ sym count }
 
-named_cut : (h : ℕ) (m : Machines) (o : Option Failure) (d : Done) → h < length m.hosts → cut h m o ≡ Some d → Named m d.notes d.left
+named_cut : (h : ℕ) (m : Machines) (o : Option Failure) (d : Done) → h < length m.hosts → cut_task h m o ≡ Some d → Named m d.notes d.left
 named_cut h m None d below is = absurd cc
 named_cut h m (Some failure) d below is =
     subst (λ (z : Done). Named m z.notes z.left) (same_Some _ d is) (named_same m _ _ (length-changed_at h _ m.hosts) (below, tt) refl)
@@ -330,7 +330,7 @@ module _ (old : Machines) (notes : List Note) (new : Machines) where
   unfolding Names
   does_named c may does = by_refusal (refusal_of c old) (refusal_named old c) does
     where
-      by_refusal : (o : Option Refusal) → Names (length old.hosts) o → ByRefusal (name_of c) o notes old new (Acts c old notes new) → Named old notes new
+      by_refusal : (o : Option Refusal) → Names (length old.hosts) o → ByRefusal (asked_name c) o notes old new (Acts c old notes new) → Named old notes new
       by_refusal (Some cause) names x = named_as old new _ notes _ x.0 x.1 (named_same old old _ refl (names, tt) refl)
       by_refusal None names x = acts_named c may x
 
@@ -375,7 +375,7 @@ one_refusal : (name : List ℕ) (cause : Refusal) (old new : Machines) (notes : 
 one_refusal name cause old new notes named e f = named_as old new old notes _ e f (named_same old old _ refl (named, tt) refl)
 
 module _ (files : Files) where
-  begun_named : (name : List ℕ) (what : Ask) (old new : Session) (notes : List Note) → IsBegun files name what old notes new → Named old.machines notes new.machines
+  begun_named : (name : List ℕ) (what : Ask) (old new : Session) (notes : List Note) → CommandBegins files name what old notes new → Named old.machines notes new.machines
   begun_named name what old new notes x = does_named old.machines notes new.machines (call.Begins name x.cmd) tt x.does
 
   refused_named : (name : List ℕ) (what : Ask) (old new : Session) (notes : List Note) → RefusesEvent files name what old notes new → Named old.machines notes new.machines

@@ -12,7 +12,7 @@ use Rattle.fam_journal.specs.declared.refusal.Refusal.TheVariants as why
 use Rattle.fam_outcomes.specs.declared.status.Status.{Status}
 use Rattle.fam_outcomes.specs.declared.status.Status.TheVariants as status
 use Rattle.fam_journal.specs.Ends.{AllDone, Ending, EventsDone, HasCounted, MkfsFails, EndsOutOfMemory, EndsOutOfMemoryBroken, ReadsAfter, SinkFails, SourceFails}
-use Rattle.fam_journal.specs.EventForms.{EndsForm}
+use Rattle.fam_journal.specs.EventShapes.{EndsShape}
 use Rattle.fam_journal.specs.Events.{Session, first_session}
 use Rattle.fam_journal.specs.Follows.{Faulted, Short, SourceEnd}
 use Rattle.fam_journal.specs.Legal.{Legal}
@@ -98,12 +98,12 @@ pub record RunsOn (ending : Ending) (files : Files) (events : List Event) (start
   pub left : now ≡ Some last.machines.memory
   pub reads : ReadsAfter ending files events (first_session start) journal last follows (past_of start journal).state last.machines.memory
 
--- events ran: one journal, whose notes name hosts declared before them and which has the form of the events, the text that is
+-- events ran: one journal, whose notes name hosts declared before them and which has the shape of the events, the text that is
 -- to be put of it, and its status. the media's count rose by at least as many faults as the journal tells
 pub record HasRun (puts : Ending → List Note → List ℕ → Type 0) (gives : Ending → List Note → Status) (ending : Ending) (out : Outside) (events : List Event) (text : List ℕ) (own : Status) : Type 0 where
   pub journal : List Note
   pub named : NameDeclared 0 journal
-  pub form : EndsForm ending out.lines events [] journal
+  pub shape : EndsShape ending out.lines events [] journal
   pub counted : HasCounted out.media.old.faults out.media.new.faults journal
   pub caused : IsCaused ending events journal out
   pub text_is : puts ending journal text

@@ -7,10 +7,10 @@ use Rattle.fam_media.specs.States.{MediaState, ShelfState}
 use Rattle.fam_journal.specs.declared.event.Event.{Event}
 use Rattle.fam_journal.specs.CallRecords.{FitsMedia}
 use Rattle.fam_journal.specs.Ends.{HasCounted}
-use Rattle.fam_journal.specs.EventForms.{FollowsForm}
+use Rattle.fam_journal.specs.EventShapes.{FollowsShape}
 use Rattle.fam_journal.specs.Events.{Session, first_session}
 use Rattle.fam_journal.specs.Follows.{Follows}
-use Rattle.fam_journal.specs.Forms.{IsFormed}
+use Rattle.fam_journal.specs.Shapes.{IsShaped}
 use Rattle.fam_journal.specs.Kept.{Held}
 use Rattle.fam_journal.specs.Names.{NameDeclared}
 use Rattle.fam_journal.specs.View.{WorldView}
@@ -51,13 +51,13 @@ pub record FarOn (files : Files) (events : List Event) (start : Image) (n : Now)
   pub held : Held start last.machines n.world last.machines.memory
   pub copied : last.copied ≡ n.copied
 
--- the first `count` events are done: notes name hosts that were declared, in the form of these events; the media's count rose by
+-- the first `count` events are done: notes name hosts that were declared, in the shape of these events; the media's count rose by
 -- as many faults as they tell; tasks and cached lines are the media's, and hosts are what the journal tells
 pub record Far (b : Base) (count : ℕ) (n : Now) : Type 0 where
   pub named : NameDeclared 0 n.world.journal
   pub counted : HasCounted b.media.faults n.media.faults n.world.journal
   pub later : b.media.faults ≤ n.media.faults
   pub fits : FitsMedia b.lines n.world.hosts
-  pub formed : IsFormed n.world
-  pub form : FollowsForm b.lines (take count b.events) [] n.world.journal
+  pub shaped : IsShaped n.world
+  pub shape : FollowsShape b.lines (take count b.events) [] n.world.journal
   pub on : IfModelled b.media.image (λ start. IfModelled b.files (λ files. FarOn files (take count b.events) start n))

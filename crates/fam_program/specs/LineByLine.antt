@@ -4,8 +4,8 @@ use Rattle.fam_grammar.specs.Scripts.{lines_of, script_events}
 use Rattle.fam_journal.specs.declared.event.Event.{Event}
 
 -- a script's lines are a line and those of what is behind it; or the line is all
-abbrev pub IsCut : List ℕ → List ℕ → List ℕ → Type 0
-IsCut script line behind = (lines_of script ≡ line ∷ lines_of behind) ⊎ ((lines_of script ≡ line ∷ []) × (behind ≡ []))
+abbrev pub SplitsAtLine : List ℕ → List ℕ → List ℕ → Type 0
+SplitsAtLine script line behind = (lines_of script ≡ line ∷ lines_of behind) ⊎ ((lines_of script ≡ line ∷ []) × (behind ≡ []))
 
 -- the event of a line, if it has one, before those of others
 abbrev pub with_event : Option Event → List Event → List Event

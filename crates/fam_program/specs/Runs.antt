@@ -4,7 +4,7 @@ use Rattle.fam_media.specs.Outside.{IfModelled}
 use Rattle.fam_media.specs.States.{change, MediaState, ShelfChange, SinkChange}
 use Rattle.fam_journal.specs.declared.event.Event.{Event}
 use Rattle.fam_journal.specs.Ends.{Ending, EndsOutOfMemory, HasCounted, MkfsFails, SourceFails}
-use Rattle.fam_journal.specs.EventForms.{EndsForm}
+use Rattle.fam_journal.specs.EventShapes.{EndsShape}
 use Rattle.fam_journal.specs.Names.{NameDeclared}
 use Rattle.fam_journal.specs.Notes.{Note}
 use Rattle.fam_outcomes.specs.Runs.{IsCaused, Outside, RunsOn}
@@ -21,7 +21,7 @@ ending_of fault.OutOfMemory = EndsOutOfMemory
 -- all that a run promises of its journal
 pub record HasEnded (ending : Ending) (out : Outside) (events : List Event) (journal : List Note) : Type 0 where
   pub named : NameDeclared 0 journal
-  pub form : EndsForm ending out.lines events [] journal
+  pub shape : EndsShape ending out.lines events [] journal
   pub counted : HasCounted out.media.old.faults out.media.new.faults journal
   pub caused : IsCaused ending events journal out
   pub told : IfModelled out.media.old.image (λ start. IfModelled out.shelf.old.files (λ files. RunsOn ending files events start out.media.new.image journal))

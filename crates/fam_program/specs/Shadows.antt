@@ -28,16 +28,16 @@ use Rattle.fam_program.specs.Runs.{HasEnded}
 use Rattle.fam_journal.specs.NoteClasses.{NoteClass, note_class, Declared, Formatted, Going, Answering, Refusing}
 
 -- a shelf on which no file is, and no call of which failed
-abbrev pub empty_shelf : ShelfState
-empty_shelf = record { files = Some map.empty; faults = 0; shorts = 0 }
+abbrev pub bare_shelf : ShelfState
+bare_shelf = record { files = Some map.empty; faults = 0; shorts = 0 }
 
 -- it stays so
 abbrev pub no_files : ShelfChange
-no_files = record { old = empty_shelf; new = empty_shelf }
+no_files = record { old = bare_shelf; new = bare_shelf }
 
 -- it is as it was, and no call was made of it
-abbrev pub IsUntouched : ShadeChange → Type 0
-IsUntouched shade = shade.new ≡ shade.old
+abbrev pub IsShadeUntouched : ShadeChange → Type 0
+IsShadeUntouched shade = shade.new ≡ shade.old
 
 -- the command that shows the tree
 abbrev pub logplay : OneShot
@@ -85,15 +85,15 @@ shown_tree (note ∷ []) = tree_in note
 shown_tree (note ∷ next ∷ notes) = shown_tree (next ∷ notes)
 
 -- why the shadow wasn't written, as a line. A name stands as it is, without further escapes
-abbrev pub fault_text : ShadowFault → List ℕ
-fault_text (fault.Clash name) = line (codes "refused clash " ++ name)
-fault_text (fault.ShadeFault name) = line (codes "shade fault " ++ name)
-fault_text fault.OutOfMemory = memory_line
+abbrev pub shadow_fault_text : ShadowFault → List ℕ
+shadow_fault_text (fault.Clash name) = line (codes "refused clash " ++ name)
+shadow_fault_text (fault.ShadeFault name) = line (codes "shade fault " ++ name)
+shadow_fault_text fault.OutOfMemory = memory_line
 
 -- how it was written, as a line
 abbrev pub shadow_text : ℕ → Result (Unit {0}) ShadowFault → List ℕ
 shadow_text m (Ok done) = line (codes "shadowed" ++ number m)
-shadow_text m (Err given) = fault_text given
+shadow_text m (Err given) = shadow_fault_text given
 
 -- the status of a shadow, by how the writing ended
 abbrev pub shadow_status : Result (Unit {0}) ShadowFault → Status
@@ -125,7 +125,7 @@ pub record HasShadowed (me : List ℕ) (out : Outside) (shade : ShadeChange) (te
 pub record HasLogplayed (me : List ℕ) (out : Outside) (shade : ShadeChange) (text : List ℕ) (own : Status) : Type 0 where
   pub runs : ShotRuns me logplay out text own
   pub none : runs.ending ≡ AllDone → shown_tree runs.run.journal ≡ None
-  pub untouched : IsUntouched shade
+  pub untouched : IsShadeUntouched shade
 
 -- what a shadow comes to: a logplay ran, and its tree was written, or not
 abbrev pub ShadowRuns : Option (List ℕ) → Outside → ShadeChange → List ℕ → Status → Type 0
@@ -135,7 +135,7 @@ ShadowRuns (Some me) out shade text own = HasShadowed me out shade text own ⊎ 
 -- no event was run: the words ask for no shadow, or no memory was left
 pub record ShadowEarly (asked : Option (List ℕ)) (out : Outside) (shade : ShadeChange) (text : List ℕ) (own : Status) : Type 0 where
   pub early : EndsEarly script_events storm (option_map (λ me. Single me logplay) asked) out text own
-  pub untouched : IsUntouched shade
+  pub untouched : IsShadeUntouched shade
 
 -- what is to be put, what of it is put, and what is left in the folder, for a host of this UUID; or the words ask for no shadow
 pub record ShadowTop (asked : Option (List ℕ)) (out : Outside) (shade : ShadeChange) (given : Status) : Type 0 where
@@ -173,4 +173,4 @@ pub record ShowsTree (me : List ℕ) (out : Outside) (shade : ShadeChange) (give
 
 -- or it ends as logplay by itself does, and the folder is as it was
 abbrev pub IsOfLogplay : List ℕ → Outside → ShadeChange → Status → Type 0
-IsOfLogplay me out shade given = ShowsTree me out shade given ⊎ (TopEnds script_events storm (Some (Single me logplay)) out given × IsUntouched shade)
+IsOfLogplay me out shade given = ShowsTree me out shade given ⊎ (TopEnds script_events storm (Some (Single me logplay)) out given × IsShadeUntouched shade)

@@ -42,14 +42,14 @@ AreShotEvents [] = ⊤
 AreShotEvents (event ∷ events) = IsShotEvent event × AreShotEvents events
 
 -- no note but the last one stops
-abbrev pub GoesOn : List Note → Type 0
-GoesOn journal = list_any note_stops (without_last journal) ≡ false
+abbrev pub OnlyLastStops : List Note → Type 0
+OnlyLastStops journal = list_any note_stops (without_last journal) ≡ false
 
 -- the first ones are done, up to a note that stops; where none does, all are
 pub record HasStopped (out : Outside) (events : List Event) (journal : List Note) : Type 0 where
   pub count : ℕ
   pub ended : HasEnded AllDone out (take count events) journal
-  pub goes_on : GoesOn journal
+  pub goes_on : OnlyLastStops journal
   pub all : last_stops journal ≡ false → take count events ≡ events
 
 -- where a run ends early, but by a mkfs in which the media failed, no note of it tells a media fault
@@ -61,7 +61,7 @@ HidesNoFault fault.OutOfMemory journal = IsFaultless journal
 -- or one of them ended the run early
 abbrev pub ShotEnded : Result (Unit {0}) EventFault → Outside → List Event → List Note → Type 0
 ShotEnded (Ok x) out events journal = HasStopped out events journal
-ShotEnded (Err fault) out events journal = HasEnded (ending_of fault) out events journal × GoesOn journal × HidesNoFault fault journal
+ShotEnded (Err fault) out events journal = HasEnded (ending_of fault) out events journal × OnlyLastStops journal × HidesNoFault fault journal
 
 -- one host is declared, and runs one command
 pub record IsOneRun (events : List Event) : Type 0 where

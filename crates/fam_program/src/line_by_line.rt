@@ -10,7 +10,7 @@ ghost use Rattle.fam_journal.specs.declared.event.Event.{Event as Happening};
 ghost use Rattle.fam_journal.specs.View.{empty_world};
 ghost use Rattle.fam_media.specs.Causes.{IsShelfSteady, IsSteady};
 ghost use Rattle.fam_media.specs.States.{change, SinkChange};
-ghost use Rattle.fam_program.specs.LineByLine.{IsCut, StartsWith};
+ghost use Rattle.fam_program.specs.LineByLine.{SplitsAtLine, StartsWith};
 ghost use Rattle.fam_program.specs.Unprinted.{EventsEnded};
 ghost use Rattle.fam_program.specs.Runs.{outside_of};
 
@@ -25,7 +25,7 @@ use std::alloc::Global;
 
 /// The first line of a script, without its line feed, and what is behind it.
 fn cut_line(script: &[u8]) -> (&[u8], &[u8])
-    ensures cut { IsCut script.now result.0.now result.1.now }
+    ensures cut { SplitsAtLine script.now result.0.now result.1.now }
     ensures shorter { 0 < length script.now → length result.1.now < length script.now }
 {
     for (i, byte) in script.iter().enumerate() {

@@ -2,7 +2,7 @@
 
 ghost use Rattle.std.specs.Prelude.{◌≡◌, ◌≤◌, [], IsErrOf, OnOk, drop, length, take};
 ghost use Rattle.fam_media.specs.States.{change};
-ghost use Rattle.fam_journal.specs.Names.{IsNamed, NameDeclared};
+ghost use Rattle.fam_journal.specs.Names.{NamesHost, NameDeclared};
 ghost use Rattle.fam_outcomes.specs.Programs.{memory_line, usage_line};
 ghost use Rattle.fam_outcomes.specs.declared.status.Status.TheVariants as status;
 ghost use Rattle.fam_outcomes.specs.Texts as text;
@@ -67,7 +67,7 @@ fn put_note<K: Sink>(
     names: &mut Vec<HostName>,
     out: &mut K,
 ) -> Result<(), PutFault>
-    requires { IsNamed (length names.old.items) (note_view note.now) }
+    requires { NamesHost (length names.old.items) (note_view note.now) }
     ensures put { OnOk result (PutWhole (text.note_line names.old.items (note_view note.now))
         (change K.state out.old out.new)) }
     ensures names { OnOk result (names.new.items ≡ text.names_after names.old.items (note_view note.now)) }

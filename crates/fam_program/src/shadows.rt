@@ -9,7 +9,7 @@ ghost use Rattle.fam_notes.specs.Notes.{answer_view, note_view, notes_view};
 ghost use Rattle.fam_program.specs.Puts.{Put};
 ghost use Rattle.fam_program.specs.Runs.{outside_of};
 ghost use Rattle.fam_program.specs.Shadows as spec;
-ghost use Rattle.fam_program.specs.Shadows.{ShadowTop, fault_text, no_files, shadow_status, shadow_text};
+ghost use Rattle.fam_program.specs.Shadows.{ShadowTop, shadow_fault_text, no_files, shadow_status, shadow_text};
 
 use crate::no_files::NoFiles;
 use crate::puts::{put_line, put_memory};
@@ -105,7 +105,7 @@ fn done_tree<'a>(ended: &Result<(), EventFault>, notes: &'a [Note]) -> Option<(u
 
 /// Why a shadow isn't written whole, as a line.
 fn fault_line(alloc: Global, fault: &ShadowFault) -> Result<Vec<u8>, OutOfMemory>
-    ensures { IfOk result (λ bytes. bytes.items ≡ fault_text fault.now) }
+    ensures { IfOk result (λ bytes. bytes.items ≡ shadow_fault_text fault.now) }
 {
     match fault {
         ShadowFault::Clash(name) => {

@@ -10,7 +10,7 @@ use Rattle.fam_journal.specs.declared.refusal.Refusal.{Refusal}
 use Rattle.fam_journal.specs.declared.refusal.Refusal.TheVariants as why
 use Rattle.fam_commands.specs.Classes.{is_mount}
 use Rattle.fam_journal.specs.Calls as call
-use Rattle.fam_journal.specs.Calls.{Acts, ActsAt, AtNumber, ByRefusal, Call, Does, OnHost, DoesOperations, busy_at, idle_refusal, may_begin, name_of, number_of, on_host, refusal_of, when}
+use Rattle.fam_journal.specs.Calls.{Acts, ActsAt, AtNumber, ByRefusal, Call, Does, OnHost, DoesOperations, busy_at, idle_refusal, may_begin, asked_name, number_of, on_host, refusal_of, when}
 use Rattle.fam_journal.specs.CallRecords.{FinishPart, Answers, IsSoundCall, DoesRow, WorldCall, refusal_noted}
 use Rattle.fam_journal.specs.Ends.{AllDone, CutEventReads, EventsDone, MkfsFails, EndsOutOfMemory}
 use Rattle.fam_journal.specs.Events.{DoesEvent, Session, first_session}
@@ -91,7 +91,7 @@ free_of c lines before now old new a = go (refusal_in c old lines) refl
     go : (o : Option Refusal) → refusal_in c old lines ≡ o → o ≡ None
     go None is = refl
     go (Some cause) is =
-        absurd (let said : None ≡ refusal_noted (Refused (name_of c) cause ∷ []) = a.said ∙ ap refusal_noted (a.refused cause is).0 in cc)
+        absurd (let said : None ≡ refusal_noted (Refused (asked_name c) cause ∷ []) = a.said ∙ ap refusal_noted (a.refused cause is).0 in cc)
 
 -- one call's notes behind a journal, and what is noted later
 behind : (j n rest k : List Note) → k ≡ j ++ n → k ++ rest ≡ j ++ (n ++ rest)

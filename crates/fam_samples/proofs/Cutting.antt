@@ -20,7 +20,7 @@ use Rattle.fam_machine.specs.Operations.{Machine, not_brought, operated, line_no
 use Rattle.fam_machine.proofs.CacheLemmas.{cell_at-empty, cell_at-with_cell_same}
 use Rattle.fam_rules.specs.Place.{line_bytes}
 use Rattle.fam_journal.specs.declared.refusal.Refusal.TheVariants as why
-use Rattle.fam_journal.specs.Calls.{AtNumber, BreaksOff, Call, CutsAt, Makes, MakesCut, OnHost, number_of, refusal_of}
+use Rattle.fam_journal.specs.Calls.{AtNumber, CutCall, Call, CutsAt, Makes, MakesCut, OnHost, number_of, refusal_of}
 use Rattle.fam_journal.specs.CallRecords.{Answers, LeavesBroken, CallBreaks, FitsMedia, HostFits, IsLateMake, MakeCall}
 use Rattle.fam_journal.specs.Kept.{Held}
 use Rattle.fam_journal.specs.Machines.{HostState, Machines, machine_of, with_machine}
@@ -32,8 +32,8 @@ use Rattle.fam_journal.proofs.Calls.Hosts.{stands_changed}
 use Rattle.fam_journal.proofs.JournalLaws.{cut_legal, cut_reads_as}
 use Rattle.fam_journal.proofs.Calls.Shown.{number_shown, refusal_shown}
 use Rattle.fam_journal.proofs.Calls.Stepped.{find_host}
-use Rattle.fam_samples.specs.Bodies.{after_cut, before_mkfs, host_m}
-use Rattle.fam_samples.proofs.Formed.{cut_form, formed_m}
+use Rattle.fam_samples.specs.Bodies.{after_cut, before_mkfs, world_host}
+use Rattle.fam_samples.proofs.Shaped.{cut_shape, shaped_m}
 use Rattle.fam_samples.proofs.Making.{free}
 use Rattle.fam_samples.proofs.Stepping.{none_held}
 
@@ -76,15 +76,15 @@ module _ (me fs : List ℕ) (is_uuid : IsUuid fs) (image : Image) (enough : need
       named = (tt, tt);
       hosts = refl;
       fits = λ was. fits;
-      formed = λ is. formed_m me journal finmap.empty (with_cell 0 Absent finmap.empty) is fault refl;
+      shaped = λ is. shaped_m me journal finmap.empty (with_cell 0 Absent finmap.empty) is fault refl;
     };
     said = refl;
     refused = λ cause is. absurd (let none = free me fs is_uuid image enough journal faults in cc);
     free = λ cause none answered. subst IsLateMake (same_Some (why.MediaFault line_0) cause answered) tt;
-    form = λ is. cut_form me journal finmap.empty (with_cell 0 Absent finmap.empty) is fs lines enough 0;
+    shape = λ is. cut_shape me journal finmap.empty (with_cell 0 Absent finmap.empty) is fs lines enough 0;
   }
 
-  module _ (start : Image) (state : Machines) (held : Held start state old state.memory) (same : image ≡ state.memory) (lines_are : length state.memory ≡ length start) (stands : WorldStands (length state.memory) state old) (host : HostState) (host_is : slice_get state.hosts 0 ≡ Some host) (mine : HostStands (length state.memory) host (host_m me finmap.empty None)) where
+  module _ (start : Image) (state : Machines) (held : Held start state old state.memory) (same : image ≡ state.memory) (lines_are : length state.memory ≡ length start) (stands : WorldStands (length state.memory) state old) (host : HostState) (host_is : slice_get state.hosts 0 ≡ Some host) (mine : HostStands (length state.memory) host (world_host me finmap.empty None)) where
     abbrev p : Params
     p = asked (mkfs_request fs 4096 65536 1 true None) host.uuid (length state.memory)
 
@@ -122,7 +122,7 @@ module _ (me fs : List ℕ) (is_uuid : IsUuid fs) (image : Image) (enough : need
       left_is = refl;
     }
 
-    row : BreaksOff call state (fault ∷ []) left
+    row : CutCall call state (fault ∷ []) left
     row = (
       none,
       subst (λ (o : Option ℕ). AtNumber o state (λ h host. CutsAt call h host state (fault ∷ []) left)) (sym number_is)
@@ -132,7 +132,7 @@ module _ (me fs : List ℕ) (is_uuid : IsUuid fs) (image : Image) (enough : need
     new_stands : WorldStands (length start) left new
     new_stands =
         subst (λ (n : ℕ). WorldStands n left new) lines_are
-        (stands_changed 0 (host_m me finmap.empty None) old.hosts refl (λ v. record v { cache = with_cell 0 Absent finmap.empty }) (length state.memory) state.hosts host host_is (λ z. record z { cache = behind.cache; task = host.task })
+        (stands_changed 0 (world_host me finmap.empty None) old.hosts refl (λ v. record v { cache = with_cell 0 Absent finmap.empty }) (length state.memory) state.hosts host host_is (λ z. record z { cache = behind.cache; task = host.task })
         record { name = mine.name; uuid = mine.uuid; cache = ap (with_cell 0 Absent) mine.cache; task = mine.task; kept = mine.kept; joined = mine.joined } stands)
 
     breaks : LeavesBroken start (Some image) call state old new
@@ -151,7 +151,7 @@ module _ (me fs : List ℕ) (is_uuid : IsUuid fs) (image : Image) (enough : need
   leaves start state told held =
       let lines_are : length state.memory ≡ length start = held.kept.held.lines in
       let stands : WorldStands (length state.memory) state old = subst (λ (n : ℕ). WorldStands n state old) (sym lines_are) held.stands in
-      let found = find_host (length state.memory) (host_m me finmap.empty None) (slice_get state.hosts 0) (stands 0) in
+      let found = find_host (length state.memory) (world_host me finmap.empty None) (slice_get state.hosts 0) (stands 0) in
       breaks start state held (same_Some image state.memory told) lines_are stands found.0 found.1 found.2
 
   pub meets_cut : MakeCall call lines (Some (why.MediaFault line_0)) (media_change (Some image) faults (Some image) (faults + 1)) old new

@@ -15,7 +15,7 @@ use Rattle.fam_rules.specs.Asks.{File, entries_of}
 use Rattle.fam_rules.specs.Decide.{decide, decide_wish, room_for}
 use Rattle.fam_journal.specs.Legal.{IsDecided}
 use Rattle.fam_journal.specs.Past.{HostPast}
-use Rattle.fam_samples.specs.Scene.{client, folder, master, mkdir, params, x, y}
+use Rattle.fam_samples.specs.Scene.{client_uuid, folder, master, mkdir, params, x, y}
 
 -- what is decided is that of the host's own command
 pub decides : (p : Params) (host : HostPast) (history : List File) (decision : Result Entry Refused) (cmd : Cmd) → host.cmd ≡ Some cmd → IsDecided p host history None decision → decide p host.uuid (entries_of history) cmd ≡ Some decision
@@ -31,7 +31,7 @@ pub again : decide params master (folder x ∷ []) (mkdir x) ≡ Some (Err (caus
 unfolding decide_wish room_for shape_of
 again = rw (finmap.get-insert nat_list_cmp_total (finmap.empty {X = Entry}) x (folder x) x) refl
 
-pub of_client : decide params client [] (mkdir x) ≡ Some (Err (cause.NotMaster client master))
+pub of_client : decide params client_uuid [] (mkdir x) ≡ Some (Err (cause.NotMaster client_uuid master))
 unfolding decide_wish
 of_client = refl
 

@@ -17,7 +17,7 @@ use Rattle.fam_journal.specs.Notes.{Note, Found}
 use Rattle.fam_journal.specs.Past.{Sound, State, finds, first_past, past_of, shows}
 use Rattle.fam_journal.proofs.JournalLaws.{held_reads_as}
 use Rattle.fam_journal.proofs.Settled.Journals.{legal_rest, past_both}
-use Rattle.fam_samples.specs.Wrong.{drops}
+use Rattle.fam_samples.specs.Wrong.{drops_any}
 
 same_test : (n : ℕ) → (n == n) ≡ true
 same_test n = grind (arith, nat_tests)
@@ -39,7 +39,7 @@ solo p history image (inr is) = ap count_in is ∙ length-map history (λ (f : F
 
 -- by the right definition the pending entry has joined the history, by the wrong one it is gone
 differ : (p : Params) (history : List File) (pending : Option File) (image : Image) → FoundPending (length history + 1) (length history) pending
-    → ReadsAs (finds (length history + 1) (Sound p history pending)) image → ReadsAs (drops (length history + 1) (Sound p history pending)) image → ⊥
+    → ReadsAs (finds (length history + 1) (Sound p history pending)) image → ReadsAs (drops_any (length history + 1) (Sound p history pending)) image → ⊥
 differ p history None image found right wrong = absurd (omega (arith, found))
 differ p history (Some f) image found right wrong =
     absurd (omega (arith, longer, shorter))
@@ -59,7 +59,7 @@ differ p history (Some f) image found right wrong =
     shorter : count_in (reading image) ≡ length history
     shorter = solo p history image dropped
 
-pub misread : (start : Image) (state : Machines) (world : WorldView) (image : Image) (notes : List Note) (host : ℕ) (p : Params) (history : List File) (pending : Option File) → Held start state world image → (past_of start notes).state ≡ Sound p history pending → world.journal ≡ notes ++ Found host (length history + 1) ∷ [] → ReadsAs (drops (length history + 1) (Sound p history pending)) image → ⊥
+pub misread : (start : Image) (state : Machines) (world : WorldView) (image : Image) (notes : List Note) (host : ℕ) (p : Params) (history : List File) (pending : Option File) → Held start state world image → (past_of start notes).state ≡ Sound p history pending → world.journal ≡ notes ++ Found host (length history + 1) ∷ [] → ReadsAs (drops_any (length history + 1) (Sound p history pending)) image → ⊥
 misread start state world image notes host p history pending held was is wrong = differ p history pending image found right wrong
   where
     legal : Legal start (notes ++ Found host (length history + 1) ∷ [])

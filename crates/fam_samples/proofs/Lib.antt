@@ -1,7 +1,7 @@
 mod Decided
 mod Longs
 mod Dropped
-pub mod Formed
+pub mod Shaped
 pub mod Chained
 pub mod Stepping
 pub mod Making

@@ -40,8 +40,8 @@ use Rattle.fam_protocol.proofs.Hosts.Inside.{AsksWithin}
 use Rattle.fam_journal.proofs.JournalLaws.{kept_on}
 use Rattle.fam_journal.proofs.Calls.Shown.{number_shown, refusal_shown}
 use Rattle.fam_journal.proofs.Calls.Stepped.{find_host}
-use Rattle.fam_samples.proofs.Formed.{formed_m, made_form}
-use Rattle.fam_samples.specs.Bodies.{after_mkfs, before_mkfs, host_m, made_machine, params_m}
+use Rattle.fam_samples.proofs.Shaped.{shaped_m, made_shape}
+use Rattle.fam_samples.specs.Bodies.{after_mkfs, before_mkfs, world_host, made_machine, params_m}
 
 -- Operations at the first lines leave copies of the first lines.
 
@@ -161,15 +161,15 @@ module _ (me fs : List ℕ) (is_uuid : IsUuid fs) (image : Image) (enough : need
       named = (omega arith, tt);
       hosts = refl;
       fits = λ was. fits;
-      formed = λ is. formed_m me journal finmap.empty done.cache is (Made 0 p) refl;
+      shaped = λ is. shaped_m me journal finmap.empty done.cache is (Made 0 p) refl;
     };
     said = refl;
     refused = λ cause is. absurd (let none = free in cc);
     free = λ cause none answered. absurd cc;
-    form = λ is. made_form me journal finmap.empty done.cache is fs lines enough;
+    shape = λ is. made_shape me journal finmap.empty done.cache is fs lines enough;
   }
 
-  module _ (start : Image) (state : Machines) (held : Held start state old state.memory) (same : image ≡ state.memory) (lines_are : length state.memory ≡ length start) (stands : WorldStands (length state.memory) state old) (host : HostState) (host_is : slice_get state.hosts 0 ≡ Some host) (mine : HostStands (length state.memory) host (host_m me finmap.empty None)) where
+  module _ (start : Image) (state : Machines) (held : Held start state old state.memory) (same : image ≡ state.memory) (lines_are : length state.memory ≡ length start) (stands : WorldStands (length state.memory) state old) (host : HostState) (host_is : slice_get state.hosts 0 ≡ Some host) (mine : HostStands (length state.memory) host (world_host me finmap.empty None)) where
     abbrev call : Call
     call = Makes (codes "m") (mkfs_request fs 4096 65536 1 true None)
 
@@ -205,7 +205,7 @@ module _ (me fs : List ℕ) (is_uuid : IsUuid fs) (image : Image) (enough : need
     new_stands : WorldStands (length start) left new
     new_stands =
         subst (λ (n : ℕ). WorldStands n left new) lines_are
-        (stands_changed 0 (host_m me finmap.empty None) old.hosts refl (λ v. record v { cache = done.cache }) (length state.memory) state.hosts host host_is (λ z. record z { cache = behind.cache; task = host.task })
+        (stands_changed 0 (world_host me finmap.empty None) old.hosts refl (λ v. record v { cache = done.cache }) (length state.memory) state.hosts host host_is (λ z. record z { cache = behind.cache; task = host.task })
         record { name = mine.name; uuid = mine.uuid; cache = ap (λ (z : Machine). (operated_all (mkfs_ops p) z).cache) machine_is; task = mine.task; kept = mine.kept; joined = mine.joined } stands)
 
     moves : DoesRow start (Some done.image) (Does call state) old new
@@ -222,7 +222,7 @@ module _ (me fs : List ℕ) (is_uuid : IsUuid fs) (image : Image) (enough : need
   keeps start state told held =
       let lines_are : length state.memory ≡ length start = held.kept.held.lines in
       let stands : WorldStands (length state.memory) state old = subst (λ (n : ℕ). WorldStands n state old) (sym lines_are) held.stands in
-      let found = find_host (length state.memory) (host_m me finmap.empty None) (slice_get state.hosts 0) (stands 0) in
+      let found = find_host (length state.memory) (world_host me finmap.empty None) (slice_get state.hosts 0) (stands 0) in
       moves start state held (same_Some image state.memory told) lines_are stands found.0 found.1 found.2
 
   pub meets_mkfs : MakeCall (Makes (codes "m") (mkfs_request fs 4096 65536 1 true None)) lines None (media_change (Some image) faults (Some done.image) faults) old new

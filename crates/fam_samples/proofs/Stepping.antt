@@ -18,14 +18,14 @@ use Rattle.fam_commands.specs.Task.{Task, starting}
 use Rattle.fam_machine.proofs.CacheLemmas.{cell_at-empty, cell_at-with_cell_other, cell_at-with_cell_same}
 use Rattle.fam_journal.specs.Calls.{Steps, refusal_of}
 use Rattle.fam_journal.specs.CallRecords.{AnswersStep, CallKeeps, FitsMedia, HostFits, StepCall}
-use Rattle.fam_journal.specs.Forms.{IsFormed}
+use Rattle.fam_journal.specs.Shapes.{IsShaped}
 use Rattle.fam_journal.specs.Notes.{Note}
 use Rattle.fam_journal.specs.View.{WorldStands, WorldView}
 use Rattle.fam_journal.specs.ByWorld.{number_in, refusal_in}
-use Rattle.fam_journal.proofs.Forms.Views.{step_formed, world_formed}
+use Rattle.fam_journal.proofs.Shapes.Views.{step_shaped, world_shaped}
 use Rattle.fam_journal.proofs.JournalLaws.{kept_on}
 use Rattle.fam_journal.proofs.Calls.OwnSteps.{own_step}
-use Rattle.fam_samples.specs.Bodies.{after_step, before_step, host_m}
+use Rattle.fam_samples.specs.Bodies.{after_step, before_step, world_host}
 
 -- no line is held
 pub none_held : (l : ℕ) → cell_at (with_cell 0 Absent finmap.empty) l ≡ Absent
@@ -67,12 +67,12 @@ module _ (me : List ℕ) (lines : ℕ) (journal : List Note) where
         named = tt;
         hosts = refl;
         fits = λ was. fits;
-        formed = λ is. subst (λ (z : List Note). IsFormed (record { hosts = new.hosts; journal = z })) (append-nil journal) (world_formed old is 0 (host_m me finmap.empty (Some t)) refl t refl 0 (with_cell 0 Absent finmap.empty));
+        shaped = λ is. subst (λ (z : List Note). IsShaped (record { hosts = new.hosts; journal = z })) (append-nil journal) (world_shaped old is 0 (world_host me finmap.empty (Some t)) refl t refl 0 (with_cell 0 Absent finmap.empty));
       };
       said = refl;
       refused = λ cause is. absurd (let none = free in cc);
       free = λ cause none answered. absurd cc;
-      form = λ is. inl (step_formed old is 0 (host_m me finmap.empty (Some t)) refl t refl 0 (with_cell 0 Absent finmap.empty) lines (codes "m") number free);
+      shape = λ is. inl (step_shaped old is 0 (world_host me finmap.empty (Some t)) refl t refl 0 (with_cell 0 Absent finmap.empty) lines (codes "m") number free);
     };
     over_is = refl;
   }
@@ -81,7 +81,7 @@ module _ (me : List ℕ) (lines : ℕ) (journal : List Note) where
   keeps image start state told held =
       let same : image ≡ state.memory = same_Some image state.memory told in
       let lines_are : length state.memory ≡ length start = held.kept.held.lines in
-      let x = own_step state old (subst (λ (n : ℕ). WorldStands n state old) (sym lines_are) held.stands) (codes "m") 0 number (host_m me finmap.empty (Some t)) refl t refl in
+      let x = own_step state old (subst (λ (n : ℕ). WorldStands n state old) (sym lines_are) held.stands) (codes "m") 0 number (world_host me finmap.empty (Some t)) refl t refl in
       let stands : WorldStands (length start) x.left new = subst (λ (n : ℕ). WorldStands n x.left new) lines_are x.stands in
       record {
         state = x.left;

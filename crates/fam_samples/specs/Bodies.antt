@@ -17,12 +17,12 @@ use Rattle.fam_journal.specs.Notes.{Note, Made, Refused}
 use Rattle.fam_journal.specs.View.{HostView, WorldView}
 
 -- host m with a cache and a task
-abbrev pub host_m : List ℕ → Cache → Option Task → HostView
-host_m me cache task = record { name = codes "m"; uuid = me; cache = cache; task = task; kept = None }
+abbrev pub world_host : List ℕ → Cache → Option Task → HostView
+world_host me cache task = record { name = codes "m"; uuid = me; cache = cache; task = task; kept = None }
 
 -- it alone is declared
 abbrev pub world_m : List ℕ → Cache → Option Task → List Note → WorldView
-world_m me cache task journal = record { hosts = host_m me cache task ∷ []; journal = journal }
+world_m me cache task journal = record { hosts = world_host me cache task ∷ []; journal = journal }
 
 -- a logplay has begun, with an empty cache
 abbrev pub before_step : List ℕ → ℕ → List Note → WorldView

@@ -19,7 +19,7 @@ use Rattle.fam_journal.specs.declared.event.Event.{Event}
 use Rattle.fam_journal.specs.declared.event.Event.TheVariants as event
 use Rattle.fam_journal.specs.declared.refusal.Refusal.TheVariants as why
 use Rattle.fam_journal.specs.Events.{Session}
-use Rattle.fam_journal.specs.Forms.{HostForm, forms_after}
+use Rattle.fam_journal.specs.Shapes.{HostShape, shapes_after}
 use Rattle.fam_journal.specs.Machines.{HostState, Machines, TaskState, task_begun}
 use Rattle.fam_journal.specs.Notes.{Note, Host, Made, Cut, Start, Mark, Found, Writes, Answered, Halt, Refused, Replied}
 use Rattle.fam_journal.specs.Past.{Bad, Damage, Given, Past, State, new_host, past_of}
@@ -33,8 +33,8 @@ abbrev pub master : List ℕ
 master = uuid 1
 
 -- the UUID of another host
-abbrev pub client : List ℕ
-client = uuid 2
+abbrev pub client_uuid : List ℕ
+client_uuid = uuid 2
 
 -- units of 4 KiB and a log of 64 KiB on 4 MiB: 127 slots
 abbrev pub params : Params
@@ -65,8 +65,8 @@ unfoldable pub long : ℕ → List ℕ
 long n = replicate n 97
 
 -- a tree of one directory, and one of none
-abbrev pub tree_of : List ℕ → Tree
-tree_of path = replay (folder path ∷ [])
+abbrev pub small_tree : List ℕ → Tree
+small_tree path = replay (folder path ∷ [])
 
 -- a tree with no entry
 abbrev pub no_tree : Tree
@@ -76,11 +76,11 @@ no_tree = finmap.empty
 
 -- two hosts, and a new file system
 abbrev pub made : List Note
-made = Host (codes "m") master ∷ Host (codes "c") client ∷ Made 0 params ∷ []
+made = Host (codes "m") master ∷ Host (codes "c") client_uuid ∷ Made 0 params ∷ []
 
 -- two hosts, and a new file system of the second format
 abbrev pub made_second : List Note
-made_second = Host (codes "m") master ∷ Host (codes "c") client ∷ Made 0 (record params { format = 2; slots = 63 }) ∷ []
+made_second = Host (codes "m") master ∷ Host (codes "c") client_uuid ∷ Made 0 (record params { format = 2; slots = 63 }) ∷ []
 
 -- the master has found no entry, and is about to decide
 abbrev pub found : List Note
@@ -95,21 +95,21 @@ abbrev pub done : List Note
 done = writing ++ Answered 0 (Replied (Rattle.fam_rules.specs.Reply.Appended 0)) ∷ []
 
 -- what some notes tell, from an image without lines
-abbrev pub behind : List Note → Past
-behind journal = past_of [] journal
+abbrev pub notes_tell : List Note → Past
+notes_tell journal = past_of [] journal
 
 -- the state that they tell
 abbrev pub state_behind : List Note → State
-state_behind journal = (behind journal).state
+state_behind journal = (notes_tell journal).state
 
 -- an image without history, of two hosts
 abbrev pub damaged : Damage → ℕ → Past
 damaged damage gate =
-    record { start = []; state = Bad (Given []) damage gate; hosts = new_host (codes "m") master ∷ new_host (codes "c") client ∷ [] }
+    record { start = []; state = Bad (Given []) damage gate; hosts = new_host (codes "m") master ∷ new_host (codes "c") client_uuid ∷ [] }
 
 -- an image on which the maker of a file system halted after so many operations
 abbrev pub cut_off : ℕ → Past
-cut_off k = behind (writing ++ Halt 0 ∷ Cut 0 k ∷ [])
+cut_off k = notes_tell (writing ++ Halt 0 ∷ Cut 0 k ∷ [])
 
 -- A report.
 
@@ -150,8 +150,8 @@ abbrev pub beginning : TaskState
 beginning = task_begun None (mkdir x) master
 
 -- a machine, of whose sources nothing was read
-abbrev pub session : Machines → Session
-session machines = record { machines = machines; copied = 0 }
+abbrev pub unread_session : Machines → Session
+unread_session machines = record { machines = machines; copied = 0 }
 
 -- A script of ten events on an image without lines, and its notes.
 
@@ -186,13 +186,13 @@ ten_notes =
 -- What notes tell of host m alone: it is idle; or has begun a command.
 
 -- host m, idle
-abbrev pub form_m : HostForm
-form_m = record { name = codes "m"; uuid = master; task = None; keeps = false }
+abbrev pub shape_m : HostShape
+shape_m = record { name = codes "m"; uuid = master; task = None; keeps = false }
 
 -- host m alone, idle
-abbrev pub idle_m : List HostForm
-idle_m = form_m ∷ []
+abbrev pub idle_m : List HostShape
+idle_m = shape_m ∷ []
 
 -- host m alone, with a command that has just begun
-abbrev pub running_m : Cmd → List HostForm
-running_m cmd = forms_after idle_m (Start 0 cmd)
+abbrev pub running_m : Cmd → List HostShape
+running_m cmd = shapes_after idle_m (Start 0 cmd)

@@ -31,9 +31,9 @@ late_floor_after past note = record { start = past.start; state = state_after pa
 -- A master that finds one entry more than is settled drops what is pending.
 
 -- a found count that drops the pending entry also where it is one of them
-abbrev pub drops : ℕ → State → State
-drops n (Bad image damage gate) = Bad image damage gate
-drops n (Sound p history pending) =
+abbrev pub drops_any : ℕ → State → State
+drops_any n (Bad image damage gate) = Bad image damage gate
+drops_any n (Sound p history pending) =
     if n == length history + 1 then Sound p history None else if n == length history then Sound p history None else Sound p history pending
 
 -- the state behind a note, with such a count
@@ -43,7 +43,7 @@ dropping_state past (Made h p) = state_after past (Made h p)
 dropping_state past (Cut h k) = state_after past (Cut h k)
 dropping_state past (Start h cmd) = past.state
 dropping_state past (Mark h) = past.state
-dropping_state past (Found h n) = drops n past.state
+dropping_state past (Found h n) = drops_any n past.state
 dropping_state past (Writes h seq e) = state_after past (Writes h seq e)
 dropping_state past (Answered h answer) = state_after past (Answered h answer)
 dropping_state past (Stop h) = past.state

@@ -13,16 +13,16 @@ ghost use Rattle.fam_journal.specs.Notes.{Halt, Host, Refused, Start, Stop, Umou
 ghost use Rattle.fam_journal.specs.declared.event.Ask.TheVariants.{Plain};
 ghost use Rattle.fam_journal.specs.declared.event.Event.TheVariants as event;
 ghost use Rattle.fam_journal.specs.declared.refusal.Refusal.TheVariants as why;
-ghost use Rattle.fam_samples.specs.Scene.{beginning, client, host_m, master, mkdir, mounted_host, one_host, one_line, session, ten_events, ten_notes, uuid, x};
+ghost use Rattle.fam_samples.specs.Scene.{beginning, client_uuid, host_m, master, mkdir, mounted_host, one_host, one_line, unread_session, ten_events, ten_notes, uuid, x};
 ghost use Rattle.fam_machine.specs.HostMoves.{Evict, Fetch, moved};
 ghost use Rattle.fam_machine.specs.Operations.{Breaking};
 ghost use Rattle.fam_media.specs.Files.{Files};
 
 /// The first refusal of each call, in its order.
 pub fn refusals_in_order()
-    ensures same_name { refusal_of (Declares (codes "m") client) (one_host [] None) ≡ Some (why.SameHost (record { 0 = 0 })) }
+    ensures same_name { refusal_of (Declares (codes "m") client_uuid) (one_host [] None) ≡ Some (why.SameHost (record { 0 = 0 })) }
     ensures same_uuid { refusal_of (Declares (codes "d") master) (one_host [] None) ≡ Some (why.SameHost (record { 0 = 0 })) }
-    ensures another { refusal_of (Declares (codes "c") client) (one_host [] None) ≡ None }
+    ensures another { refusal_of (Declares (codes "c") client_uuid) (one_host [] None) ≡ None }
     ensures no_maker { refusal_of (Makes (codes "c") (mkfs_request (uuid 255) 5000 0 1 false None)) (one_host [] None) ≡ Some why.NoHost }
     ensures geometry { refusal_of (Makes (codes "m") (mkfs_request (uuid 255) 5000 8388608 1 false None)) (one_host [] (Some beginning))
         ≡ Some (why.BadGeometry 5000 8388608) }
@@ -51,7 +51,7 @@ pub fn calls_without_operations()
     ensures host { Does (Declares (codes "m") master) (unused []) (Host (codes "m") master ∷ []) (one_host [] None) }
     ensures host_is_not_forgotten { Does (Declares (codes "m") master) (unused []) (Host (codes "m") master ∷ []) (unused []) → ⊥ }
     ensures host_is_noted { Does (Declares (codes "m") master) (unused []) [] (one_host [] None) → ⊥ }
-    ensures refused_host { Does (Declares (codes "m") client) (one_host [] None) (Refused (codes "m") (why.SameHost (record { 0 = 0 })) ∷ []) (one_host [] None) }
+    ensures refused_host { Does (Declares (codes "m") client_uuid) (one_host [] None) (Refused (codes "m") (why.SameHost (record { 0 = 0 })) ∷ []) (one_host [] None) }
     ensures begin { (image : Image) → nat_lt (length image) least_lines ≡ false
         → Does (Begins (codes "m") (mkdir x)) (one_host image None) (Start 0 (mkdir x) ∷ []) (one_host image (Some beginning)) }
     ensures begin_is_not_refused { (image : Image) → nat_lt (length image) least_lines ≡ false
@@ -84,11 +84,11 @@ pub fn moves_and_operations()
 
 /// Events of a script, and a script of ten events with its ten notes.
 pub fn events()
-    ensures ten { (files : Files) → Follows files ten_events (first_session []) ten_notes (session (one_host [] None)) }
+    ensures ten { (files : Files) → Follows files ten_events (first_session []) ten_notes (unread_session (one_host [] None)) }
     ensures nothing_is_left_out { (files : Files) → Follows files (event.Host (codes "m") master ∷ []) (first_session []) [] (first_session []) → ⊥ }
-    ensures nothing_is_done_twice { (files : Files) → Follows files (event.Host (codes "m") master ∷ []) (first_session []) (Host (codes "m") master ∷ Host (codes "m") master ∷ []) (session (one_host [] None)) → ⊥ }
-    ensures step_of_an_idle_host { (files : Files) → DoesEvent files (event.Step (codes "m") 5) (session (one_host [] None)) (Refused (codes "m") why.Idle ∷ []) (session (one_host [] None)) }
-    ensures one_refusal_of_many_steps { (files : Files) → DoesEvent files (event.Step (codes "m") 2) (session (one_host [] None)) (Refused (codes "m") why.Idle ∷ Refused (codes "m") why.Idle ∷ []) (session (one_host [] None)) → ⊥ }
-    ensures run_of_a_small_image { (files : Files) → DoesEvent files (event.Run (codes "m") (Plain Logplay)) (session (one_host [] None)) (Refused (codes "m") (why.ImageSmall 0) ∷ []) (session (one_host [] None)) }
-    ensures no_run_of_a_small_image { (files : Files) → DoesEvent files (event.Run (codes "m") (Plain Logplay)) (session (one_host [] None)) (Start 0 Logplay ∷ Refused (codes "m") (why.ImageSmall 0) ∷ []) (session (one_host [] None)) → ⊥ }
+    ensures nothing_is_done_twice { (files : Files) → Follows files (event.Host (codes "m") master ∷ []) (first_session []) (Host (codes "m") master ∷ Host (codes "m") master ∷ []) (unread_session (one_host [] None)) → ⊥ }
+    ensures step_of_an_idle_host { (files : Files) → DoesEvent files (event.Step (codes "m") 5) (unread_session (one_host [] None)) (Refused (codes "m") why.Idle ∷ []) (unread_session (one_host [] None)) }
+    ensures one_refusal_of_many_steps { (files : Files) → DoesEvent files (event.Step (codes "m") 2) (unread_session (one_host [] None)) (Refused (codes "m") why.Idle ∷ Refused (codes "m") why.Idle ∷ []) (unread_session (one_host [] None)) → ⊥ }
+    ensures run_of_a_small_image { (files : Files) → DoesEvent files (event.Run (codes "m") (Plain Logplay)) (unread_session (one_host [] None)) (Refused (codes "m") (why.ImageSmall 0) ∷ []) (unread_session (one_host [] None)) }
+    ensures no_run_of_a_small_image { (files : Files) → DoesEvent files (event.Run (codes "m") (Plain Logplay)) (unread_session (one_host [] None)) (Start 0 Logplay ∷ Refused (codes "m") (why.ImageSmall 0) ∷ []) (unread_session (one_host [] None)) → ⊥ }
 {}

@@ -7,7 +7,7 @@ ghost use Rattle.fam_format.specs.declared.faults.SuperFault.TheVariants.{NoSupe
 ghost use Rattle.fam_journal.specs.Notes.{Answered, Cut, Found, Halt, Host, Made, Mark, MediaFault, Refused, Replied, Start, Stop, Writes};
 ghost use Rattle.fam_journal.specs.Past.{Bad, BadSlot, FewLines, Given, Halted, NoSuperblock, HostPast, Sound, first_state, state_after};
 ghost use Rattle.fam_journal.specs.declared.refusal.Refusal.TheVariants.{NoHost};
-ghost use Rattle.fam_samples.specs.Scene.{behind, damaged, done, folder, found, held, made, mkdir, no_tree, params, report_of_log, state_behind, tree_of, writing, x, y};
+ghost use Rattle.fam_samples.specs.Scene.{notes_tell, damaged, done, folder, found, held, made, mkdir, no_tree, params, report_of_log, state_behind, small_tree, writing, x, y};
 ghost use Rattle.fam_rules.specs.Reply.{Appended, Played, Reports};
 ghost use Rattle.fam_rules.specs.declared.answers.LogState.TheVariants as log;
 
@@ -25,7 +25,7 @@ pub fn what_notes_settle()
 
     // It joins where an answer shows it, and stays where an answer doesn't.
     ensures shown_old { state_behind (writing ++ Answered 1 (Replied (Played 0 no_tree)) ∷ []) ≡ Sound params [] (Some (held x)) }
-    ensures shown_new { state_behind (writing ++ Answered 1 (Replied (Played 1 (tree_of x))) ∷ []) ≡ Sound params (held x ∷ []) None }
+    ensures shown_new { state_behind (writing ++ Answered 1 (Replied (Played 1 (small_tree x))) ∷ []) ≡ Sound params (held x ∷ []) None }
     ensures reported { state_behind (writing ++ Answered 1 (Replied (Reports (report_of_log (log.Sound 1 127)))) ∷ [])
         ≡ Sound params (held x ∷ []) None }
     ensures unread { state_behind (writing ++ Answered 1 (Replied (Reports (report_of_log log.Unread))) ∷ [])
@@ -47,15 +47,15 @@ pub fn what_notes_settle()
 
 /// What is known of a host: its last command, how much was settled at that command's mark, and what it named.
 pub fn what_hosts_leave()
-    ensures begun { option_map (λ (h : HostPast). h.cmd) (slice_get (behind found).hosts 0) ≡ Some (Some (mkdir x)) }
-    ensures unmarked { option_map (λ (h : HostPast). h.floor) (slice_get (behind (done ++ Start 1 Logplay ∷ [])).hosts 1) ≡ Some None }
-    ensures marked { option_map (λ (h : HostPast). h.floor) (slice_get (behind (done ++ Start 1 Logplay ∷ Mark 1 ∷ [])).hosts 1)
+    ensures begun { option_map (λ (h : HostPast). h.cmd) (slice_get (notes_tell found).hosts 0) ≡ Some (Some (mkdir x)) }
+    ensures unmarked { option_map (λ (h : HostPast). h.floor) (slice_get (notes_tell (done ++ Start 1 Logplay ∷ [])).hosts 1) ≡ Some None }
+    ensures marked { option_map (λ (h : HostPast). h.floor) (slice_get (notes_tell (done ++ Start 1 Logplay ∷ Mark 1 ∷ [])).hosts 1)
         ≡ Some (Some 1) }
-    ensures kept { option_map (λ (h : HostPast). h.floor) (slice_get (behind (found ++ Start 1 Logplay ∷ Mark 1 ∷ Writes 0 0 (folder x) ∷ Answered 0 (Replied (Appended 0)) ∷ [])).hosts 1)
+    ensures kept { option_map (λ (h : HostPast). h.floor) (slice_get (notes_tell (found ++ Start 1 Logplay ∷ Mark 1 ∷ Writes 0 0 (folder x) ∷ Answered 0 (Replied (Appended 0)) ∷ [])).hosts 1)
         ≡ Some (Some 0) }
-    ensures wrote { option_map (λ (h : HostPast). h.wrote) (slice_get (behind writing).hosts 0)
+    ensures wrote { option_map (λ (h : HostPast). h.wrote) (slice_get (notes_tell writing).hosts 0)
         ≡ Some (Some (record { seq = 0; entry = folder x })) }
-    ensures forgets { option_map (λ (h : HostPast). h.wrote) (slice_get (behind (writing ++ Stop 0 ∷ Start 0 (mkdir y) ∷ [])).hosts 0)
+    ensures forgets { option_map (λ (h : HostPast). h.wrote) (slice_get (notes_tell (writing ++ Stop 0 ∷ Start 0 (mkdir y) ∷ [])).hosts 0)
         ≡ Some None }
 {}
 

@@ -13,7 +13,7 @@ ghost use Rattle.fam_journal.specs.Machines.{Machines};
 ghost use Rattle.fam_journal.specs.Notes.{Answered, Found, Mark, Note, Replied, Start, Stop};
 ghost use Rattle.fam_journal.specs.Past.{Sound, past_after, past_of};
 ghost use Rattle.fam_samples.specs.Scene.{done, held, made, mkdir, no_tree, params, state_behind, writing, x, y};
-ghost use Rattle.fam_samples.specs.Wrong.{AnyOkAllowed, LegalBy, drops, dropping_after, late_floor_after, past_by};
+ghost use Rattle.fam_samples.specs.Wrong.{AnyOkAllowed, LegalBy, drops_any, dropping_after, late_floor_after, past_by};
 ghost use Rattle.fam_journal.specs.Past.{first_past};
 ghost use Rattle.fam_rules.specs.Asks.{File};
 ghost use Rattle.fam_rules.specs.Reply.{Appended, Played};
@@ -32,7 +32,7 @@ pub fn a_found_that_drops_loses_an_entry()
     ensures misread { (start : Image) (state : Machines) (world : WorldView) (image : Image) (notes : List Note) (host : ℕ)
         (p : Params) (history : List File) (pending : Option File) → Held start state world image
         → (past_of start notes).state ≡ Sound p history pending → world.journal ≡ notes ++ Found host (length history + 1) ∷ []
-        → ReadsAs (drops (length history + 1) (Sound p history pending)) image → ⊥ }
+        → ReadsAs (drops_any (length history + 1) (Sound p history pending)) image → ⊥ }
     ensures legal { Legal [] (writing ++ Stop 0 ∷ Start 0 (mkdir y) ∷ Mark 0 ∷ Found 0 1 ∷ []) }
     ensures right { state_behind (writing ++ Stop 0 ∷ Start 0 (mkdir y) ∷ Mark 0 ∷ Found 0 1 ∷ []) ≡ Sound params (held x ∷ []) None }
     ensures wrong { (past_by dropping_after (first_past []) (writing ++ Stop 0 ∷ Start 0 (mkdir y) ∷ Mark 0 ∷ Found 0 1 ∷ [])).state

@@ -2,7 +2,7 @@
 use Rattle.std.proofs.Common.{◌≡◌, ℕ, ◌+◌, ◌<◌, List, [], ◌∷◌, ◌++◌, arith, length, get_or, drop, refl, sym, ap, subst, ◌∙◌, append_assoc, length-append}
 use Rattle.std.proofs.lemmas.List.{at_drop_more}
 use Rattle.fam_crc.specs.Crc.{crc32}
-use Rattle.fam_journal.specs.Names.{IsNamed, NameDeclared, declared_after}
+use Rattle.fam_journal.specs.Names.{NamesHost, NameDeclared, declared_after}
 use Rattle.fam_journal.specs.Notes.{Note, Host}
 use Rattle.fam_outcomes.specs.Texts.{names_after, names_behind, note_line, note_text, render, render_behind, shown, shown_last}
 use Rattle.fam_notes.specs.declared.note.Note.{Note as Kept}
@@ -24,7 +24,7 @@ module _ (notes : List Kept) (i : ℕ) (note : Kept) (below : i < length notes) 
     parts = subst (λ (l : List Kept). NameDeclared (length names) (notes_view l)) one_more named
 
     -- it names a declared host
-    pub is_named : IsNamed (length names) (note_view note)
+    pub is_named : NamesHost (length names) (note_view note)
     is_named = parts.0
 
     -- and so do those behind it
@@ -56,7 +56,7 @@ render_is journal = refl
 -- The last note alone.
 
 -- it names a host that is declared before it
-pub last_named : (names : List (List ℕ)) (front : List Kept) (last : Kept) → NameDeclared (length names) (notes_view (front ++ last ∷ [])) → IsNamed (length (names_behind names (notes_view front))) (note_view last)
+pub last_named : (names : List (List ℕ)) (front : List Kept) (last : Kept) → NameDeclared (length names) (notes_view (front ++ last ∷ [])) → NamesHost (length (names_behind names (notes_view front))) (note_view last)
 last_named names [] last named = named.0
 last_named names (note ∷ front) last named =
     last_named (names_after names (note_view note)) front last (subst (λ (n : ℕ). NameDeclared n (notes_view (front ++ last ∷ []))) (sym (length_names names (note_view note))) named.1)

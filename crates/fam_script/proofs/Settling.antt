@@ -15,7 +15,7 @@ use Rattle.fam_rules.specs.declared.answers.LogState.TheVariants as log
 use Rattle.fam_rules.specs.Reply as reply
 use Rattle.fam_rules.specs.Reply.{Reply}
 use Rattle.fam_script.specs.declared.counts.Settled.{Settled}
-use Rattle.fam_script.specs.Settled.{acknowledges, answered, continued, cut, empty, finds, joined, replied, reports, settled_after, settled_behind, shows}
+use Rattle.fam_script.specs.Settled.{length_acknowledged, answered, continued, length_cut, empty, length_found, length_joined, length_replied, reports, length_after, settled_behind, length_shown}
 
 -- what a sound state tells
 abbrev told : List File → Option File → Settled
@@ -37,24 +37,24 @@ either true a b x y first second = first
 either false a b x y first second = second
 
 -- the pending entry joins
-joins : (p : Params) (history : List File) (pending : Option File) → summary (Sound p (with_pending history pending) None) ≡ Some (joined (told history pending))
+joins : (p : Params) (history : List File) (pending : Option File) → summary (Sound p (with_pending history pending) None) ≡ Some (length_joined (told history pending))
 joins p history None = refl
 joins p history (Some f) = ap (λ (n : ℕ). Some (record { length = n; pending = false })) (length-append history (f ∷ []))
 
-shows_told : (m : ℕ) (state : State) → summary (past.shows m state) ≡ later (shows m) (summary state)
+shows_told : (m : ℕ) (state : State) → summary (past.shows m state) ≡ later (length_shown m) (summary state)
 shows_told m (Bad origin damage gate) = refl
 shows_told m (Sound p history pending) =
-    either (m == length history + 1) (Sound p (with_pending history pending) None) (Sound p history pending) (joined (told history pending)) (told history pending) (joins p history pending) refl
+    either (m == length history + 1) (Sound p (with_pending history pending) None) (Sound p history pending) (length_joined (told history pending)) (told history pending) (joins p history pending) refl
 
-finds_told : (n : ℕ) (state : State) → summary (past.finds n state) ≡ later (finds n) (summary state)
+finds_told : (n : ℕ) (state : State) → summary (past.finds n state) ≡ later (length_found n) (summary state)
 finds_told n (Bad origin damage gate) = refl
 finds_told n (Sound p history pending) =
-    either (n == length history) (Sound p history None) (past.shows n (Sound p history pending)) (record { length = length history; pending = false }) (shows n (told history pending)) refl (shows_told n (Sound p history pending))
+    either (n == length history) (Sound p history None) (past.shows n (Sound p history pending)) (record { length = length history; pending = false }) (length_shown n (told history pending)) refl (shows_told n (Sound p history pending))
 
-acknowledges_told : (seq : ℕ) (state : State) → summary (past.acknowledges seq state) ≡ later (acknowledges seq) (summary state)
+acknowledges_told : (seq : ℕ) (state : State) → summary (past.acknowledges seq state) ≡ later (length_acknowledged seq) (summary state)
 acknowledges_told seq (Bad origin damage gate) = refl
 acknowledges_told seq (Sound p history pending) =
-    either (seq == length history) (Sound p (with_pending history pending) None) (Sound p history pending) (joined (told history pending)) (told history pending) (joins p history pending) refl
+    either (seq == length history) (Sound p (with_pending history pending) None) (Sound p history pending) (length_joined (told history pending)) (told history pending) (joins p history pending) refl
 
 -- nothing becomes of it
 same : (state : State) → summary state ≡ later (λ s. s) (summary state)
@@ -66,7 +66,7 @@ reports_told (log.Sound entries slots) state = shows_told entries state
 reports_told (log.BadLog field found wanted) state = same state
 reports_told log.Unread state = same state
 
-replied_told : (r : Reply) (state : State) → summary (past.replied r state) ≡ later (replied r) (summary state)
+replied_told : (r : Reply) (state : State) → summary (past.replied r state) ≡ later (length_replied r) (summary state)
 replied_told (reply.Appended seq) state = acknowledges_told seq state
 replied_told (reply.Played m tree) state = shows_told m state
 replied_told (reply.Mounted m) state = shows_told m state
@@ -80,7 +80,7 @@ replied_told (reply.Checks m checked) state = shows_told m state
 replied_told (reply.Reports report) state = reports_told report.log state
 replied_told other state = same state
 
-ended_told : (answer : Answer) (state : State) → summary (past.ended answer state) ≡ later (answered answer) (summary state)
+ended_told : (answer : Answer) (state : State) → summary (past.ended_state answer state) ≡ later (answered answer) (summary state)
 ended_told (Replied given) state = replied_told given state
 ended_told (MediaFault line) state = same state
 
@@ -94,7 +94,7 @@ later_by f None = None
 later_by f (Some s) = f s
 
 -- the maker of a file system halted
-cut_told : (k : ℕ) (state : State) → summary (past.halted k state) ≡ later_by (cut k) (summary state)
+cut_told : (k : ℕ) (state : State) → summary (past.halted k state) ≡ later_by (length_cut k) (summary state)
 cut_told k state = go (nat_lt k first_sent) state
   where
     go : (early : Bool) (state : State) → summary (cond early state (Bad past.Halted (past.NoSuperblock (super.NoSuper 0)) 0)) ≡ later_by (λ s. cond early (Some s) None) (summary state)
@@ -104,7 +104,7 @@ cut_told k state = go (nat_lt k first_sent) state
     go false (Sound p history pending) = refl
 
 -- behind a note that makes no file system
-unmade : (note : Note) → is_made_note note ≡ false → (o : Option Settled) → later_by (continued note) o ≡ settled_after note o
+unmade : (note : Note) → is_made_note note ≡ false → (o : Option Settled) → later_by (continued note) o ≡ length_after note o
 unmade note none (Some s) = refl
 unmade (Host name uuid) none None = refl
 unmade (Made h p) none None = cc
@@ -125,15 +125,15 @@ as_later f None = refl
 as_later f (Some s) = refl
 
 -- nor does one that makes one keep anything
-made : (o : Option Settled) (h : ℕ) (p : Params) → settled_after (Made h p) o ≡ Some empty
+made : (o : Option Settled) (h : ℕ) (p : Params) → length_after (Made h p) o ≡ Some empty
 made None h p = refl
 made (Some s) h p = refl
 
 -- behind one note
-after_told : (old : Past) (note : Note) → summary (state_after old note) ≡ settled_after note (summary old.state)
+after_told : (old : Past) (note : Note) → summary (state_after old note) ≡ length_after note (summary old.state)
 after_told old (Made h p) = sym (made (summary old.state) h p)
 after_told old (Cut h k) = cut_told k old.state ∙ unmade (Cut h k) refl (summary old.state)
-after_told old (Found h n) = finds_told n old.state ∙ as_later (finds n) (summary old.state) ∙ unmade (Found h n) refl (summary old.state)
+after_told old (Found h n) = finds_told n old.state ∙ as_later (length_found n) (summary old.state) ∙ unmade (Found h n) refl (summary old.state)
 after_told old (Writes h seq e) = pends_told _ old.state ∙ as_later (λ s. record { length = s.length; pending = true }) (summary old.state) ∙ unmade (Writes h seq e) refl (summary old.state)
 after_told old (Answered h answer) = ended_told answer old.state ∙ as_later (answered answer) (summary old.state) ∙ unmade (Answered h answer) refl (summary old.state)
 after_told old other = same old.state ∙ as_later (λ s. s) (summary old.state) ∙ unmade other refl (summary old.state)
@@ -149,7 +149,7 @@ whole_told : (journal : List Note) → summary (past_of [] journal).state ≡ se
 whole_told journal = behind_told (past.first_past []) journal
 
 -- nothing is settled before a file system is made
-begun_none : (note : Note) → is_made_note note ≡ false → settled_after note None ≡ None
+begun_none : (note : Note) → is_made_note note ≡ false → length_after note None ≡ None
 begun_none note none = sym (unmade note none None)
 
 split_or : (a b : Bool) → (a || b) ≡ false → (a ≡ false) × (b ≡ false)

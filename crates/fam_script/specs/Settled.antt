@@ -14,56 +14,56 @@ abbrev pub empty : Settled
 empty = record { length = 0; pending = false }
 
 -- the pending entry joins the settled ones
-abbrev pub joined : Settled → Settled
-joined s = record { length = if s.pending then s.length + 1 else s.length; pending = false }
+abbrev pub length_joined : Settled → Settled
+length_joined s = record { length = if s.pending then s.length + 1 else s.length; pending = false }
 
 -- the first m entries were shown
-abbrev pub shows : ℕ → Settled → Settled
-shows m s = if m == s.length + 1 then joined s else s
+abbrev pub length_shown : ℕ → Settled → Settled
+length_shown m s = if m == s.length + 1 then length_joined s else s
 
 -- the master found n entries
-abbrev pub finds : ℕ → Settled → Settled
-finds n s = if n == s.length then record { length = s.length; pending = false } else shows n s
+abbrev pub length_found : ℕ → Settled → Settled
+length_found n s = if n == s.length then record { length = s.length; pending = false } else length_shown n s
 
 -- entry seq is acknowledged
-abbrev pub acknowledges : ℕ → Settled → Settled
-acknowledges seq s = if seq == s.length then joined s else s
+abbrev pub length_acknowledged : ℕ → Settled → Settled
+length_acknowledged seq s = if seq == s.length then length_joined s else s
 
 -- a report was made of a log
 abbrev pub reports : LogState → Settled → Settled
-reports (log.Sound entries slots) s = shows entries s
+reports (log.Sound entries slots) s = length_shown entries s
 reports (log.BadLog field found wanted) s = s
 reports log.Unread s = s
 
 -- a task replied; by the class of the reply
-abbrev pub replied_in : ReplyClass → Settled → Settled
-replied_in (Appending seq) s = acknowledges seq s
-replied_in (Declining refused) s = s
-replied_in (Showing m) s = shows m s
-replied_in (Reporting report) s = reports report.log s
-replied_in Faulty s = s
+abbrev pub length_replied_in : ReplyClass → Settled → Settled
+length_replied_in (Appending seq) s = length_acknowledged seq s
+length_replied_in (Declining refused) s = s
+length_replied_in (Showing m) s = length_shown m s
+length_replied_in (Reporting report) s = reports report.log s
+length_replied_in Faulty s = s
 
 -- so of a reply, by its class
-abbrev pub replied : Reply → Settled → Settled
-replied given s = replied_in (reply_class given) s
+abbrev pub length_replied : Reply → Settled → Settled
+length_replied given s = length_replied_in (reply_class given) s
 
 -- a task ended
 abbrev pub answered : Answer → Settled → Settled
-answered (Replied given) s = replied given s
+answered (Replied given) s = length_replied given s
 answered (MediaFault line) s = s
 
 -- the maker of a file system halted after so many operations: behind its first send there is none
-abbrev pub cut : ℕ → Settled → Option Settled
-cut k s = if nat_lt k first_sent then Some s else None
+abbrev pub length_cut : ℕ → Settled → Option Settled
+length_cut k s = if nat_lt k first_sent then Some s else None
 
 -- behind a note, where a file system was made before
 abbrev pub continued : Note → Settled → Option Settled
 continued (Host name uuid) s = Some s
 continued (Made h p) s = Some empty
-continued (Cut h k) s = cut k s
+continued (Cut h k) s = length_cut k s
 continued (Start h cmd) s = Some s
 continued (Mark h) s = Some s
-continued (Found h n) s = Some (finds n s)
+continued (Found h n) s = Some (length_found n s)
 continued (Writes h seq e) s = Some (record { length = s.length; pending = true })
 continued (Answered h answer) s = Some (answered answer s)
 continued (Stop h) s = Some s
@@ -84,11 +84,11 @@ abbrev pub begun : Note → Option Settled
 begun note = begun_in (note_class note)
 
 -- behind one note
-abbrev pub settled_after : Note → Option Settled → Option Settled
-settled_after note None = begun note
-settled_after note (Some s) = continued note s
+abbrev pub length_after : Note → Option Settled → Option Settled
+length_after note None = begun note
+length_after note (Some s) = continued note s
 
 -- behind some notes
 abbrev pub settled_behind : Option Settled → List Note → Option Settled
 settled_behind o [] = o
-settled_behind o (note ∷ notes) = settled_behind (settled_after note o) notes
+settled_behind o (note ∷ notes) = settled_behind (length_after note o) notes

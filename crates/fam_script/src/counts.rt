@@ -74,7 +74,7 @@ fn is_refused(note: &Note) -> bool
 /// The pending entry joins the settled ones.
 fn joined(settled: Settled) -> Settled
     requires { settled.length + 1 < 2 ^ 64 }
-    ensures { result ≡ rule.joined settled }
+    ensures { result ≡ rule.length_joined settled }
 {
     if settled.pending {
         Settled {
@@ -92,7 +92,7 @@ fn joined(settled: Settled) -> Settled
 /// The first `m` entries were shown: the pending one is settled where it is one of them.
 fn shows(settled: Settled, m: u64) -> Settled
     requires { settled.length + 1 < 2 ^ 64 }
-    ensures { result ≡ rule.shows m settled }
+    ensures { result ≡ rule.length_shown m settled }
 {
     if m == settled.length + 1 {
         joined(settled)
@@ -104,7 +104,7 @@ fn shows(settled: Settled, m: u64) -> Settled
 /// The master found `n` entries: the pending one is dropped where it isn't one of them.
 fn finds(settled: Settled, n: u64) -> Settled
     requires { settled.length + 1 < 2 ^ 64 }
-    ensures { result ≡ rule.finds n settled }
+    ensures { result ≡ rule.length_found n settled }
 {
     if n == settled.length {
         Settled {
@@ -119,7 +119,7 @@ fn finds(settled: Settled, n: u64) -> Settled
 /// Entry `seq` is acknowledged.
 fn acknowledges(settled: Settled, seq: u64) -> Settled
     requires { settled.length + 1 < 2 ^ 64 }
-    ensures { result ≡ rule.acknowledges seq settled }
+    ensures { result ≡ rule.length_acknowledged seq settled }
 {
     if seq == settled.length {
         joined(settled)
@@ -175,7 +175,7 @@ fn answered(settled: Settled, answer: &Answer) -> Settled
 
 /// What is settled where the maker of a file system halted after so many operations: behind its first send nothing.
 fn cut(settled: Settled, k: u64) -> Option<Settled>
-    ensures { result ≡ rule.cut k settled }
+    ensures { result ≡ rule.length_cut k settled }
 {
     if k < FIRST_SENT { Some(settled) } else { None }
 }
@@ -233,7 +233,7 @@ fn begun(note: &Note) -> Option<Settled>
 /// What is settled behind a note.
 fn settled_after(settled: Option<Settled>, note: &Note) -> Option<Settled>
     requires { IfSome settled (λ s. s.length + 1 < 2 ^ 64) }
-    ensures { result ≡ rule.settled_after (note_view note.now) settled }
+    ensures { result ≡ rule.length_after (note_view note.now) settled }
 {
     match settled {
         Some(settled) => continued(settled, note),

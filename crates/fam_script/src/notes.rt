@@ -3,7 +3,7 @@
 ghost use Rattle.std.specs.Prelude.{◌≡◌, ◌++◌, IfOk, length, codes, string_bytes};
 ghost use Rattle.fam_tree.specs.Lines.{entry_line};
 ghost use Rattle.fam_outcomes.specs.Texts as text;
-ghost use Rattle.fam_journal.specs.Names.{IsNamed};
+ghost use Rattle.fam_journal.specs.Names.{NamesHost};
 ghost use Rattle.fam_notes.specs.Notes.{note_view};
 
 use crate::answers::answer_text;
@@ -51,7 +51,7 @@ fn writes_line(alloc: Global, seq: u64, entry: &Entry) -> Result<Vec<u8>, OutOfM
 
 /// The text of a note without its host's name, with its line feeds. `names` are those of the hosts declared so far.
 pub fn note_text(alloc: Global, note: &Note, names: &[HostName]) -> Result<Vec<u8>, OutOfMemory>
-    requires { IsNamed (length names.now) (note_view note.now) }
+    requires { NamesHost (length names.now) (note_view note.now) }
     ensures { IfOk result (λ bytes. bytes.items ≡ text.note_text names.now (note_view note.now)) }
 {
     match note {
@@ -72,7 +72,7 @@ pub fn note_text(alloc: Global, note: &Note, names: &[HostName]) -> Result<Vec<u
 
 /// The name of a note's host.
 fn note_name<'a>(note: &'a Note, names: &'a [HostName]) -> &'a [u8]
-    requires { IsNamed (length names.now) (note_view note.now) }
+    requires { NamesHost (length names.now) (note_view note.now) }
     ensures { result.now ≡ text.name_of_note names.now (note_view note.now) }
 {
     match note {
@@ -95,7 +95,7 @@ fn note_name<'a>(note: &'a Note, names: &'a [HostName]) -> &'a [u8]
 /// feed. `names` are those of the hosts declared so far, in their order; a note that declares a host, and a refusal,
 /// bring their own.
 pub fn print_note(alloc: Global, note: &Note, names: &[HostName]) -> Result<Vec<u8>, OutOfMemory>
-    requires named { IsNamed (length names.now) (note_view note.now) }
+    requires named { NamesHost (length names.now) (note_view note.now) }
     ensures value { IfOk result (λ bytes. bytes.items ≡ text.note_line names.now (note_view note.now)) }
 {
     let rest = note_text(alloc, note, names)?;

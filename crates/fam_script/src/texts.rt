@@ -2,7 +2,7 @@
 
 ghost use Rattle.std.specs.Prelude.{◌≡◌, ◌++◌, ◌∷◌, [], IfOk, OnOk, length, string_bytes};
 ghost use Rattle.fam_crc.specs.Crc.{crc32};
-ghost use Rattle.fam_journal.specs.Names.{IsNamed, NameDeclared};
+ghost use Rattle.fam_journal.specs.Names.{NamesHost, NameDeclared};
 ghost use Rattle.fam_outcomes.specs.Texts as text;
 ghost use Rattle.fam_script.specs.StormLines.{counts_text, front_text, storm_text};
 ghost use Rattle.fam_notes.specs.Notes.{note_view, notes_view};
@@ -52,7 +52,7 @@ pub fn note_line(
     note: &Note,
     names: &mut Vec<HostName>,
 ) -> Result<Vec<u8>, OutOfMemory>
-    requires { IsNamed (length names.old.items) (note_view note.now) }
+    requires { NamesHost (length names.old.items) (note_view note.now) }
     ensures line { IfOk result (λ line. line.items ≡ text.note_line names.old.items (note_view note.now)) }
     ensures names { OnOk result (names.new.items ≡ text.names_after names.old.items (note_view note.now)) }
 {

@@ -14,7 +14,7 @@ use Rattle.fam_journal.specs.declared.event.Ask.TheVariants as ask
 use Rattle.fam_journal.specs.declared.refusal.Refusal.{Refusal}
 use Rattle.fam_journal.specs.declared.refusal.Refusal.TheVariants as why
 use Rattle.fam_tree.specs.Listings.{ListingSays}
-use Rattle.fam_journal.specs.EventForms.{AskForm, UnfitForm}
+use Rattle.fam_journal.specs.EventShapes.{AskShape, UnfitShape}
 use Rattle.fam_journal.specs.Events.{Ready, SourceSays, Unfit, copy_limit, source_of}
 use Rattle.fam_grammar.specs.Sound.{IsSoundAsk}
 use Rattle.fam_journal.specs.Follows as journal
@@ -39,13 +39,13 @@ HasEndCause change (Short size got) = Rose change.old.shorts change.new.shorts �
 
 -- the command holds the bytes of the source, or the entries of its listing
 pub record HoldsSource (change : ShelfChange) (copied : ℕ) (what : Ask) (now : ℕ) (cmd : Cmd) : Type 0 where
-  pub form : AskForm what cmd
+  pub shape : AskShape what cmd
   pub sound : IsSoundAsk what → IsSoundCmd cmd
   pub says : IfModelled change.old.files (λ files. SourceSays files copied what (Ready cmd now))
 
 -- there is no such source, or it is too long, or no listing
 pub record IsUnfit (change : ShelfChange) (copied : ℕ) (what : Ask) (now : ℕ) (cause : Refusal) : Type 0 where
-  pub form : UnfitForm what cause
+  pub shape : UnfitShape what cause
   pub says : IfModelled change.old.files (λ files. SourceSays files copied what (Unfit cause now))
 
 -- the shelf failed, or the source was short

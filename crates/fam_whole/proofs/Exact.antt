@@ -40,14 +40,14 @@ use Rattle.fam_journal.specs.Ends.{IsFaultless as AreFaultless}
 use Rattle.fam_journal.specs.Events.{DoesEvent, Continues, Session, first_session}
 use Rattle.fam_journal.specs.Follows.{Follows}
 use Rattle.fam_journal.specs.Kept.{Reached}
-use Rattle.fam_journal.specs.Laws.{AreSound, IsImage, IsSoundEvent}
+use Rattle.fam_journal.specs.Laws.{AreSound, IsImage, IsValidEvent}
 use Rattle.fam_machine.specs.HostMoves.{Evict, Fetch, Leak, Move, moved, moved_cell, moved_words}
 use Rattle.fam_journal.specs.Machines.{HostState, Machines, machine_of, task_begun, unused, with_machine, with_task}
 use Rattle.fam_journal.specs.Members.{changed_at}
 use Rattle.fam_machine.specs.Mkfs as here
 use Rattle.fam_journal.specs.Notes.{Answered, Note, Refused, Replied, Start}
 use Rattle.fam_journal.specs.Past.{HostPast, Past, first_past, past_behind, past_of}
-use Rattle.fam_journal.proofs.Forms.EventRows.{begun_free}
+use Rattle.fam_journal.proofs.Shapes.EventRows.{begun_free}
 use Rattle.fam_journal.proofs.Calls.Cases.{by_host, by_refusal, place_same}
 use Rattle.fam_journal.proofs.Calls.Declares.{member_before, member_last}
 use Rattle.fam_journal.proofs.Runs.Following.{begun_kept, declared_at, event_kept, first_kept}
@@ -353,7 +353,7 @@ module _ (start : Image) (files : Files) (old : Machines) (journal : List Note) 
             }
 
   -- an event
-  event_exact : (e : Event) → IsSoundEvent e → IsWholeEvent e → (s new : Session) → s.machines ≡ old → (notes : List Note) → AreFaultless notes → DoesEvent files e s notes new → EventExact e x old new.machines notes
+  event_exact : (e : Event) → IsValidEvent e → IsWholeEvent e → (s new : Session) → s.machines ≡ old → (notes : List Note) → AreFaultless notes → DoesEvent files e s notes new → EventExact e x old new.machines notes
   event_exact (event.Host name uuid) sound whole s new same notes clean does =
       by_refusal (call.Declares name uuid) old new.machines notes (subst (λ (z : Machines). Does (call.Declares name uuid) z notes new.machines) same does.0)
       (λ cause e f. quiet (event.Host name uuid) name cause new.machines notes e f) (λ free acts. declared_exact name uuid new.machines notes acts)
@@ -386,11 +386,11 @@ pub record Between (start : Image) (s : Machines) (journal : List Note) : Type 0
   pub sure : HasNothingPending (past_of start journal).state
 
 module _ (start : Image) (files : Files) where
-  exact_then : (e : Event) → IsSoundEvent e → IsWholeEvent e → (old new : Session) (journal notes : List Note) → Between start old.machines journal → AreFaultless notes → DoesEvent files e old notes new → EventExact e (past_of start journal) old.machines new.machines notes
+  exact_then : (e : Event) → IsValidEvent e → IsWholeEvent e → (old new : Session) (journal notes : List Note) → Between start old.machines journal → AreFaultless notes → DoesEvent files e old notes new → EventExact e (past_of start journal) old.machines new.machines notes
   exact_then e sound whole old new journal notes between clean does =
       event_exact start files old.machines journal between.kept between.rests between.sure e sound whole old new refl notes clean does
 
-  pub one_more : (e : Event) → IsSoundEvent e → IsWholeEvent e → (old new : Session) (journal notes : List Note) → Between start old.machines journal → AreFaultless notes → DoesEvent files e old notes new → Between start new.machines (journal ++ notes)
+  pub one_more : (e : Event) → IsValidEvent e → IsWholeEvent e → (old new : Session) (journal notes : List Note) → Between start old.machines journal → AreFaultless notes → DoesEvent files e old notes new → Between start new.machines (journal ++ notes)
   one_more e sound whole old new journal notes between clean does =
       let x : EventExact e (past_of start journal) old.machines new.machines notes = exact_then e sound whole old new journal notes between clean does in
       record {

@@ -27,7 +27,7 @@ use Rattle.fam_rules.specs.Reply.{Reply}
 use Rattle.fam_journal.specs.Calls.{DoesOperations, busy_at, is_busy_host}
 use Rattle.fam_journal.specs.Ends.{IsFaultless}
 use Rattle.fam_journal.specs.View.{TaskStands, HostView}
-use Rattle.fam_journal.specs.Kept.{IfRuns, Reached, TaskTold, hosts_of, run_at, run_of, run_with, shared_of, settled_of, copy_at}
+use Rattle.fam_journal.specs.Kept.{IfRuns, Reached, TaskTold, hosts_of, run_at, protocol_run, run_with, shared_of, settled_of, copy_at}
 use Rattle.fam_journal.specs.Legal.{AnswerAllowed, LegalBehind, OfHost, WritesAllowed}
 use Rattle.fam_journal.specs.declared.event.Event.{Event}
 use Rattle.fam_journal.specs.Machines as machine
@@ -151,7 +151,7 @@ module _ (ev : Event) (start : Image) (h : ℕ) (base : Machines) (host : HostSt
               cmd_is = told_task.cmd ∙ ap Some (standing_tied host.kept cmd me (length start) z words made joined other).cmd_is;
               uuid_is = d.host_told.uuid ∙ sym d.stands.uuid ∙ ap (λ (y : HostState). y.uuid) same;
               inside = subst (λ (op : Op). IsInImage op m) ops
-                  (asks_inside (settled_of (past_of start j).state (line_at m.image)) (length start) (hosts_of kept.views (past_of start j).hosts) (shared_of m.image kept.views) kept.held.limit kept.held.invariant.stage h (run_of z d.told)
+                  (asks_inside (settled_of (past_of start j).state (line_at m.image)) (length start) (hosts_of kept.views (past_of start j).hosts) (shared_of m.image kept.views) kept.held.limit kept.held.invariant.stage h (protocol_run z d.told)
                   (ap₂ run_at d.view_is d.told_is ∙ ap (λ (o : Option Task). run_with o (Some d.told)) runs) m
                   record { memory = λ l. refl; copies = λ l. ap (λ (o : Option HostView). copy_at o l) d.view_is ∙ ap (λ (c : Cache). cell_at c l) (sym d.stands.cache ∙ ap (λ (y : HostState). y.cache) same) } kept.held.lines);
             }

@@ -14,7 +14,7 @@ use Rattle.fam_outcomes.specs.declared.status.Status.TheVariants as status
 use Rattle.fam_outcomes.specs.Programs.{CommandRuns, EndsEarly, Single, TopEnds}
 use Rattle.fam_outcomes.specs.Runs.{NoneFalls, NoneRose, Outside}
 use Rattle.fam_outcomes.specs.Texts.{shown}
-use Rattle.fam_program.specs.Shadows.{IsOfLogplay, IsUntouched, ShadowTop, ShowsTree, logplay, takes_whole, with_sink}
+use Rattle.fam_program.specs.Shadows.{IsOfLogplay, IsShadeUntouched, ShadowTop, ShowsTree, logplay, takes_whole, with_sink}
 use Rattle.fam_program.proofs.Commands.OfLogplay.{of_logplay}
 use Rattle.fam_rules.specs.Solo.{reading_image, solo_image}
 use Rattle.fam_shadow.specs.Nodes.{ShadeChange}
@@ -73,7 +73,7 @@ module _ (me : List ℕ) (start : Image) (files : Files) (image : IsImage start)
     image_left (inl x) = logplay_left (with_sink (takes_whole (shown x.journal) out.sink.old) out) (none_with (shown x.journal)) told_start told _ x.ends
     image_left (inr x) = logplay_left out none told_start told given x.0
 
-    text_put : IsOfLogplay me out shade given → (given ≡ status.OutOfMemory) ⊎ ShowsTree me out shade given ⊎ (CommandEnds start me cmd.Logplay out given × IsUntouched shade)
+    text_put : IsOfLogplay me out shade given → (given ≡ status.OutOfMemory) ⊎ ShowsTree me out shade given ⊎ (CommandEnds start me cmd.Logplay out given × IsShadeUntouched shade)
     text_put (inl x) = inr (inl x)
     text_put (inr x) = elim (logplay_ends out none told_start told given x.0) [ inl memory ↦ inl memory | inr ends ↦ inr (inr (ends, x.1)) ]
 
@@ -82,5 +82,5 @@ module _ (me : List ℕ) (start : Image) (files : Files) (image : IsImage start)
     shadow_image top = image_left (of_logplay me out shade given top)
 
     -- and what is put
-    pub shadow_text : ShadowTop (Some me) out shade given → (given ≡ status.OutOfMemory) ⊎ ShowsTree me out shade given ⊎ (CommandEnds start me cmd.Logplay out given × IsUntouched shade)
+    pub shadow_text : ShadowTop (Some me) out shade given → (given ≡ status.OutOfMemory) ⊎ ShowsTree me out shade given ⊎ (CommandEnds start me cmd.Logplay out given × IsShadeUntouched shade)
     shadow_text top = text_put (of_logplay me out shade given top)

@@ -11,10 +11,10 @@ use Rattle.fam_journal.specs.Calls.{Acts, Call, Does}
 use Rattle.fam_journal.specs.Ends.{IsFaultless as AreClean}
 use Rattle.fam_journal.specs.Events.{DoesEvent, Session, first_session}
 use Rattle.fam_journal.specs.Follows.{Follows}
-use Rattle.fam_journal.specs.Laws.{AreSound, IsImage, IsSoundEvent}
+use Rattle.fam_journal.specs.Laws.{AreSound, IsImage, IsValidEvent}
 use Rattle.fam_journal.specs.Notes.{Note}
 use Rattle.fam_journal.proofs.Runs.Unique.{clean_prefix, clean_rest}
-use Rattle.fam_whole.specs.Whole.{AreWhole, AreAlike, IsWholeEvent, WholeRun, command_notes, commands_in, is_move, notes_unless}
+use Rattle.fam_whole.specs.Whole.{AreWhole, RunsAgree, IsWholeEvent, WholeRun, command_notes, commands_in, is_move, notes_unless}
 use Rattle.fam_whole.proofs.Exact.{Between, at_start, one_more}
 use Rattle.fam_whole.proofs.Twins.{Same, TwinSessions, ask_same, by_both, host_same, makes_same, move_twin, twins_as, twins_back, twins_on, umounts_same}
 
@@ -31,7 +31,7 @@ module _ (start : Image) (files : Files) where
       record { notes = same.notes; sessions = record { machines = same.machines; copied = x.1 ∙ twins.copied ∙ sym y.1 } }
 
   -- the same command on both
-  command_same : (e : Event) → is_move e ≡ false → IsSoundEvent e → IsWholeEvent e → (s t m n : Session) (j k a b : List Note) → Between start s.machines j → Between start t.machines k → TwinSessions s t → AreClean a → AreClean b → DoesEvent files e s a m → DoesEvent files e t b n → Alike a b m n
+  command_same : (e : Event) → is_move e ≡ false → IsValidEvent e → IsWholeEvent e → (s t m n : Session) (j k a b : List Note) → Between start s.machines j → Between start t.machines k → TwinSessions s t → AreClean a → AreClean b → DoesEvent files e s a m → DoesEvent files e t b n → Alike a b m n
   command_same (event.Host name uuid) is sound whole s t m n j k a b bs bt twins clean_a clean_b x y =
       call_same (call.Declares name uuid) s t m n j k a b bs bt twins x y (host_same start files s.machines t.machines j k bs bt twins.machines a b m.machines n.machines name uuid)
   command_same (event.Mkfs name fs unit log format force halt) is sound whole s t m n j k a b bs bt twins clean_a clean_b x y =
@@ -147,7 +147,7 @@ module _ (start : Image) (files : Files) where
       by_move goal true is = skip_one e one other is (goal other)
       by_move goal false is = beside e one is goal other
 
-  pub scripts_alike : (one other : List Event) → IsImage start → AreSound one → AreSound other → commands_in one ≡ commands_in other → (a : WholeRun files one start) (b : WholeRun files other start) → AreAlike a b
+  pub scripts_alike : (one other : List Event) → IsImage start → AreSound one → AreSound other → commands_in one ≡ commands_in other → (a : WholeRun files one start) (b : WholeRun files other start) → RunsAgree a b
   unfolding Goal
   scripts_alike one other image sound sound' same a b =
       let alike = all_same one other same sound a.whole sound' b.whole (first_session start) (first_session start) a.last b.last [] [] a.journal b.journal

@@ -33,7 +33,7 @@ use Rattle.fam_journal.specs.declared.event.Event.TheVariants as event
 use Rattle.fam_journal.specs.declared.refusal.Refusal.{Refusal}
 use Rattle.fam_journal.specs.declared.refusal.Refusal.TheVariants as why
 use Rattle.fam_journal.specs.Calls as call
-use Rattle.fam_journal.specs.Calls.{Acts, ActsAt, ByRefusal, Call, Completes, Does, may_begin, name_of, number_of, refusal_of, HaltsMaking, MakesFileSystem, MakesOrHalts}
+use Rattle.fam_journal.specs.Calls.{Acts, ActsAt, ByRefusal, Call, Completes, Does, may_begin, asked_name, number_of, refusal_of, HaltsMaking, MakesFileSystem, MakesOrHalts}
 use Rattle.fam_journal.specs.Ends.{IsFaultless as AreFaultless}
 use Rattle.fam_journal.specs.Events.{DoesEvent, Continues, HasNoSource, RefusesEvent, Ready, Session, SourceSays, Unfit, mounts}
 use Rattle.fam_machine.specs.HostMoves.{Evict, Fetch, Leak, Move}
@@ -197,11 +197,11 @@ module _ (start : Image) (files : Files) where
     pub by_both : (c : Call) → Does c s a m → Does c t b n → (Acts c s a m → Acts c t b n → Same a b m n) → Same a b m n
     by_both c x y act = go (refusal_of c s) (refusal_of c t) (refusals c) x y
       where
-        go : (o p : Option Refusal) → o ≡ p → ByRefusal (name_of c) o a s m (Acts c s a m) → ByRefusal (name_of c) p b t n (Acts c t b n) → Same a b m n
+        go : (o p : Option Refusal) → o ≡ p → ByRefusal (asked_name c) o a s m (Acts c s a m) → ByRefusal (asked_name c) p b t n (Acts c t b n) → Same a b m n
         go None None e x y = act x y
         go None (Some q) e x y = absurd cc
         go (Some q) None e x y = absurd cc
-        go (Some q) (Some r) e x y = both_same (name_of c) q x.0 (y.0 ∙ ap (λ (z : Refusal). Refused (name_of c) z ∷ []) (sym (same_Some q r e))) x.1 y.1
+        go (Some q) (Some r) e x y = both_same (asked_name c) q x.0 (y.0 ∙ ap (λ (z : Refusal). Refused (asked_name c) z ∷ []) (sym (same_Some q r e))) x.1 y.1
 
     pub host_same : (name uuid : List ℕ) → Acts (call.Declares name uuid) s a m → Acts (call.Declares name uuid) t b n → Same a b m n
     host_same name uuid x y = record {

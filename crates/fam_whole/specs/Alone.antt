@@ -82,8 +82,8 @@ mkfs_refusal start unit log force =
     or_else (option_map cause_of (early_refusal unit log (line_bytes * length start))) (standing_refusal force (super_in (line_at start) (line_bytes * length start)))
 
 -- a new file system is formatted, with the parameters that were asked for, and the host is its master
-abbrev pub MkfsEnds : Image → List ℕ → MkfsRequest → Outside → Status → Type 0
-MkfsEnds start me request out given =
+abbrev pub FormatsImage : Image → List ℕ → MkfsRequest → Outside → Status → Type 0
+FormatsImage start me request out given =
     EndsUnless (mkfs_refusal start request.unit request.log request.force) start out given (EndsAs out given (line (made_text (asked request me (length start)))) (formatted start (asked request me (length start))) status.Done)
 
 -- Where sink or source failed, or memory ran out.

@@ -27,7 +27,7 @@ use Rattle.fam_journal.specs.Events.{DoesEvent, PartOf, Session, first_session}
 use Rattle.fam_journal.specs.Follows.{Follows}
 use Rattle.fam_journal.specs.Legal.{OfHost}
 use Rattle.fam_journal.specs.Notes.{Answer, Replied, MediaFault, Note, Host, Made, Cut, Start, Mark, Found, Writes, Answered, Stop, Halt, Umount, Refused}
-use Rattle.fam_journal.specs.Past.{HostPast, Past, Damage, NoSuperblock, State, Bad, Sound, count_of, first_past, first_state, past_after, past_behind, past_of, settled_length, Origin, Given, Halted}
+use Rattle.fam_journal.specs.Past.{HostPast, Past, Damage, NoSuperblock, State, Bad, Sound, reply_count, first_past, first_state, past_after, past_behind, past_of, settled_length, Origin, Given, Halted}
 use Rattle.fam_outcomes.specs.Programs.{Command, EndsEarly, Grammar, ScriptPuts, Storms, script_status}
 use Rattle.fam_outcomes.specs.Runs.{IsPut, Outside}
 use Rattle.fam_outcomes.specs.Statuses.{good_status, is_good}
@@ -150,7 +150,7 @@ IsStateOf (Sound p history pending) image = Sound p history pending ≡ first_st
 
 -- an answer of entries is of the whole history
 abbrev pub IsOfAll : Reply → State → Type 0
-IsOfAll given state = (m : ℕ) → count_of given ≡ Some m → m ≡ settled_length state
+IsOfAll given state = (m : ℕ) → reply_count given ≡ Some m → m ≡ settled_length state
 
 -- a report is the image's own, the slots past its gate included; another answer is of the whole history
 abbrev pub IsWholeReply : Reply → State → Image → Type 0
@@ -263,7 +263,7 @@ abbrev pub notes_of_commands : {files : Files} {events : List Event} {start : Im
 notes_of_commands {files} {events} {start} run = command_notes files events (first_session start) run.journal run.last run.follows
 
 -- two runs have the same notes but for the refusals of caches' own moves, and leave the same image
-pub record AreAlike {files : Files} {one other : List Event} {start : Image} (a : WholeRun files one start) (b : WholeRun files other start) : Type 0 where
+pub record RunsAgree {files : Files} {one other : List Event} {start : Image} (a : WholeRun files one start) (b : WholeRun files other start) : Type 0 where
   pub notes : notes_of_commands a ≡ notes_of_commands b
   pub image : a.last.machines.memory ≡ b.last.machines.memory
 
@@ -311,16 +311,16 @@ pub record EndsNone (grammar : Grammar) (storms : Storms) (command : Option Comm
 
 -- memory ran out in the command behind these notes, which noted a part of its own: the image that is left reads as what all of
 -- them settle
-pub record IsCut (files : Files) (event : Event) (start : Image) (notes part : List Note) (before : Session) (left : Image) : Type 0 where
+pub record CommandCut (files : Files) (event : Event) (start : Image) (notes part : List Note) (before : Session) (left : Image) : Type 0 where
   pub last : Session
   pub does : PartOf files event before part last
   pub left_is : left ≡ last.machines.memory
   pub reads : ReadsAs (past_of start (notes ++ part)).state left
 
 -- the image is the fold of the notes, and there is no part; or memory ran out in the command of this place
-abbrev pub IsLeft : Ending → (files : Files) (events : List Event) (start : Image) (count : ℕ) → WholeRun files (take count events) start → List Note → Image → Type 0
-IsLeft ending files events start count run part left =
-    ((part ≡ []) × (left ≡ image_of run)) ⊎ ((ending ≡ EndsOutOfMemory) × (event : Event) × (slice_get events count ≡ Some event) × IsCut files event start run.journal part run.last left)
+abbrev pub EndLeaves : Ending → (files : Files) (events : List Event) (start : Image) (count : ℕ) → WholeRun files (take count events) start → List Note → Image → Type 0
+EndLeaves ending files events start count run part left =
+    ((part ≡ []) × (left ≡ image_of run)) ⊎ ((ending ≡ EndsOutOfMemory) × (event : Event) × (slice_get events count ≡ Some event) × CommandCut files event start run.journal part run.last left)
 
 -- the first events were run, all of them where nothing ended it early, and the run is exact; the journal is that run's, and a
 -- part of the next event's
@@ -332,7 +332,7 @@ pub record FrontRun (files : Files) (events : List Event) (start : Image) (out :
   pub left : Image
   pub image : out.media.new.image ≡ Some left
   pub all : ending ≡ AllDone → take count events ≡ events
-  pub is_left : IsLeft ending files events start count run part left
+  pub is_left : EndLeaves ending files events start count run part left
   pub journal_is : journal ≡ run.journal ++ part
 
 -- what was put is the text of a script's notes, and the line that ends it early; or a front of this where the sink failed

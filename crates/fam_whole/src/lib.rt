@@ -27,7 +27,7 @@ ghost use Rattle.fam_outcomes.specs.Programs.{Script, Single, script_limit};
 ghost use Rattle.fam_outcomes.specs.Runs.{HasRisen, NoneRose, Outside};
 ghost use Rattle.fam_media.specs.Files.{Files};
 ghost use Rattle.fam_grammar.specs.Scripts.{script_events};
-ghost use Rattle.fam_program.specs.Shadows.{IsUntouched, ShadowTop, ShowsTree};
+ghost use Rattle.fam_program.specs.Shadows.{IsShadeUntouched, ShadowTop, ShowsTree};
 ghost use Rattle.fam_shadow.specs.Nodes.{ShadeChange};
 ghost use Rattle.fam_storm.specs.Storm.{storm};
 ghost use Rattle.fam_words.specs.declared.wanted.Invocation.{Invocation};
@@ -36,8 +36,8 @@ ghost use Rattle.fam_words.specs.declared.wanted.Shot.{Shot};
 ghost use Rattle.fam_words.specs.declared.wanted.Shot.TheVariants as shot;
 ghost use Rattle.fam_top.specs.Calls.{CallEnds, command_of, fs_or, host_or, shot_of};
 ghost use Rattle.fam_whole.specs.Called.{IsLawful};
-ghost use Rattle.fam_whole.specs.Alone.{AskEnds, CommandEnds, MkfsEnds, ParentsEnd, ShotFront};
-ghost use Rattle.fam_whole.specs.Whole.{AreAlike, AreRefusals, AreWhole, EndsExact, EndsFront, EndsNone, IsExact, UpToFault, WholeRun, commands_in, is_move};
+ghost use Rattle.fam_whole.specs.Alone.{AskEnds, CommandEnds, FormatsImage, ParentsEnd, ShotFront};
+ghost use Rattle.fam_whole.specs.Whole.{RunsAgree, AreRefusals, AreWhole, EndsExact, EndsFront, EndsNone, IsExact, UpToFault, WholeRun, commands_in, is_move};
 
 /// Where each command ends before the next one begins, and the media doesn't fail, the image after the events is the
 /// fold of new file systems, of the lines that makers put before they halted, and of acknowledged entries. Nothing is
@@ -55,7 +55,7 @@ pub fn a_script_of_whole_commands_is_exact()
 pub fn moves_between_commands_change_nothing()
     ensures alike { (files : Files) (one other : List Event) (start : Image) → IsImage start → AreSound one
         → AreSound other → commands_in one ≡ commands_in other
-        → (a : WholeRun files one start) (b : WholeRun files other start) → AreAlike a b }
+        → (a : WholeRun files one start) (b : WholeRun files other start) → RunsAgree a b }
     ensures moves { (files : Files) (event : Event) (old new : Session) (notes : List Note) → is_move event ≡ true
         → DoesEvent files event old notes new → AreRefusals notes }
 {}
@@ -139,7 +139,7 @@ pub fn a_command_of_its_own_is_exact()
         → CallEnds (Some (invocation.Single system (shot.Mkfs fs unit log format force))) me random out given
         → out.media.old.image ≡ Some start → out.shelf.old.files ≡ Some files
         → (given ≡ OutOfMemory)
-        ⊎ MkfsEnds start (host_or me system) (mkfs_request (fs_or random fs) unit log format force None) out given }
+        ⊎ FormatsImage start (host_or me system) (mkfs_request (fs_or random fs) unit log format force None) out given }
     ensures parents { (me random : List ℕ) (out : Outside) (given : Status) (system : Option (List ℕ)) (path : List ℕ)
         (attr : Attr) (files : Files) (start : Image) → NoneRose out
         → CallEnds (Some (invocation.Single system (shot.Parents path attr))) me random out given
@@ -164,5 +164,5 @@ pub fn a_shadow_leaves_the_image()
         → NoneRose out → IsImage start → IsUuid me → ShadowTop (Some me) out shade given
         → out.media.old.image ≡ Some start → out.shelf.old.files ≡ Some files
         → (given ≡ OutOfMemory) ⊎ ShowsTree me out shade given
-        ⊎ (CommandEnds start me cmd.Logplay out given × IsUntouched shade) }
+        ⊎ (CommandEnds start me cmd.Logplay out given × IsShadeUntouched shade) }
 {}

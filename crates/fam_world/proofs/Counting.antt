@@ -1,5 +1,5 @@
 -- So many operations of a host's task, one behind another, are steps of the world.
-use Rattle.std.proofs.Common.{◌≡◌, ℕ, ◌+◌, ◌<◌, List, length, map, Bool, true, false, Option, Some, None, Result, Ok, Err, refl, ap, ap₂, sym, subst, ◌∙◌, arith, append-nil}
+use Rattle.std.proofs.Common.{◌≡◌, ℕ, suc, ◌+◌, ◌<◌, List, length, map, Bool, true, false, Option, Some, None, Result, Ok, Err, refl, ap, ap₂, sym, subst, ◌∙◌, arith, append-nil}
 use Rattle.std.specs.Prelude.{IsErrOf, is_some, not, slice_get}
 use Rattle.fam_base.specs.Image.{Image, IsNormal}
 use Rattle.fam_base.specs.declared.line.OutOfMemory.{OutOfMemory}
@@ -25,14 +25,14 @@ use Rattle.fam_journal.specs.Notes.{Note}
 use Rattle.fam_journal.specs.View.{HostView, WorldView}
 use Rattle.fam_journal.proofs.Calls.Members.{changed_alike, changed_at_member}
 use Rattle.fam_world.specs.Answers.{IfStepped}
-use Rattle.fam_world.specs.Counted.{Ends, HostStanding, HostStep, HostStepsSay, Iterated, Runs, StepsSay, WorldStanding, WorldStep, none, more, told_of}
+use Rattle.fam_world.specs.Counted.{Ends, HostStanding, HostStep, HostStepsSay, Iterated, SomeSteps, StepsSay, WorldStanding, WorldStep, none, more, told_of}
 use Rattle.fam_world.specs.Finishes.{SoFar}
 use Rattle.fam_world.specs.declared.fault.Moved.{Moved}
 use Rattle.fam_world.specs.declared.fault.Moved.TheVariants as moved
 use Rattle.fam_world.specs.declared.fault.WorldFault.{WorldFault}
 use Rattle.fam_world.specs.declared.fault.WorldFault.TheVariants as fault
 use Rattle.fam_world.proofs.Deciding.{steps_first}
-use Rattle.fam_world.proofs.Finishing.{far_on, first_so_far, number_same}
+use Rattle.fam_world.proofs.Finishing.{next_so_far, number_same, so_far}
 use Rattle.fam_world.proofs.Members.{length_kept, map_at, map_kept, put_own, put_twice}
 use Rattle.fam_world.proofs.Stepping.{step_call}
 use Rattle.fam_world.proofs.TaskSteps.{Reached, done_step, iterated_both, standing_at}
@@ -59,13 +59,13 @@ held_steps at lines view notes media normal modelled t next held after (run.more
     }) modelled (cached_lines t mid held now before ∙ fits) (omega arith) (sym (append-nil notes)))
 
 -- some behind others
-pub runs_both : (at lines : ℕ) (a b c : HostStanding) {n : ℕ} → Runs at lines a b → Iterated (HostStep at lines false) b c n → Runs at lines a c
+pub runs_both : (at lines : ℕ) (a b c : HostStanding) {n : ℕ} → SomeSteps at lines a b → Iterated (HostStep at lines false) b c n → SomeSteps at lines a c
 runs_both at lines a b c {n} first rest = record { count = first.count + n; goes = iterated_both (HostStep at lines false) a b c first.count n first.goes rest }
 
-pub runs_all : (at lines : ℕ) (a b c : HostStanding) → Runs at lines a b → Runs at lines b c → Runs at lines a c
+pub runs_all : (at lines : ℕ) (a b c : HostStanding) → SomeSteps at lines a b → SomeSteps at lines b c → SomeSteps at lines a c
 runs_all at lines a b c first rest = runs_both at lines a b c first rest.goes
 
-pub ends_behind : (at lines : ℕ) (view : HostView) (a b c : HostStanding) → Runs at lines a b → Reached at lines view b true c → Ends at lines a c
+pub ends_behind : (at lines : ℕ) (view : HostView) (a b c : HostStanding) → SomeSteps at lines a b → Reached at lines view b true c → Ends at lines a c
 ends_behind at lines view a b c first reached =
     record { before = reached.before; runs = runs_both at lines a b reached.before first reached.runs.goes; last = reached.last }
 
@@ -128,16 +128,6 @@ module _ (name : List ℕ) (at lines : ℕ) (world : WorldView) (view : HostView
 
   -- Operations up to an answer.
 
-  far_step : (told : Option Image) (faults : ℕ) (over : Bool) (a b : HostStanding) → SoFar at lines world told faults (with_host a).world a.media.image a.media.faults → HostStep at lines over a b → SoFar at lines world told faults (with_host b).world b.media.image b.media.faults
-  far_step told faults over a b far x =
-      far_on name at lines world told faults (with_host a).world a.media.image a.media.faults far number a.host x.task (changed_at_member at (λ v. a.host) world.hosts view view_is) x.runs
-      (subst (λ (n : ℕ). at < n) (sym (length_kept (λ v. a.host) at world.hosts)) within) x.modelled
-      (with_host b).world b.host b.media.image b.media.faults (sym (put_twice at a.host b.host world.hosts)) over x.step
-
-  far_steps : (told : Option Image) (faults : ℕ) (a b : HostStanding) {n : ℕ} → SoFar at lines world told faults (with_host a).world a.media.image a.media.faults → Iterated (HostStep at lines false) a b n → SoFar at lines world told faults (with_host b).world b.media.image b.media.faults
-  far_steps told faults a _ far none = far
-  far_steps told faults a b far (more {b = mid} before last) = far_step told faults false mid b (far_steps told faults a mid far before) last
-
   module _ (told told_now : Option Image) (faults faults_now : ℕ) (new : WorldView) (next : HostView) (hosts : new.hosts ≡ changed_at at (λ v. next) world.hosts) where
     abbrev start : HostStanding
     start = record { host = view; notes = world.journal; media = record { image = told; faults = faults } }
@@ -145,19 +135,26 @@ module _ (name : List ℕ) (at lines : ℕ) (world : WorldView) (view : HostView
     abbrev end : HostStanding
     end = record { host = next; notes = new.journal; media = record { image = told_now; faults = faults_now } }
 
-    begun : SoFar at lines world told faults (with_host start).world told faults
-    begun =
-        subst (λ (hs : List HostView). SoFar at lines world told faults (record { hosts = hs; journal = world.journal }) told faults) (sym (put_own at view world.hosts view_is))
-        (first_so_far at lines world told faults)
+    abbrev Reaches : ℕ → Bool → WorldStanding → WorldStanding → Type 0
+    Reaches count over a b = SoFar at lines count over a b
 
-    here : SoFar at lines world told faults (with_host end).world told_now faults_now → SoFar at lines world told faults new told_now faults_now
-    here far = subst (λ (hs : List HostView). SoFar at lines world told faults (record { hosts = hs; journal = new.journal }) told_now faults_now) (sym hosts) far
+    -- so of the world as it was, and as it is
+    here : (count : ℕ) (over : Bool) → Reaches count over (with_host start) (with_host end) → Reaches count over (record { world = world; media = start.media }) (record { world = new; media = end.media })
+    here count over far =
+        subst (λ (hs : List HostView). Reaches count over (record { world = record { hosts = hs; journal = world.journal }; media = start.media }) (record { world = new; media = end.media })) (put_own at view world.hosts view_is)
+        (subst (λ (hs : List HostView). Reaches count over (with_host start) (record { world = record { hosts = hs; journal = new.journal }; media = end.media })) (sym hosts) far)
 
-    pub far_runs : Runs at lines start end → SoFar at lines world told faults new told_now faults_now
-    far_runs x = here (far_steps told faults start end begun x.goes)
+    number_start : number_in name (with_host start).world ≡ Some at
+    number_start = ap (λ (hs : List HostView). number_in name (record { hosts = hs; journal = world.journal })) (put_own at view world.hosts view_is) ∙ number
 
-    pub far_ends : Ends at lines start end → SoFar at lines world told faults new told_now faults_now
-    far_ends x = here (far_step told faults true x.before end (far_steps told faults start x.before begun x.runs.goes) x.last)
+    pub far_runs : (x : SomeSteps at lines start end) → SoFar at lines x.count false (record { world = world; media = start.media }) (record { world = new; media = end.media })
+    far_runs x = here x.count false (so_far name at lines (with_host start) (with_host end) number_start (all_steps start end refl x.goes))
+
+    pub far_ends : (x : Ends at lines start end) → SoFar at lines (suc x.runs.count) true (record { world = world; media = start.media }) (record { world = new; media = end.media })
+    far_ends x =
+        here (suc x.runs.count) true
+        (next_so_far (so_far name at lines (with_host start) (with_host x.before) number_start (all_steps start x.before refl x.runs.goes)) number_start
+        (one_step true x.before end (heading_kept at lines start x.before x.runs.goes) x.last))
 
 -- One operation.
 

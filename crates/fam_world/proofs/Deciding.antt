@@ -26,7 +26,7 @@ use Rattle.fam_journal.specs.View.{HostView, WorldView}
 use Rattle.fam_journal.specs.ByWorld.{refusal_in, shown_host}
 use Rattle.fam_world.specs.Answers.{IsRefused}
 use Rattle.fam_world.specs.declared.hosts.Host.{Host}
-use Rattle.fam_world.specs.View.{count_kept, host_view, shown, views}
+use Rattle.fam_world.specs.View.{count_kept, host_view, shown_hosts, views}
 use Rattle.fam_world.proofs.Members.{map_at}
 
 -- why a command may not begin on host h, by what is known of the image, the host and the command
@@ -81,11 +81,11 @@ early_known n (Some (early.BadGeometry unit log)) cause is = subst (λ (k : Refu
 early_known n (Some (early.TooSmall needed have)) cause is = subst (λ (k : Refusal). NamesCause n k × (cause_faults k ≡ 0)) (same_Some (why.TooSmall needed have) cause is) (tt, refl)
 
 -- who is busy, by the host itself
-pub busy_read : (items : List Host) (at : ℕ) (x : Host) → slice_get items at ≡ Some x → is_busy_host (slice_get (shown items) at) ≡ is_busy (shown_host (host_view x))
+pub busy_read : (items : List Host) (at : ℕ) (x : Host) → slice_get items at ≡ Some x → is_busy_host (slice_get (shown_hosts items) at) ≡ is_busy (shown_host (host_view x))
 busy_read items at x is = ap is_busy_host (map_at shown_host (views items) at (host_view x) (map_at host_view items at x is))
 
 -- who keeps something
-pub kept_read : (items : List Host) (at : ℕ) (x : Host) → slice_get items at ≡ Some x → is_kept_host (slice_get (shown items) at) ≡ is_some (host_view x).kept
+pub kept_read : (items : List Host) (at : ℕ) (x : Host) → slice_get items at ≡ Some x → is_kept_host (slice_get (shown_hosts items) at) ≡ is_some (host_view x).kept
 kept_read items at x is = ap is_kept_host (map_at shown_host (views items) at (host_view x) (map_at host_view items at x is))
 
 -- a host that has no task

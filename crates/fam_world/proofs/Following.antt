@@ -26,7 +26,7 @@ use Rattle.fam_run.proofs.Shown.{OnBoth, on_own, over, shown_advance, shown_cach
 use Rattle.fam_journal.specs.Notes.{Note}
 use Rattle.fam_journal.specs.View.{HostView}
 use Rattle.fam_world.specs.Concluded.{ShownBy}
-use Rattle.fam_world.specs.Counted.{HostStanding, Runs, RunsUp}
+use Rattle.fam_world.specs.Counted.{HostStanding, SomeSteps, RunsUp}
 use Rattle.fam_world.specs.Steps.{CacheFits}
 use Rattle.fam_world.proofs.Sends.{held_sends}
 use Rattle.fam_world.proofs.TaskSteps.{standing_at, stands_still}
@@ -40,7 +40,7 @@ Follows true t real shown = OnBoth t real.lines shown.lines
 -- a cache that is shown of the host by now: its task came there by operations, which are told of this cache
 pub record FarOver (forgets : Bool) (at lines : ℕ) (start : HostView → HostStanding) (here : HostView → CacheState → HostStanding) (t : Task) (real : CacheState) (Safe : CacheState → Type 0) : Type 0 where
   pub shown : CacheState
-  pub far : (view : HostView) → Runs at lines (start view) (here view shown)
+  pub far : (view : HostView) → SomeSteps at lines (start view) (here view shown)
   pub follows : Follows forgets t real shown
   pub cached : CacheFits lines shown
   pub safe : Safe shown
@@ -146,9 +146,9 @@ followed_on true t next real left shown ran places on =
 
 -- where nothing was done, those before led there still
 pub runs_still : (at lines : ℕ) (start : HostStanding) (view : HostView) (b : TaskChange) (notes notes_now : List Note) → IsUndone b → notes_now ≡ notes
-    → Runs at lines start (standing_at view (Some b.task) b.task.kept b.old notes b.media.old) → Runs at lines start (standing_at view (Some b.next) b.next.kept b.new notes_now b.media.new)
+    → SomeSteps at lines start (standing_at view (Some b.task) b.task.kept b.old notes b.media.old) → SomeSteps at lines start (standing_at view (Some b.next) b.next.kept b.new notes_now b.media.new)
 runs_still at lines start view b notes notes_now undone same runs =
-    subst (λ (s : HostStanding). Runs at lines start s) (sym (stands_still view b notes notes_now undone same)) runs
+    subst (λ (s : HostStanding). SomeSteps at lines start s) (sym (stands_still view b notes notes_now undone same)) runs
 
 -- where the host forgets none, what is told of the cache that is shown is told of its own
 pub own_up : {own : CacheState} {at lines : ℕ} {a : HostStanding} {end : CacheState → HostStanding} {said : Result (Unit {0}) OutOfMemory} → ShownBy false own at lines a end said → RunsUp at lines a (end own) said

@@ -64,7 +64,7 @@ module _ (name : List ℕ) (at lines : ℕ) (old : WorldView) (view : HostView) 
       record {
         shown = shown;
         journal = journal;
-        answered = finish_done name at lines old media.old.image media.old.faults shown media.new.image media.new.faults far number free within modelled
+        answered = finish_done name at lines far number free within modelled
             (λ last there. subst (λ (v : HostView). v.task ≡ None) (last_is x.shown last there) over);
         want = λ is. absurd (let full = is in cc);
       }
@@ -75,6 +75,6 @@ module _ (name : List ℕ) (at lines : ℕ) (old : WorldView) (view : HostView) 
         shown = shown;
         journal = journal;
         answered = tt;
-        want = λ is. finish_lacks name at lines old media.old.image media.old.faults shown media.new.image media.new.faults far number free within modelled
+        want = λ is. finish_lacks name at lines far number free within modelled
             (λ last there. subst (λ (v : HostView). is_some v.task ≡ true) (last_is x.shown last there) on) same;
       }

@@ -7,9 +7,9 @@ pub mod Untouched
 pub mod Rows
 pub mod Moving
 pub mod Shifting
-pub mod MakeForms
+pub mod MakeShapes
 pub mod Making
-pub mod StepForms
+pub mod StepShapes
 pub mod Stepping
 pub mod Finishing
 pub mod Saying

@@ -31,10 +31,10 @@ use Rattle.fam_mkfs.specs.Parts.{IsElsewhere}
 use Rattle.fam_journal.specs.declared.refusal.Refusal.{Refusal}
 use Rattle.fam_journal.specs.declared.refusal.Refusal.TheVariants as why
 use Rattle.fam_journal.specs.Calls as call
-use Rattle.fam_journal.specs.Calls.{AtNumber, BreaksOff, CutsAt, HaltsMaking, IsSoundRequest, MakesCut, MakesFileSystem, MakesOrHalts, Meets, OnHost, number_of}
+use Rattle.fam_journal.specs.Calls.{AtNumber, CutCall, CutsAt, HaltsMaking, IsSoundRequest, MakesCut, MakesFileSystem, MakesOrHalts, Meets, OnHost, number_of}
 use Rattle.fam_journal.specs.CallRecords.{Answers, CallBreaks, CallKeeps, FitsMedia, HostFits, IsLateMake, KeepsOrBreaks, MakeCall, heading}
 use Rattle.fam_journal.specs.Ends.{HasCounted, cause_faults}
-use Rattle.fam_journal.specs.Forms.{HostFormed, IsFormed, Pairs, forms_behind, forms_of, made_note}
+use Rattle.fam_journal.specs.Shapes.{HostShaped, IsShaped, Pairs, shapes_behind, shapes_of, made_note}
 use Rattle.fam_journal.specs.Kept.{Held}
 use Rattle.fam_journal.specs.Machines.{HostState, Machines, machine_of, with_machine}
 use Rattle.fam_journal.specs.Members.{changed_at}
@@ -49,9 +49,9 @@ use Rattle.fam_journal.proofs.JournalLaws.{cut_legal, cut_reads_as}
 use Rattle.fam_world.specs.declared.fault.WorldFault.{WorldFault}
 use Rattle.fam_world.specs.Answers.{IfAnswered, IsRefused}
 use Rattle.fam_world.specs.Makes.{MakerEnds, cache_behind, end_note, end_result}
-use Rattle.fam_world.proofs.Answering.{formed_same, free_answers, refused_answers}
-use Rattle.fam_world.proofs.MakeForms.{fault_form, maker_form, refused_make}
-use Rattle.fam_world.proofs.Members.{fits_kept, forms_kept, map_kept}
+use Rattle.fam_world.proofs.Answering.{shaped_same, free_answers, refused_answers}
+use Rattle.fam_world.proofs.MakeShapes.{fault_shape, maker_shape, refused_make}
+use Rattle.fam_world.proofs.Members.{fits_kept, shapes_kept, map_kept}
 use Rattle.fam_world.proofs.Moving.{with_cache}
 use Rattle.fam_world.proofs.Rows.{first_refusal, found, refused_keeps, row_kept}
 
@@ -123,14 +123,14 @@ module _ (name : List ℕ) (request : MkfsRequest) (is_sound : IsSoundRequest re
       cache = λ l is. elsewhere l (l < lines) (λ other. was.cache l (others l other is)) (λ e. omega (arith, e, wide)) (λ e. omega (arith, e, wide)) (λ e. omega (arith, e, wide)) (λ e. omega (arith, e, wide)) (λ e. omega (arith, e, wide));
     }
 
-    answers : (answered : Option Refusal) (notes : List Note) → new.journal ≡ old.journal ++ notes → HasCounted faults faults_now notes → AreNamed (length new.hosts) notes → forms_behind (forms_of old.journal) notes ≡ forms_of old.journal
-        → answered ≡ Rattle.fam_journal.specs.CallRecords.refusal_noted notes → ((cause : Refusal) → answered ≡ Some cause → IsLateMake cause) → (IsFormed old → Rattle.fam_journal.specs.CallRecords.CallForm c lines (forms_of old.journal) notes) → Answers c lines answered faults faults_now old new
-    answers answered notes joined counted named same said late form =
+    answers : (answered : Option Refusal) (notes : List Note) → new.journal ≡ old.journal ++ notes → HasCounted faults faults_now notes → AreNamed (length new.hosts) notes → shapes_behind (shapes_of old.journal) notes ≡ shapes_of old.journal
+        → answered ≡ Rattle.fam_journal.specs.CallRecords.refusal_noted notes → ((cause : Refusal) → answered ≡ Some cause → IsLateMake cause) → (IsShaped old → Rattle.fam_journal.specs.CallRecords.CallShape c lines (shapes_of old.journal) notes) → Answers c lines answered faults faults_now old new
+    answers answered notes joined counted named same said late shape =
         free_answers c lines faults faults_now answered old new notes joined counted later named
         (ap (λ (vs : List HostView). map heading vs) hosts ∙ map_kept heading (with_cache cache) (λ v. refl) at old.hosts)
         (λ was. subst (FitsMedia lines) (sym hosts) (fits_kept lines at (with_cache cache) old.hosts view view_is fits was))
-        (formed_same old new notes same joined (λ forms all. subst (λ (vs : List HostView). Pairs HostFormed vs forms) (sym hosts) (forms_kept (with_cache cache) (λ v f is. record { name = is.name; uuid = is.uuid; task = is.task; keeps = is.keeps }) at old.hosts forms all)))
-        said free late form
+        (shaped_same old new notes same joined (λ shapes all. subst (λ (vs : List HostView). Pairs HostShaped vs shapes) (sym hosts) (shapes_kept (with_cache cache) (λ v f is. record { name = is.name; uuid = is.uuid; task = is.task; keeps = is.keeps }) at old.hosts shapes all)))
+        said free late shape
 
     count_is : length new.hosts ≡ length old.hosts
     count_is = ap (λ (vs : List HostView). length vs) hosts ∙ Rattle.fam_world.proofs.Members.length_kept (with_cache cache) at old.hosts
@@ -178,7 +178,7 @@ module _ (name : List ℕ) (request : MkfsRequest) (is_sound : IsSoundRequest re
       pub made_call : MakeCall c lines None (media_change told faults now faults_now) old new
       made_call = record {
         answers = answers None (Made at p ∷ []) journal (omega (arith, later)) (subst (λ (n : ℕ). at < n) (sym count_is) within, tt) refl refl (λ cause e. absurd cc)
-            (λ is. maker_form name request lines old is at view number view_is free (Made at p ∷ []) (λ f e. inl (ap (λ (id : List ℕ). Made at (asked request id lines) ∷ []) (sym e) ∙ ap (λ (o : Option ℕ). made_note o at (asked request f.uuid lines) ∷ []) (sym made.unhalted))));
+            (λ is. maker_shape name request lines old is at view number view_is free (Made at p ∷ []) (λ f e. inl (ap (λ (id : List ℕ). Made at (asked request id lines) ∷ []) (sym e) ∙ ap (λ (o : Option ℕ). made_note o at (asked request f.uuid lines) ∷ []) (sym made.unhalted))));
         leaves = made_keeps;
       }
 
@@ -201,7 +201,7 @@ module _ (name : List ℕ) (request : MkfsRequest) (is_sound : IsSoundRequest re
       pub halted_call : MakeCall c lines None (media_change told faults now faults_now) old new
       halted_call = record {
         answers = answers None (Cut at k ∷ []) journal (omega (arith, later)) (subst (λ (n : ℕ). at < n) (sym count_is) within, tt) refl refl (λ cause e. absurd cc)
-            (λ is. maker_form name request lines old is at view number view_is free (Cut at k ∷ []) (λ f e. inl (ap (λ (o : Option ℕ). made_note o at (asked request f.uuid lines) ∷ []) (sym halts.asked))));
+            (λ is. maker_shape name request lines old is at view number view_is free (Cut at k ∷ []) (λ f e. inl (ap (λ (o : Option ℕ). made_note o at (asked request f.uuid lines) ∷ []) (sym halts.asked))));
         leaves = halted_keeps;
       }
 
@@ -227,7 +227,7 @@ module _ (name : List ℕ) (request : MkfsRequest) (is_sound : IsSoundRequest re
       pub found_call : MakeCall c lines (Some (why.HasSuper id)) (media_change told faults now faults_now) old new
       found_call = record {
         answers = answers (Some (why.HasSuper id)) (Refused name (why.HasSuper id) ∷ []) journal (omega (arith, later)) (tt, tt) refl refl (λ cause e. subst IsLateMake (same_Some (why.HasSuper id) cause e) tt)
-            (λ is. maker_form name request lines old is at view number view_is free (Refused name (why.HasSuper id) ∷ []) (λ f e. inr (record { unforced = found_is.unforced; fs = id; notes_are = refl })));
+            (λ is. maker_shape name request lines old is at view number view_is free (Refused name (why.HasSuper id) ∷ []) (λ f e. inr (record { unforced = found_is.unforced; fs = id; notes_are = refl })));
         leaves = found_keeps;
       }
 
@@ -246,7 +246,7 @@ module _ (name : List ℕ) (request : MkfsRequest) (is_sound : IsSoundRequest re
           let acts : MakesCut at p request.force request.halt name h.0 state notes left =
           record { line = line; left = cut.left; cuts = subst (λ (x : Machine). Rattle.fam_machine.specs.Cuts.Cuts (expected_ops request.force request.halt p x) x line cut.left) (sym same) cut.cuts; notes_are = refl; left_is = refl } in
           let number_is : number_of name state ≡ Some at = number_shown (length start) state old name held.stands ∙ number in
-          let row : BreaksOff c state notes left = (
+          let row : CutCall c state notes left = (
             first_refusal start state old held c lines (modelled state.memory told_is) ∙ free,
             subst (λ (o : Option ℕ). AtNumber o state (λ k host. CutsAt c k host state notes left)) (sym number_is)
                 (subst (λ (o : Option HostState). OnHost o (λ host. CutsAt c at host state notes left)) (sym h.1)
@@ -265,7 +265,7 @@ module _ (name : List ℕ) (request : MkfsRequest) (is_sound : IsSoundRequest re
 
       pub cut_call : MakeCall c lines (Some (why.MediaFault line)) (media_change told faults now faults_now) old new
       cut_call = record {
-        answers = answers (Some (why.MediaFault line)) notes journal (counted cut_is.rose) (tt, tt) refl refl (λ cause e. subst IsLateMake (same_Some (why.MediaFault line) cause e) tt) (λ is. fault_form name request lines old is free line.0);
+        answers = answers (Some (why.MediaFault line)) notes journal (counted cut_is.rose) (tt, tt) refl refl (λ cause e. subst IsLateMake (same_Some (why.MediaFault line) cause e) tt) (λ is. fault_shape name request lines old is free line.0);
         leaves = cut_breaks;
       }
         where

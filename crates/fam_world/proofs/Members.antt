@@ -5,7 +5,7 @@ use Rattle.std.specs.Prelude.{slice_get, option_map}
 use Rattle.std.proofs.lemmas.Bool.{cases_eq}
 use Rattle.std.proofs.lemmas.Option.{same_Some}
 use Rattle.fam_journal.specs.CallRecords.{FitsMedia, HostFits}
-use Rattle.fam_journal.specs.Forms.{HostForm, HostFormed, Pairs}
+use Rattle.fam_journal.specs.Shapes.{HostShape, HostShaped, Pairs}
 use Rattle.fam_journal.specs.Members.{changed_at}
 use Rattle.fam_journal.specs.View.{HostView}
 use Rattle.fam_journal.proofs.Calls.Members.{changed_at_member, changed_other}
@@ -28,11 +28,6 @@ map_same f [] at y x is e = absurd cc
 map_same f (a ∷ xs) zero y x is e = ap (λ z. z ∷ map f xs) (e ∙ ap f (sym (same_Some a x is)))
 map_same f (a ∷ xs) (suc at) y x is e = ap (λ zs. f a ∷ zs) (map_same f xs at y x is e)
 
--- a list with one more
-pub map_last : {A B : Type 0} (f : A → B) (xs : List A) (y : A) → map f (xs ++ y ∷ []) ≡ map f xs ++ f y ∷ []
-map_last f [] y = refl
-map_last f (x ∷ xs) y = ap (λ zs. f x ∷ zs) (map_last f xs y)
-
 -- what a change keeps of each member
 pub map_kept : {A B : Type 0} (f : A → B) (g : A → A) → ((x : A) → f (g x) ≡ f x) → (at : ℕ) (xs : List A) → map f (changed_at at g xs) ≡ map f xs
 map_kept f g same at [] = refl
@@ -45,12 +40,12 @@ length_kept g zero (x ∷ xs) = refl
 length_kept g (suc at) (x ∷ xs) = ap suc (length_kept g at xs)
 
 -- the notes before don't see a change that keeps name, UUID and task
-pub forms_kept : (g : HostView → HostView) → ((v : HostView) (f : HostForm) → HostFormed v f → HostFormed (g v) f) → (at : ℕ) (xs : List HostView) (forms : List HostForm) → Pairs HostFormed xs forms → Pairs HostFormed (changed_at at g xs) forms
-forms_kept g each at [] [] all = tt
-forms_kept g each at [] (f ∷ forms) all = absurd all
-forms_kept g each at (v ∷ xs) [] all = absurd all
-forms_kept g each zero (v ∷ xs) (f ∷ forms) all = (each v f all.0, all.1)
-forms_kept g each (suc at) (v ∷ xs) (f ∷ forms) all = (all.0, forms_kept g each at xs forms all.1)
+pub shapes_kept : (g : HostView → HostView) → ((v : HostView) (f : HostShape) → HostShaped v f → HostShaped (g v) f) → (at : ℕ) (xs : List HostView) (shapes : List HostShape) → Pairs HostShaped xs shapes → Pairs HostShaped (changed_at at g xs) shapes
+shapes_kept g each at [] [] all = tt
+shapes_kept g each at [] (f ∷ shapes) all = absurd all
+shapes_kept g each at (v ∷ xs) [] all = absurd all
+shapes_kept g each zero (v ∷ xs) (f ∷ shapes) all = (each v f all.0, all.1)
+shapes_kept g each (suc at) (v ∷ xs) (f ∷ shapes) all = (all.0, shapes_kept g each at xs shapes all.1)
 
 -- all lines fit the media still, where those of the one do
 pub fits_kept : (lines at : ℕ) (g : HostView → HostView) (xs : List HostView) (view : HostView) → slice_get xs at ≡ Some view → (HostFits lines view → HostFits lines (g view)) → FitsMedia lines xs → FitsMedia lines (changed_at at g xs)

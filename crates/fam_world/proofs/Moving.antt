@@ -16,7 +16,7 @@ use Rattle.fam_journal.specs.declared.refusal.Refusal.{Refusal}
 use Rattle.fam_journal.specs.declared.refusal.Refusal.TheVariants as why
 use Rattle.fam_journal.specs.Calls as call
 use Rattle.fam_journal.specs.CallRecords.{Answers, CallKeeps, HostFits, IsLateMove, IsSoundCall, MediaCall, heading}
-use Rattle.fam_journal.specs.Forms.{HostFormed, Pairs}
+use Rattle.fam_journal.specs.Shapes.{HostShaped, Pairs}
 use Rattle.fam_journal.specs.Machines.{Machines, machine_of, with_machine, with_memory}
 use Rattle.fam_journal.specs.Members.{changed_at}
 use Rattle.fam_journal.specs.Notes.{Refused}
@@ -25,8 +25,8 @@ use Rattle.fam_journal.specs.ByWorld.{number_in, refusal_in}
 use Rattle.fam_journal.proofs.Calls.Hosts.{stands_changed}
 use Rattle.fam_journal.proofs.Faces.{IsNoMake}
 use Rattle.fam_world.specs.Answers.{IsRefused}
-use Rattle.fam_world.proofs.Answering.{formed_same, free_answers, hosted_form, refused_answers, refused_form}
-use Rattle.fam_world.proofs.Members.{fits_kept, forms_kept, map_kept}
+use Rattle.fam_world.proofs.Answering.{shaped_same, free_answers, hosted_shape, refused_answers, refused_shape}
+use Rattle.fam_world.proofs.Members.{fits_kept, shapes_kept, map_kept}
 use Rattle.fam_world.proofs.Rows.{found, refused_keeps, row_kept}
 
 -- the host with another cache
@@ -43,9 +43,9 @@ cache_fits lines line cache view below held was = record { task = was.task; cach
 
 -- a call that is refused at once
 pub media_refused : (c : call.Call) → IsNoMake c → IsSoundCall c → (lines : ℕ) (told : Option Image) (faults : ℕ) (old new : WorldView) (cause : Refusal) → IfModelled told (λ image. length image ≡ lines) → IsRefused c lines old cause
-    → new.hosts ≡ old.hosts → new.journal ≡ old.journal ++ Refused (call.name_of c) cause ∷ [] → MediaCall c lines (Some cause) (media_change told faults told faults) old new
+    → new.hosts ≡ old.hosts → new.journal ≡ old.journal ++ Refused (call.asked_name c) cause ∷ [] → MediaCall c lines (Some cause) (media_change told faults told faults) old new
 media_refused c other sound lines told faults old new cause modelled refused hosts journal = record {
-  answers = refused_answers c lines faults old new cause refused hosts journal (refused_form c lines old other cause refused.first);
+  answers = refused_answers c lines faults old new cause refused hosts journal (refused_shape c lines old other cause refused.first);
   keeps = λ start. refused_keeps c lines start told old new cause sound modelled refused.first hosts journal;
 }
 
@@ -64,9 +64,9 @@ module _ (name : List ℕ) (line at : ℕ) (move : Move) (lines : ℕ) (old : Wo
           free_answers c lines faults faults_now None old new [] joined (omega (arith, later)) later tt
           (ap (λ (vs : List HostView). Rattle.std.proofs.Common.map heading vs) hosts ∙ map_kept heading (with_cache cache) (λ v. refl) at old.hosts)
           (λ was. subst (Rattle.fam_journal.specs.CallRecords.FitsMedia lines) (sym hosts) (fits_kept lines at (with_cache cache) old.hosts view view_is (cache_fits lines line cache view below held) was))
-          (formed_same old new [] refl joined (λ forms all. subst (λ (vs : List HostView). Pairs HostFormed vs forms) (sym hosts) (forms_kept (with_cache cache) (λ v f is. record { name = is.name; uuid = is.uuid; task = is.task; keeps = is.keeps }) at old.hosts forms all)))
+          (shaped_same old new [] refl joined (λ shapes all. subst (λ (vs : List HostView). Pairs HostShaped vs shapes) (sym hosts) (shapes_kept (with_cache cache) (λ v f is. record { name = is.name; uuid = is.uuid; task = is.task; keeps = is.keeps }) at old.hosts shapes all)))
           refl free (λ cause e. absurd cc)
-          (hosted_form c lines old tt at view number view_is free [] (λ f. inl refl) (λ x. x))
+          (hosted_shape c lines old tt at view number view_is free [] (λ f. inl refl) (λ x. x))
 
       moved_keeps : IfModelled told (λ image. IsMachine (moved move line (machine image view.cache)) now cache) → (start : Image) → CallKeeps c start told now old new
       moved_keeps is start state told_is held =
@@ -95,9 +95,9 @@ module _ (name : List ℕ) (line at : ℕ) (move : Move) (lines : ℕ) (old : Wo
           free_answers c lines faults faults_now (Some cause) old new (Refused name cause ∷ []) journal (counted rose) later (tt, tt)
           (ap (λ (vs : List HostView). Rattle.std.proofs.Common.map heading vs) hosts)
           (λ was. subst (Rattle.fam_journal.specs.CallRecords.FitsMedia lines) (sym hosts) was)
-          (formed_same old new (Refused name cause ∷ []) refl journal (λ forms all. subst (λ (vs : List HostView). Pairs HostFormed vs forms) (sym hosts) all))
+          (shaped_same old new (Refused name cause ∷ []) refl journal (λ shapes all. subst (λ (vs : List HostView). Pairs HostShaped vs shapes) (sym hosts) all))
           refl free (λ other e. subst IsLateMove (Rattle.std.proofs.lemmas.Option.same_Some cause other e) tt)
-          (hosted_form c lines old tt at view number view_is free (Refused name cause ∷ []) (λ f. inr (ap (λ (l : ℕ). Refused name (why.MediaFault (record { 0 = l })) ∷ []) line_is)) (λ x. x))
+          (hosted_shape c lines old tt at view number view_is free (Refused name cause ∷ []) (λ f. inr (ap (λ (l : ℕ). Refused name (why.MediaFault (record { 0 = l })) ∷ []) line_is)) (λ x. x))
         where
           counted : Rose faults faults_now → Rattle.fam_journal.specs.Ends.HasCounted faults faults_now (Refused name cause ∷ [])
           counted (inl less) = omega (arith, less)

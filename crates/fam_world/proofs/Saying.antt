@@ -36,8 +36,8 @@ use Rattle.fam_journal.specs.Ends.{is_answer_note}
 use Rattle.fam_journal.specs.Machines.{notes_of}
 use Rattle.fam_journal.specs.Notes.{Answered, MediaFault, Note, Replied}
 use Rattle.fam_journal.specs.Notes as journal
-use Rattle.fam_world.specs.Steps.{HostChange, IsStep}
-use Rattle.fam_world.specs.Turns.{is_done, kept_by, turn_notes}
+use Rattle.fam_world.specs.Steps.{HostChange, StepsHost}
+use Rattle.fam_world.specs.Turns.{ends_task, task_left_by, turn_notes}
 use Rattle.fam_commands.specs.Keeping.{kept_after}
 
 -- Words.
@@ -89,8 +89,8 @@ answer_told other reply is = cc
 -- what a turn of the definition tells: its notes, the task behind it, and whether it is over
 pub record IsTold (at : ℕ) (said : Turn) (next : Task) (z : turns.Turn) : Type 0 where
   pub notes : turn_notes at said ≡ notes_of at (note_of z)
-  pub task : kept_by said (Some next) ≡ task_after z
-  pub over : is_done said ≡ list_any is_answer_note (notes_of at (note_of z))
+  pub task : task_left_by said (Some next) ≡ task_after z
+  pub over : ends_task said ≡ list_any is_answer_note (notes_of at (note_of z))
 
 plain_told : (at : ℕ) (said : Turn) (next n : Task) (z : turns.Turn) (wanted : Turn) → said ≡ wanted → next ≡ n → IsTold at wanted n z → IsTold at said next z
 plain_told at said next n z wanted e same told = subst (λ (x : Turn). IsTold at x next z) (sym e) (subst (λ (x : Task). IsTold at wanted x z) (sym same) told)
@@ -120,16 +120,16 @@ module _ (at : ℕ) (t next : Task) (said : Turn) (a : HostChange) (over : Bool)
   told : IsTold at said next (turn_given t word)
   told = subst (λ (z : turns.Turn). IsTold at said next z) (sym turn_is) (told_by at said next (turn_of t (word_of (op_of t) a.new.cache)) goes)
 
-  fits_on : (x : Turn) → KeepsLines x t next → TaskFits t.lines (kept_by x (Some next))
+  fits_on : (x : Turn) → KeepsLines x t next → TaskFits t.lines (task_left_by x (Some next))
   fits_on turn.Go keeps = keeps refl
   fits_on (turn.Note note) keeps = keeps refl
   fits_on (turn.Done given) keeps = tt
 
-  pub step_served : a.old.kept ≡ t.kept → a.new.kept ≡ kept_after (turn_of t (word_of (op_of t) a.new.cache)) t t.kept → (mid : Option Task) → mid ≡ Some next → a.new.task ≡ kept_by said mid → a.after ≡ a.before ++ turn_notes at said → heading a.new ≡ heading a.old → a.media.old.faults ≤ a.media.new.faults → over ≡ is_done said
+  pub step_served : a.old.kept ≡ t.kept → a.new.kept ≡ kept_after (turn_of t (word_of (op_of t) a.new.cache)) t t.kept → (mid : Option Task) → mid ≡ Some next → a.new.task ≡ task_left_by said mid → a.after ≡ a.before ++ turn_notes at said → heading a.new ≡ heading a.old → a.media.old.faults ≤ a.media.new.faults → over ≡ ends_task said
       → IfModelled a.media.old.image (λ image. HasTurned t (machine image a.old.cache) said next a.media.new.image a.new.cache) → KeepsLines said t next → LeavesCache (op_of t) a.media.old.image a.old.cache a.new.cache → IsWithin t.lines (op_of t) → t.lines ≡ a.lines
-      → IsStep at t a over
+      → StepsHost at t a over
   step_served own keeps_log mid mid_is task joined host later over_is turned keeps leaves within lines =
-      let task_is : a.new.task ≡ kept_by said (Some next) = task ∙ ap (kept_by said) mid_is in
+      let task_is : a.new.task ≡ task_left_by said (Some next) = task ∙ ap (task_left_by said) mid_is in
       record {
         notes = turn_notes at said;
         joined = joined;
@@ -153,7 +153,7 @@ module _ (at : ℕ) (t next : Task) (said : Turn) (a : HostChange) (over : Bool)
 
 -- the media failed in it
 pub step_cut : (at : ℕ) (t : Task) (a : HostChange) (line : LineNo) → a.new.kept ≡ a.old.kept → a.after ≡ a.before ++ Answered at (MediaFault line.0) ∷ [] → heading a.new ≡ heading a.old → a.media.old.faults ≤ a.media.new.faults → a.new.task ≡ None → ((l : ℕ) → IsHeld (cell_at a.new.cache l) → IsHeld (cell_at a.old.cache l))
-    → IfModelled a.media.old.image (λ image. HasFailed (op_of t) (machine image a.old.cache) line a.media.new.image a.new.cache) → Rose a.media.old.faults a.media.new.faults → IsStep at t a true
+    → IfModelled a.media.old.image (λ image. HasFailed (op_of t) (machine image a.old.cache) line a.media.new.image a.new.cache) → Rose a.media.old.faults a.media.new.faults → StepsHost at t a true
 step_cut at t a line same joined host later task kept failed rose = record {
   notes = Answered at (MediaFault line.0) ∷ [];
   joined = joined;

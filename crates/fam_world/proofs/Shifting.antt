@@ -20,7 +20,7 @@ use Rattle.fam_cache.specs.declared.fault.CacheFault.TheVariants as cache_fault
 use Rattle.fam_cache.specs.Effects.{FailsTo, FromMemory}
 use Rattle.fam_world.specs.declared.world.moves.OwnMove.{OwnMove}
 use Rattle.fam_world.specs.declared.world.moves.OwnMove.TheVariants as own
-use Rattle.fam_world.specs.Moves.{fault_of, move_of}
+use Rattle.fam_world.specs.Moves.{send_fault, move_of}
 
 abbrev Sent : Type 0
 Sent = Result (Unit {0}) Failed
@@ -29,7 +29,7 @@ abbrev Fetched : Type 0
 Fetched = Result (Unit {0}) CacheFault
 
 -- a send that failed
-pub failed_sent : (r : Sent) (P : Type 0) → OnErr r P → IsErrOf (fault_of r) cache_fault.Failed → P
+pub failed_sent : (r : Sent) (P : Type 0) → OnErr r P → IsErrOf (send_fault r) cache_fault.Failed → P
 failed_sent (Ok x) P p is = absurd cc
 failed_sent (Err e) P p is = p
 
@@ -46,13 +46,13 @@ evict_held (Ok x) line old new done err l held = other_held line Absent old new 
 evict_held (Err e) line old new done err l held = inr (subst (λ (k : Cache). IsHeld (cell_at k l)) err held)
 
 leak_moved : (r : Sent) (what : OwnMove) (mask : Mask) (line : ℕ) (old new : Cache) (told now : Option Image) → what ≡ own.Leak mask → new ≡ old
-    → OnOk r (now ≡ option_map (line_changed line (λ memory. leaked mask.0 memory (cell_at old line))) told) → OnOk (fault_of r) (IfModelled told (λ image. IsMachine (moved (move_of what) line (machine image old)) now new))
+    → OnOk r (now ≡ option_map (line_changed line (λ memory. leaked mask.0 memory (cell_at old line))) told) → OnOk (send_fault r) (IfModelled told (λ image. IsMachine (moved (move_of what) line (machine image old)) now new))
 leak_moved (Err e) what mask line old new told now is same memory = tt
 leak_moved (Ok x) what mask line old new told now is same memory = λ image told_is.
     subst (λ (w : OwnMove). IsMachine (moved (move_of w) line (machine image old)) now new) (sym is)
     record { image = memory ∙ ap (option_map (line_changed line (λ m. leaked mask.0 m (cell_at old line)))) told_is; cache = same ∙ sym (with_cell_own line old) }
 
-pub leak_done : (r : Sent) (s : Fetched) (what : OwnMove) (mask : Mask) (line : ℕ) (old new : Cache) (told now : Option Image) → s ≡ fault_of r → what ≡ own.Leak mask → new ≡ old
+pub leak_done : (r : Sent) (s : Fetched) (what : OwnMove) (mask : Mask) (line : ℕ) (old new : Cache) (told now : Option Image) → s ≡ send_fault r → what ≡ own.Leak mask → new ≡ old
     → OnOk r (now ≡ option_map (line_changed line (λ memory. leaked mask.0 memory (cell_at old line))) told) → OnOk s (IfModelled told (λ image. IsMachine (moved (move_of what) line (machine image old)) now new))
 leak_done r s what mask line old new told now e is same memory =
     subst (λ (z : Fetched). OnOk z (IfModelled told (λ image. IsMachine (moved (move_of what) line (machine image old)) now new))) (sym e) (leak_moved r what mask line old new told now is same memory)

@@ -20,11 +20,11 @@ use Rattle.fam_commands.specs.Turns.{Turn}
 use Rattle.fam_commands.proofs.Steps.Standing.{next_operation}
 use Rattle.fam_journal.specs.declared.refusal.Refusal.{Refusal}
 use Rattle.fam_journal.specs.Calls as call
-use Rattle.fam_journal.specs.CallRecords.{Answers, CallForm, CallKeeps, FitsMedia, HostFits, IsLate, MediaCall, StepCall, TaskFits, heading, own_turn, refusal_noted, stepped_world}
+use Rattle.fam_journal.specs.CallRecords.{Answers, CallShape, CallKeeps, FitsMedia, HostFits, IsLate, MediaCall, StepCall, TaskFits, heading, own_turn, refusal_noted, stepped_world}
 use Rattle.fam_journal.specs.Ends.{HasCounted, faults_of, is_answer_note}
-use Rattle.fam_journal.specs.Forms.{HostForm, HostFormed, IsFormed, Pairs, forms_of}
+use Rattle.fam_journal.specs.Shapes.{HostShape, HostShaped, IsShaped, Pairs, shapes_of}
 use Rattle.fam_journal.specs.Machines as machines
-use Rattle.fam_journal.specs.Machines.{Fails, HostState, Machines, Operation, TaskState, cut, machine_of, next_op, notes_of, operation, with_machine}
+use Rattle.fam_journal.specs.Machines.{Fails, HostState, Machines, Operation, TaskState, cut_task, machine_of, next_op, notes_of, operation, with_machine}
 use Rattle.fam_journal.specs.Members.{changed_at}
 use Rattle.fam_journal.specs.Names.{AreNamed}
 use Rattle.fam_journal.specs.Notes.{Answered, MediaFault, Note}
@@ -34,15 +34,15 @@ use Rattle.fam_journal.proofs.Calls.Hosts.{stands_changed}
 use Rattle.fam_journal.proofs.Calls.Members.{changed_alike}
 use Rattle.fam_journal.proofs.Calls.OwnSteps.{own_step}
 use Rattle.fam_journal.proofs.Calls.Stepped.{find_task}
-use Rattle.fam_journal.proofs.Forms.Pairs.{pairs_at, pairs_changed}
-use Rattle.fam_journal.proofs.Forms.Operations.{forms_both}
-use Rattle.fam_journal.proofs.Forms.Views.{step_formed, world_formed}
+use Rattle.fam_journal.proofs.Shapes.Pairs.{pairs_at, pairs_changed}
+use Rattle.fam_journal.proofs.Shapes.Operations.{shapes_both}
+use Rattle.fam_journal.proofs.Shapes.Views.{step_shaped, world_shaped}
 use Rattle.fam_journal.proofs.JournalLaws.{kept_on}
-use Rattle.fam_world.specs.Steps.{HostChange, IsCut, IsServed, IsStep}
+use Rattle.fam_world.specs.Steps.{HostChange, StepFailed, IsServed, StepsHost}
 use Rattle.fam_world.proofs.Answering.{free_answers}
 use Rattle.fam_world.proofs.Members.{fits_kept, length_kept, map_kept}
 use Rattle.fam_world.proofs.Rows.{found, row_kept}
-use Rattle.fam_world.proofs.StepForms.{fault_formed_step}
+use Rattle.fam_world.proofs.StepShapes.{fault_shaped_step}
 
 -- What notes of a task tell: no fault, no refusal, and its host.
 
@@ -81,7 +81,7 @@ module _ (state : Machines) (h : ℕ) (host : HostState) (host_is : slice_get st
       ap (machines.host_done (Fails through) h state) host_is
       ∙ ap (machines.task_done (Fails through) h state host) s_is
       ∙ ap (machines.op_done (Fails through) h state host s) op_is
-      ∙ ap (cut h state) fails
+      ∙ ap (cut_task h state) fails
 
 module _ (name : List ℕ) (at lines : ℕ) (old : WorldView) (view : HostView) (t : Task) (number : number_in name old ≡ Some at) (free : refusal_in (call.Steps name) old lines ≡ None) (within : at < length old.hosts) (view_is : slice_get old.hosts at ≡ Some view) (runs : view.task ≡ Some t) where
   abbrev c : call.Call
@@ -146,9 +146,9 @@ module _ (name : List ℕ) (at lines : ℕ) (old : WorldView) (view : HostView) 
             (let none = no_faults at (note_of z) in omega (arith, none, later)) later
             (own_named at (length new.hosts) (note_of z) (subst (λ (n : ℕ). at < n) (sym count_is) within)) (headings same)
             (λ was. subst (FitsMedia lines) (sym hosts) (fits_kept lines at (λ v. next) old.hosts view view_is host_fits was))
-            (λ is. subst IsFormed (sym world_is) (world_formed old is at view view_is t runs x.word next.cache))
+            (λ is. subst IsShaped (sym world_is) (world_shaped old is at view view_is t runs x.word next.cache))
             (no_refusal at (note_of z)) free (no_cause c)
-            (λ is. inl (step_formed old is at view view_is t runs x.word next.cache lines name number free))
+            (λ is. inl (step_shaped old is at view view_is t runs x.word next.cache lines name number free))
 
         served_keeps : (start : Image) → CallKeeps c start told now old new
         served_keeps start state told_is held =
@@ -177,7 +177,7 @@ module _ (name : List ℕ) (at lines : ℕ) (old : WorldView) (view : HostView) 
         }
 
       -- the media failed in it
-      module _ (x : IsCut at t a notes over) where
+      module _ (x : StepFailed at t a notes over) where
         abbrev fault : Note
         fault = Answered at (MediaFault x.line.0)
 
@@ -194,24 +194,24 @@ module _ (name : List ℕ) (at lines : ℕ) (old : WorldView) (view : HostView) 
         counted (inl less) = omega (arith, less)
         counted (inr last) = omega (arith, last)
 
-        fault_formed : IsFormed old → IsFormed new
-        fault_formed is =
-            let forms : List HostForm = forms_of old.journal in
-            let f = pairs_at HostFormed old.hosts forms at view is view_is in
-            subst (λ (vs : List HostView). Pairs HostFormed vs (forms_of new.journal)) (sym hosts)
-            (subst (λ (fs : List HostForm). Pairs HostFormed (changed_at at (λ v. next) old.hosts) fs) (sym (ap forms_of joined_fault ∙ forms_both [] old.journal (fault ∷ [])))
-            (pairs_changed HostFormed old.hosts forms at view f.0 (λ v. next) (λ host. record host { task = None }) is view_is f.1
-            (record { name = f.2.name ∙ sym name_is; uuid = f.2.uuid ∙ sym uuid_is; task = subst (λ (o : Option Task). Rattle.fam_journal.specs.Forms.TaskFormed next.uuid o None) (sym x.task) tt; keeps = f.2.keeps ∙ ap (λ (k : Option Kept). is_some k) (sym x.kept) })))
+        fault_shaped : IsShaped old → IsShaped new
+        fault_shaped is =
+            let shapes : List HostShape = shapes_of old.journal in
+            let f = pairs_at HostShaped old.hosts shapes at view is view_is in
+            subst (λ (vs : List HostView). Pairs HostShaped vs (shapes_of new.journal)) (sym hosts)
+            (subst (λ (fs : List HostShape). Pairs HostShaped (changed_at at (λ v. next) old.hosts) fs) (sym (ap shapes_of joined_fault ∙ shapes_both [] old.journal (fault ∷ [])))
+            (pairs_changed HostShaped old.hosts shapes at view f.0 (λ v. next) (λ host. record host { task = None }) is view_is f.1
+            (record { name = f.2.name ∙ sym name_is; uuid = f.2.uuid ∙ sym uuid_is; task = subst (λ (o : Option Task). Rattle.fam_journal.specs.Shapes.TaskShaped next.uuid o None) (sym x.task) tt; keeps = f.2.keeps ∙ ap (λ (k : Option Kept). is_some k) (sym x.kept) })))
 
-        fault_form : IsFormed old → CallForm c lines (forms_of old.journal) (fault ∷ [])
-        fault_form is = inl (fault_formed_step name at lines old view t number free view_is runs x.line.0 is)
+        fault_shape : IsShaped old → CallShape c lines (shapes_of old.journal) (fault ∷ [])
+        fault_shape is = inl (fault_shaped_step name at lines old view t number free view_is runs x.line.0 is)
 
         abbrev fault_answers : Answers c lines None faults faults_now old new
         fault_answers =
             free_answers c lines faults faults_now None old new (fault ∷ []) joined_fault (counted x.rose) later
             (subst (λ (n : ℕ). at < n) (sym count_is) within, tt) (headings same)
             (λ was. subst (FitsMedia lines) (sym hosts) (fits_kept lines at (λ v. next) old.hosts view view_is fault_fits was))
-            fault_formed refl free (no_cause c) fault_form
+            fault_shaped refl free (no_cause c) fault_shape
 
         fault_keeps : (start : Image) → CallKeeps c start told now old new
         fault_keeps start state told_is held =
@@ -235,9 +235,9 @@ module _ (name : List ℕ) (at lines : ℕ) (old : WorldView) (view : HostView) 
         pub fault_call : StepCall name lines None over (media_change told faults now faults_now) old new
         fault_call = record { answers = record { answers = fault_answers; over_is = x.over_is }; keeps = fault_keeps }
 
-    pub step_call : (over : Bool) → IsStep at t a over → StepCall name lines None over (media_change told faults now faults_now) old new
+    pub step_call : (over : Bool) → StepsHost at t a over → StepCall name lines None over (media_change told faults now faults_now) old new
     step_call over x = by x.how
       where
-        by : IsServed at t a x.notes over ⊎ IsCut at t a x.notes over → StepCall name lines None over (media_change told faults now faults_now) old new
+        by : IsServed at t a x.notes over ⊎ StepFailed at t a x.notes over → StepCall name lines None over (media_change told faults now faults_now) old new
         by (inl served) = served_call x.notes over x.joined x.host x.later served
-        by (inr cut) = fault_call x.notes over x.joined x.host x.later cut
+        by (inr cut_task) = fault_call x.notes over x.joined x.host x.later cut_task

@@ -29,9 +29,9 @@ use Rattle.fam_run.proofs.SentLeft.{sent_lines}
 use Rattle.fam_run.proofs.Running.{lines_kept}
 use Rattle.fam_journal.specs.Notes.{Answered, MediaFault, Note}
 use Rattle.fam_journal.specs.View.{HostView}
-use Rattle.fam_world.specs.Counted.{HostStanding, HostStep, Iterated, Runs, more, none}
+use Rattle.fam_world.specs.Counted.{HostStanding, HostStep, Iterated, SomeSteps, more, none}
 use Rattle.fam_world.specs.Steps.{HostChange}
-use Rattle.fam_world.specs.Turns.{IsNoted, is_done, kept_by, turn_notes}
+use Rattle.fam_world.specs.Turns.{IsNoted, ends_task, task_left_by, turn_notes}
 use Rattle.fam_world.specs.declared.fault.Moved.{Moved}
 use Rattle.fam_world.specs.declared.fault.Moved.TheVariants as moved
 use Rattle.fam_world.proofs.Saying.{step_cut, step_served}
@@ -48,8 +48,8 @@ pub record Went (at : ℕ) (r : Result Turn OperationFault) (old new : List Note
   pub is : r ≡ Ok said
   pub on : ended said ≡ None
   pub noted : new ≡ old ++ turn_notes at said
-  pub over : is_done said ≡ false
-  pub kept : (next : Task) → kept_by said (Some next) ≡ Some next
+  pub over : ends_task said ≡ false
+  pub kept : (next : Task) → task_left_by said (Some next) ≡ Some next
 
 pub went : (at : ℕ) (r : Result Turn OperationFault) (old new : List Note) (res : Result Moved OutOfMemory) → IsNoted at r old new res → res ≡ Ok moved.Going → Went at r old new
 went at (Ok Go) old new res x is = record { said = Go; is = refl; on = refl; noted = x.0; over = refl; kept = λ next. refl }
@@ -80,11 +80,11 @@ iterated_both R a b c n _ first (more {b = mid} {n = k} before last) =
 module _ (at lines : ℕ) (view : HostView) where
   -- an operation that was done
   pub done_step : (b : TaskChange) (said : Turn) (notes notes_now : List Note) → IsDone b said → IfModelled b.media.old.image (λ image. length image ≡ lines) → b.task.lines ≡ lines → b.media.old.faults ≤ b.media.new.faults → notes_now ≡ notes ++ turn_notes at said
-      → HostStep at lines (is_done said) (standing_at view (Some b.task) b.task.kept b.old notes b.media.old) (standing_at view (kept_by said (Some b.next)) b.next.kept b.new notes_now b.media.new)
+      → HostStep at lines (ends_task said) (standing_at view (Some b.task) b.task.kept b.old notes b.media.old) (standing_at view (task_left_by said (Some b.next)) b.next.kept b.new notes_now b.media.new)
   done_step b said notes notes_now x modelled fits later noted =
       let a : HostChange = record {
         old = record view { task = Some b.task; cache = b.old; kept = b.task.kept };
-        new = record view { task = kept_by said (Some b.next); cache = b.new; kept = b.next.kept };
+        new = record view { task = task_left_by said (Some b.next); cache = b.new; kept = b.next.kept };
         before = notes;
         after = notes_now;
         lines = lines;
@@ -94,7 +94,7 @@ module _ (at lines : ℕ) (view : HostView) where
         task = b.task;
         runs = refl;
         modelled = modelled;
-        step = step_served at b.task b.next said a (is_done said) x.goes refl x.kept (Some b.next) refl refl noted refl later refl x.turned x.keeps x.leaves x.within fits;
+        step = step_served at b.task b.next said a (ends_task said) x.goes refl x.kept (Some b.next) refl refl noted refl later refl x.turned x.keeps x.leaves x.within fits;
       }
 
   -- the media failed in it
@@ -118,7 +118,7 @@ module _ (at lines : ℕ) (view : HostView) where
 
   -- operations that leave memory's image
   pub led_runs : (media : MediaState) (notes : List Note) → IfModelled media.image (λ image. length image ≡ lines) → (t next : Task) (held after : Cache) → Led media.image t held next after → t.lines ≡ lines
-      → Runs at lines (standing_at view (Some t) t.kept held notes media) (standing_at view (Some next) next.kept after notes media)
+      → SomeSteps at lines (standing_at view (Some t) t.kept held notes media) (standing_at view (Some next) next.kept after notes media)
   led_runs media notes modelled t _ held _ led.none fits = record { count = 0; goes = none }
   led_runs media notes modelled t next held after (led.more {mid = mid} {now = now} before quiet) fits =
       let first = led_runs media notes modelled t mid held now before fits in
@@ -141,11 +141,11 @@ module _ (at lines : ℕ) (view : HostView) where
   -- some, and one more that was done
   pub record Reached (a : HostStanding) (over : Bool) (c : HostStanding) : Type 0 where
     pub before : HostStanding
-    pub runs : Runs at lines a before
+    pub runs : SomeSteps at lines a before
     pub last : HostStep at lines over before c
 
   pub done_reached : (b : TaskChange) (said : Turn) (notes notes_now : List Note) → HasDone b said → IfModelled b.media.old.image (λ image. length image ≡ lines) → b.task.lines ≡ lines → b.media.old.faults ≤ b.media.new.faults → notes_now ≡ notes ++ turn_notes at said
-      → Reached (standing_at view (Some b.task) b.task.kept b.old notes b.media.old) (is_done said) (standing_at view (kept_by said (Some b.next)) b.next.kept b.new notes_now b.media.new)
+      → Reached (standing_at view (Some b.task) b.task.kept b.old notes b.media.old) (ends_task said) (standing_at view (task_left_by said (Some b.next)) b.next.kept b.new notes_now b.media.new)
   done_reached b said notes notes_now x modelled fits later noted =
       let last : IsDone (record b { task = x.task; old = x.held }) said = record {
         sound = x.sound;
@@ -200,7 +200,7 @@ module _ (at lines : ℕ) (view : HostView) where
 
   -- some, and that memory has as many lines behind them
   pub record SentRuns (a c : HostStanding) (left : Option Image) : Type 0 where
-    pub runs : Runs at lines a c
+    pub runs : SomeSteps at lines a c
     pub modelled : IfModelled left (λ image. length image ≡ lines)
 
   pub sent_runs : (faults : ℕ) (notes : List Note) (told left : Option Image) (t next : Task) (held after : Cache) → Sent told t held left next after → IfModelled told (λ image. length image ≡ lines) → t.lines ≡ lines
@@ -218,7 +218,7 @@ module _ (at lines : ℕ) (view : HostView) where
       }
 
   -- behind them, some operations and one more
-  reached_behind : (a b : HostStanding) (over : Bool) (c : HostStanding) → Runs at lines a b → Reached b over c → Reached a over c
+  reached_behind : (a b : HostStanding) (over : Bool) (c : HostStanding) → SomeSteps at lines a b → Reached b over c → Reached a over c
   reached_behind a b over c first reached = record {
     before = reached.before;
     runs = record {
@@ -229,10 +229,10 @@ module _ (at lines : ℕ) (view : HostView) where
   }
 
   pub run_reached : (b : TaskChange) (said : Turn) (notes notes_now : List Note) → HasRun b said → IfModelled b.media.old.image (λ image. length image ≡ lines) → b.task.lines ≡ lines → b.media.old.faults ≤ b.media.new.faults → notes_now ≡ notes ++ turn_notes at said
-      → Reached (standing_at view (Some b.task) b.task.kept b.old notes b.media.old) (is_done said) (standing_at view (kept_by said (Some b.next)) b.next.kept b.new notes_now b.media.new)
+      → Reached (standing_at view (Some b.task) b.task.kept b.old notes b.media.old) (ends_task said) (standing_at view (task_left_by said (Some b.next)) b.next.kept b.new notes_now b.media.new)
   run_reached b said notes notes_now x modelled fits late noted =
       let first = sent_runs b.media.old.faults notes b.media.old.image x.mid b.task x.task b.old x.held x.sent modelled fits in
-      reached_behind _ _ (is_done said) _ first.runs
+      reached_behind _ _ (ends_task said) _ first.runs
       (done_reached (later b x.mid x.task x.held) said notes notes_now x.done first.modelled (sent_lines b.media.old.image x.mid b.task x.task b.old x.held x.sent ∙ fits) late noted)
 
   pub off_reached : (b : TaskChange) (line : LineNo) (notes notes_now : List Note) → HasRunOff b line → IfModelled b.media.old.image (λ image. length image ≡ lines) → b.task.lines ≡ lines → b.media.old.faults ≤ b.media.new.faults → notes_now ≡ notes ++ Answered at (MediaFault line.0) ∷ []
@@ -257,18 +257,18 @@ module _ (at lines : ℕ) (view : HostView) where
         let w = went at r notes notes_now res noted is in
         let done : IsDone b w.said = subst (Operated b) w.is x in
         subst (λ (over : Bool). HostStep at lines over start (end (Some b.next))) w.over
-        (subst (λ (o : Option Task). HostStep at lines (is_done w.said) start (end o)) (w.kept b.next)
+        (subst (λ (o : Option Task). HostStep at lines (ends_task w.said) start (end o)) (w.kept b.next)
         (done_step b w.said notes notes_now done modelled fits later w.noted))
 
     -- of several
 
-    pub all_go : HasAdvanced b r → res ≡ Ok moved.Going → Runs at lines start (end (Some b.next))
+    pub all_go : HasAdvanced b r → res ≡ Ok moved.Going → SomeSteps at lines start (end (Some b.next))
     all_go x is =
         let w = went at r notes notes_now res noted is in
         let reached = run_reached b w.said notes notes_now (subst (HasAdvanced b) w.is x) modelled fits later w.noted in
         let last : HostStep at lines false reached.before (end (Some b.next)) =
         subst (λ (over : Bool). HostStep at lines over reached.before (end (Some b.next))) w.over
-        (subst (λ (o : Option Task). HostStep at lines (is_done w.said) reached.before (end o)) (w.kept b.next) reached.last) in
+        (subst (λ (o : Option Task). HostStep at lines (ends_task w.said) reached.before (end o)) (w.kept b.next) reached.last) in
         record { count = suc reached.runs.count; goes = more reached.runs.goes last }
 
   -- the task is over
@@ -301,5 +301,5 @@ pub steps_below : (at lines : ℕ) (a b : HostStanding) {n : ℕ} → Iterated (
 steps_below at lines a _ none below = below
 steps_below at lines a b (more {b = mid} before last) below = step_below at lines mid b last (steps_below at lines a mid before below)
 
-pub runs_below : (at lines : ℕ) (a b : HostStanding) → Runs at lines a b → ((l : ℕ) → IsHeld (cell_at a.host.cache l) → l < lines) → (l : ℕ) → IsHeld (cell_at b.host.cache l) → l < lines
+pub runs_below : (at lines : ℕ) (a b : HostStanding) → SomeSteps at lines a b → ((l : ℕ) → IsHeld (cell_at a.host.cache l) → l < lines) → (l : ℕ) → IsHeld (cell_at b.host.cache l) → l < lines
 runs_below at lines a b runs below = steps_below at lines a b runs.goes below

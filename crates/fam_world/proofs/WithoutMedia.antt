@@ -2,7 +2,7 @@
 use Rattle.std.proofs.Common.{◌≡◌, ℕ, List, [], ◌∷◌, ◌++◌, Option, Some, None, Err, refl, ap, ap₂, sym, ◌∙◌, subst}
 use Rattle.fam_journal.specs.declared.refusal.Refusal.{Refusal}
 use Rattle.fam_journal.specs.Calls as call
-use Rattle.fam_journal.specs.Calls.{Call, name_of, refusal_of}
+use Rattle.fam_journal.specs.Calls.{Call, asked_name, refusal_of}
 use Rattle.fam_journal.specs.CallRecords.{WorldCall}
 use Rattle.fam_journal.specs.Members.{changed_at}
 use Rattle.fam_journal.specs.Notes.{Note, Refused}
@@ -30,9 +30,9 @@ refuses_free name cause world lines = refl
 pub world_is : (new : WorldView) (hosts : List HostView) (journal : List Note) → new.hosts ≡ hosts → new.journal ≡ journal → new ≡ record { hosts = hosts; journal = journal }
 world_is new hosts journal h j = ap₂ (λ (a : List HostView) (b : List Note). record { hosts = a; journal = b }) h j
 
-pub quiet_refused : (c : Call) (lines : ℕ) (old new : WorldView) (cause : Refusal) → refusal_in c old lines ≡ Some cause → new.hosts ≡ old.hosts → new.journal ≡ old.journal ++ Refused (name_of c) cause ∷ [] → WorldCall c lines (Some cause) old new
+pub quiet_refused : (c : Call) (lines : ℕ) (old new : WorldView) (cause : Refusal) → refusal_in c old lines ≡ Some cause → new.hosts ≡ old.hosts → new.journal ≡ old.journal ++ Refused (asked_name c) cause ∷ [] → WorldCall c lines (Some cause) old new
 quiet_refused c lines old new cause first hosts journal = record {
-  after = world_is new old.hosts (old.journal ++ Refused (name_of c) cause ∷ []) hosts journal ∙ ap (λ (o : Option Refusal). acted_by o c lines old) (sym first);
+  after = world_is new old.hosts (old.journal ++ Refused (asked_name c) cause ∷ []) hosts journal ∙ ap (λ (o : Option Refusal). acted_by o c lines old) (sym first);
   said = sym first;
 }
 

@@ -2,7 +2,7 @@
 use Rattle.std.specs.Prelude.{ℕ, ⊤, ◌≡◌, ◌<◌, Bool, true, false, length, Option, Some, None, Result, Ok, Err}
 use Rattle.fam_journal.specs.declared.refusal.Refusal.{Refusal}
 use Rattle.fam_journal.specs.declared.refusal.Refusal.TheVariants as why
-use Rattle.fam_journal.specs.Calls.{Call, name_of}
+use Rattle.fam_journal.specs.Calls.{Call, asked_name}
 use Rattle.fam_journal.specs.ByWorld.{number_in, refusal_in}
 use Rattle.fam_journal.specs.Ends.{cause_faults}
 use Rattle.fam_journal.specs.Names.{NamesCause}
@@ -30,9 +30,9 @@ IfStepped (Err (fault.Refused cause)) P = P (Some cause) false
 IfStepped (Err fault.OutOfMemory) P = ⊤
 
 -- the refusal that is told, if any
-abbrev pub refusal_told : {T : Type 0} → Result T Refusal → Option Refusal
-refusal_told (Ok x) = None
-refusal_told (Err cause) = Some cause
+abbrev pub refusal_given : {T : Type 0} → Result T Refusal → Option Refusal
+refusal_given (Ok x) = None
+refusal_given (Err cause) = Some cause
 
 -- a call that the world alone refuses asks nothing of the media, which is then as it was
 abbrev pub IsUntouched : {M : Type 0} → Call → ℕ → WorldView → M → M → Type 0
@@ -67,7 +67,7 @@ pub record IsRefused (c : Call) (lines : ℕ) (world : WorldView) (cause : Refus
 
 -- it isn't, and this is the host that it is for
 pub record IsFree (c : Call) (lines : ℕ) (world : WorldView) (at : ℕ) : Type 0 where
-  pub number : number_in (name_of c) world ≡ Some at
+  pub number : number_in (asked_name c) world ≡ Some at
   pub free : refusal_in c world lines ≡ None
   pub within : at < length world.hosts
 

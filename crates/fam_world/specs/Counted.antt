@@ -13,7 +13,7 @@ use Rattle.fam_world.specs.declared.fault.Moved.{Moved}
 use Rattle.fam_world.specs.declared.fault.Moved.TheVariants as moved
 use Rattle.fam_world.specs.declared.fault.WorldFault.{WorldFault}
 use Rattle.fam_world.specs.declared.fault.WorldFault.TheVariants as fault
-use Rattle.fam_world.specs.Steps.{IsStep}
+use Rattle.fam_world.specs.Steps.{StepsHost}
 
 -- so many times R, one behind another
 pub data Iterated {S : Type 0} (R : S → S → Type 0) : S → S → ℕ → Type 0 where
@@ -85,7 +85,7 @@ pub record HostStep (at lines : ℕ) (over : Bool) (a b : HostStanding) : Type 0
   pub task : Task
   pub runs : a.host.task ≡ Some task
   pub modelled : IfModelled a.media.image (λ image. length image ≡ lines)
-  pub step : IsStep at task (record { old = a.host; new = b.host; before = a.notes; after = b.notes; lines = lines; media = record { old = a.media; new = b.media } }) over
+  pub step : StepsHost at task (record { old = a.host; new = b.host; before = a.notes; after = b.notes; lines = lines; media = record { old = a.media; new = b.media } }) over
 
 -- what is said of at most so many operations of its task: all were done, and it goes on; or it answered with one of them; or
 -- no memory was left behind fewer of them
@@ -95,20 +95,20 @@ HostStepsSay at lines most a b (Ok moved.Answered) = EndsWithin (HostStep at lin
 HostStepsSay at lines most a b (Err full) = StopsWithin (HostStep at lines false) most a b
 
 -- some operations of its task, behind which it goes on
-pub record Runs (at lines : ℕ) (a b : HostStanding) : Type 0 where
+pub record SomeSteps (at lines : ℕ) (a b : HostStanding) : Type 0 where
   pub count : ℕ
   pub goes : Iterated (HostStep at lines false) a b count
 
 -- some, and one with which it answers
 pub record Ends (at lines : ℕ) (a b : HostStanding) : Type 0 where
   pub before : HostStanding
-  pub runs : Runs at lines a before
+  pub runs : SomeSteps at lines a before
   pub last : HostStep at lines true before b
 
 -- what is said of operations up to its answer: it answered, or no memory was left behind some of them
 abbrev pub RunsUp : ℕ → ℕ → HostStanding → HostStanding → Result (Unit {0}) OutOfMemory → Type 0
 RunsUp at lines a b (Ok done) = Ends at lines a b
-RunsUp at lines a b (Err full) = Runs at lines a b
+RunsUp at lines a b (Err full) = SomeSteps at lines a b
 
 -- the same, as of a count of them
 abbrev pub moved_up : Result (Unit {0}) OutOfMemory → Result Moved OutOfMemory

@@ -1,39 +1,27 @@
--- Operations of a host's task, one behind another, since a call began.
-use Rattle.std.specs.Prelude.{ℕ, ⊤, ◌≡◌, ◌≤◌, ◌++◌, List, [], ◌∷◌, length, map, Option, Some, None}
+-- Operations of a host's task, one behind another: what they come to.
+use Rattle.std.specs.Prelude.{ℕ, ◌≡◌, ◌≤◌, not, Bool, true, List, length, slice_get, Some, None}
 use Rattle.fam_base.specs.Image.{Image}
 use Rattle.fam_journal.specs.Calls.{DoesOperations}
-use Rattle.fam_journal.specs.CallRecords.{FitsMedia, cause_noted, heading}
-use Rattle.fam_journal.specs.Ends.{HasCounted}
-use Rattle.fam_journal.specs.Forms.{IsFormed, OperationsForm, forms_of}
+use Rattle.fam_journal.specs.CallRecords.{Adds, refusal_noted}
 use Rattle.fam_journal.specs.Kept.{Held}
 use Rattle.fam_journal.specs.Machines.{Machines}
-use Rattle.fam_journal.specs.Names.{AreNamed}
 use Rattle.fam_journal.specs.Notes.{Note}
-use Rattle.fam_journal.specs.View.{WorldView}
-
--- none of these notes is a refusal
-abbrev pub AreOwn : List Note → Type 0
-AreOwn [] = ⊤
-AreOwn (note ∷ notes) = (cause_noted note ≡ None) × AreOwn notes
+use Rattle.fam_journal.specs.Shapes.{IsShaped, OperationsShape, runs_shape, shapes_of}
+use Rattle.fam_world.specs.Counted.{WorldStanding}
 
 -- on a state for which the world was held
-pub record RanTo (at : ℕ) (start : Image) (state : Machines) (notes : List Note) (cur : WorldView) (told : Option Image) : Type 0 where
-  pub count : ℕ
+pub record RanTo (at count : ℕ) (start : Image) (state : Machines) (notes : List Note) (b : WorldStanding) : Type 0 where
   pub left : Machines
   pub does : DoesOperations at count state notes left
-  pub held : Held start left cur left.memory
-  pub told_is : told ≡ Some left.memory
+  pub held : Held start left b.world left.memory
+  pub told_is : b.media.image ≡ Some left.memory
 
--- operations of host `at` led from the one world to the other
-pub record SoFar (at lines : ℕ) (old : WorldView) (told_old : Option Image) (faults_old : ℕ) (cur : WorldView) (told : Option Image) (faults : ℕ) : Type 0 where
-  pub notes : List Note
-  pub joined : cur.journal ≡ old.journal ++ notes
-  pub own : AreOwn notes
-  pub counted : HasCounted faults_old faults notes
-  pub later : faults_old ≤ faults
-  pub named : AreNamed (length old.hosts) notes
-  pub headings : map heading cur.hosts ≡ map heading old.hosts
-  pub fits : FitsMedia lines old.hosts → FitsMedia lines cur.hosts
-  pub formed : IsFormed old → IsFormed cur
-  pub form : IsFormed old → OperationsForm at (forms_of old.journal) notes
-  pub ran : (start : Image) (state : Machines) → told_old ≡ Some state.memory → Held start state old state.memory → RanTo at start state notes cur told
+-- so many operations of host `at` led from the one to the other: they tell no refusal, have at most a note each, and the task is
+-- over behind them, or runs on
+pub record SoFar (at lines count : ℕ) (over : Bool) (a b : WorldStanding) : Type 0 where
+  pub adds : Adds lines a.media.faults b.media.faults a.world b.world
+  pub said : None ≡ refusal_noted adds.notes
+  pub shape : IsShaped a.world → OperationsShape at (shapes_of a.world.journal) adds.notes
+  pub within : IsShaped a.world → length adds.notes ≤ count
+  pub runs : IsShaped a.world → runs_shape (slice_get (shapes_of a.world.journal) at) ≡ true → runs_shape (slice_get (shapes_of b.world.journal) at) ≡ not over
+  pub ran : (start : Image) (state : Machines) → a.media.image ≡ Some state.memory → Held start state a.world state.memory → RanTo at count start state adds.notes b

@@ -14,6 +14,6 @@ move_of (own.Leak mask) = Leak mask.0
 move_of (own.Fetch mask) = Fetch mask.0
 
 -- a failed send, as a fault of a cache
-abbrev pub fault_of : Result (Unit {0}) Failed → Result (Unit {0}) CacheFault
-fault_of (Ok x) = Ok x
-fault_of (Err failed) = Err cache_fault.Failed
+abbrev pub send_fault : Result (Unit {0}) Failed → Result (Unit {0}) CacheFault
+send_fault (Ok x) = Ok x
+send_fault (Err failed) = Err cache_fault.Failed

@@ -45,7 +45,7 @@ pub record IsServed (at : ℕ) (t : Task) (a : HostChange) (notes : List Note) (
   pub over_is : over ≡ list_any is_answer_note notes
 
 -- the media failed in it: the task is gone, and the cache holds no line more
-pub record IsCut (at : ℕ) (t : Task) (a : HostChange) (notes : List Note) (over : Bool) : Type 0 where
+pub record StepFailed (at : ℕ) (t : Task) (a : HostChange) (notes : List Note) (over : Bool) : Type 0 where
   pub line : LineNo
   pub notes_are : notes ≡ Answered at (MediaFault line.0) ∷ []
   pub task : a.new.task ≡ None
@@ -56,9 +56,9 @@ pub record IsCut (at : ℕ) (t : Task) (a : HostChange) (notes : List Note) (ove
   pub over_is : over ≡ true
 
 -- one or the other, with these notes more
-pub record IsStep (at : ℕ) (t : Task) (a : HostChange) (over : Bool) : Type 0 where
+pub record StepsHost (at : ℕ) (t : Task) (a : HostChange) (over : Bool) : Type 0 where
   pub notes : List Note
   pub joined : a.after ≡ a.before ++ notes
   pub host : heading a.new ≡ heading a.old
   pub later : a.media.old.faults ≤ a.media.new.faults
-  pub how : IsServed at t a notes over ⊎ IsCut at t a notes over
+  pub how : IsServed at t a notes over ⊎ StepFailed at t a notes over

@@ -26,16 +26,16 @@ turn_notes h (turn.Note note) = task_note h note ∷ []
 turn_notes h (turn.Done answer) = Answered h (answer_view answer) ∷ []
 
 -- the task behind it, of one that is this now where it goes on
-abbrev pub kept_by : Turn → Option spec.Task → Option spec.Task
-kept_by turn.Go task = task
-kept_by (turn.Note note) task = task
-kept_by (turn.Done answer) task = None
+abbrev pub task_left_by : Turn → Option spec.Task → Option spec.Task
+task_left_by turn.Go task = task
+task_left_by (turn.Note note) task = task
+task_left_by (turn.Done answer) task = None
 
 -- whether a task that takes it is over
-abbrev pub is_done : Turn → Bool
-is_done turn.Go = false
-is_done (turn.Note note) = false
-is_done (turn.Done answer) = true
+abbrev pub ends_task : Turn → Bool
+ends_task turn.Go = false
+ends_task (turn.Note note) = false
+ends_task (turn.Done answer) = true
 
 -- the same, as a step says it
 abbrev pub moved_by : Turn → Moved

@@ -24,14 +24,14 @@ abbrev pub count_kept : Option Kept → Option ℕ
 count_kept kept = option_map (λ (k : Kept). length k.entries) kept
 
 -- how many entries a host keeps, if there is one
-abbrev pub count_of : Option HostView → Option ℕ
-count_of None = None
-count_of (Some view) = count_kept view.kept
+abbrev pub kept_entries : Option HostView → Option ℕ
+kept_entries None = None
+kept_entries (Some view) = count_kept view.kept
 
 -- how many entries the host of this number keeps
 abbrev pub count_at : Option ℕ → List HostView → Option ℕ
 count_at None hosts = None
-count_at (Some at) hosts = count_of (slice_get hosts at)
+count_at (Some at) hosts = kept_entries (slice_get hosts at)
 
 -- how many entries the host of this name keeps, if it is declared and keeps anything
 abbrev pub count_named : List ℕ → WorldView → Option ℕ
@@ -42,8 +42,8 @@ abbrev pub views : List Host → List HostView
 views hosts = map host_view hosts
 
 -- what tells refusals of them: names, UUIDs, caches, and who has a task
-abbrev pub shown : List Host → List HostState
-shown hosts = map shown_host (views hosts)
+abbrev pub shown_hosts : List Host → List HostState
+shown_hosts hosts = map shown_host (views hosts)
 
 -- a host that isn't the maker holds a line that memory may lack
 abbrev pub is_dirty_other : ℕ → ℕ → HostState → Bool

@@ -12,7 +12,7 @@ ghost use Rattle.fam_journal.specs.Notes.{Note};
 ghost use Rattle.fam_journal.specs.View.{HostView};
 ghost use Rattle.fam_world.specs.Answers.{IsPlaced, IsPlain};
 ghost use Rattle.fam_commands.specs.Classes.{is_mount};
-ghost use Rattle.fam_world.specs.View.{count_kept, count_named, host_view, is_dirty_other, shown, views};
+ghost use Rattle.fam_world.specs.View.{count_kept, count_named, host_view, is_dirty_other, shown_hosts, views};
 
 use crate::hosts::{Host, MOST_HOSTS};
 use fam_base::{Cmd, HostName, LineNo};
@@ -106,7 +106,7 @@ fn is_dirty_other(host: &Host, at: usize, maker: usize) -> bool
 
 /// The host of this name.
 pub(crate) fn number(hosts: &Vec<Host>, name: &HostName) -> Option<usize>
-    ensures is { result ≡ index_of (has_name name.now) (shown hosts.now.items) }
+    ensures is { result ≡ index_of (has_name name.now) (shown_hosts hosts.now.items) }
     ensures within { IfSome result (λ at. at < vec_len hosts.now) }
 {
     for at in 0..hosts.len() {
@@ -119,7 +119,7 @@ pub(crate) fn number(hosts: &Vec<Host>, name: &HostName) -> Option<usize>
 
 /// The first host of this name or this UUID.
 fn same_host(hosts: &Vec<Host>, name: &HostName, uuid: &Uuid) -> Option<usize>
-    ensures is { result ≡ index_of (is_same name.now uuid.now) (shown hosts.now.items) }
+    ensures is { result ≡ index_of (is_same name.now uuid.now) (shown_hosts hosts.now.items) }
     ensures within { IfSome result (λ at. at < vec_len hosts.now) }
 {
     for at in 0..hosts.len() {
@@ -132,7 +132,7 @@ fn same_host(hosts: &Vec<Host>, name: &HostName, uuid: &Uuid) -> Option<usize>
 
 /// The first host that has a task, or keeps something of the log.
 pub(crate) fn engaged_host(hosts: &Vec<Host>) -> Option<usize>
-    ensures is { result ≡ index_of is_engaged (shown hosts.now.items) }
+    ensures is { result ≡ index_of is_engaged (shown_hosts hosts.now.items) }
     ensures within { IfSome result (λ at. at < vec_len hosts.now) }
 {
     for at in 0..hosts.len() {
@@ -145,7 +145,7 @@ pub(crate) fn engaged_host(hosts: &Vec<Host>) -> Option<usize>
 
 /// The first host other than the maker that holds a line which memory may lack.
 pub(crate) fn dirty_host(hosts: &Vec<Host>, maker: usize) -> Option<usize>
-    ensures is { result ≡ dirty_from maker 0 (shown hosts.now.items) }
+    ensures is { result ≡ dirty_from maker 0 (shown_hosts hosts.now.items) }
     ensures within { IfSome result (λ at. at < vec_len hosts.now) }
 {
     for at in 0..hosts.len() {

@@ -27,9 +27,9 @@ use Rattle.fam_journal.specs.declared.refusal.Refusal.{Refusal}
 use Rattle.fam_journal.specs.Calls as call
 use Rattle.fam_journal.specs.Calls.{begins_refusal, is_busy, is_busy_host, is_engaged, is_same, makes_refusal, refusal_of, umounts_refusal, IsSoundRequest}
 use Rattle.fam_journal.specs.View.{HostStands, HostView, HostStandsAt, StandsAs, TaskStands, WorldView}
-use Rattle.fam_journal.specs.Kept.{copy_at, Agrees, IfRuns, Reached, TaskTold, hosts_of, run_at, run_of, run_with, shared_of, settled_of}
+use Rattle.fam_journal.specs.Kept.{copy_at, Agrees, IfRuns, Reached, TaskTold, hosts_of, run_at, protocol_run, run_with, shared_of, settled_of}
 use Rattle.fam_machine.specs.HostMoves.{Move, move_failed, moved}
-use Rattle.fam_journal.specs.Machines.{Done, Fails, HostState, Machines, Operation, Outcome, Passes, TaskState, cut, host_done, machine_of, next_op, notes_of, op_done, operation, task_done, with_kept, with_machine, with_memory, with_task}
+use Rattle.fam_journal.specs.Machines.{Done, Fails, HostState, Machines, Operation, Outcome, Passes, TaskState, cut_task, host_done, machine_of, next_op, notes_of, op_done, operation, task_done, with_kept, with_machine, with_memory, with_task}
 use Rattle.fam_journal.specs.Members.{changed_at, index_of}
 use Rattle.fam_machine.specs.Mkfs.{asked, early_refusal, halted_ops, is_geometry, mkfs_ops, read_ops}
 use Rattle.fam_journal.specs.Notes.{Answered, MediaFault, Note, Refused}
@@ -67,7 +67,7 @@ uuids_kept h g keeps xs all k host is =
 
 -- a mkfs that isn't refused before its first operation
 record MayMake (unit log h : ℕ) (state : Machines) : Type 0 where
-  form : is_geometry unit log ≡ true
+  shape : is_geometry unit log ≡ true
   room : need log unit ≤ line_bytes * length state.memory
   busy : index_of is_engaged state.hosts ≡ None
   dirty : call.dirty_from h 0 state.hosts ≡ None
@@ -80,14 +80,14 @@ may_make unit log h state free =
     let behind : or_else b c ≡ None = or_next a (or_else b c) free in
     let early = early_free unit log (line_bytes * length state.memory) (no_cause (early_refusal unit log (line_bytes * length state.memory)) (or_first a (or_else b c) free)) in
     record {
-      form = early.0;
+      shape = early.0;
       room = early.1;
       busy = no_busy (index_of is_engaged state.hosts) (or_first b c behind);
       dirty = no_dirty (call.dirty_from h 0 state.hosts) (or_next b c behind);
     }
 
 -- what is noted where the media failed in an operation
-cut_says : (h : ℕ) (m : Machines) (o : Option Failure) (x : Done) → cut h m o ≡ Some x → (at : ℕ) × (x.notes ≡ Answered h (MediaFault at) ∷ [])
+cut_says : (h : ℕ) (m : Machines) (o : Option Failure) (x : Done) → cut_task h m o ≡ Some x → (at : ℕ) × (x.notes ≡ Answered h (MediaFault at) ∷ [])
 cut_says h m None x is = absurd cc
 cut_says h m (Some failure) x is = (failure.line.0, sym (ap (λ (z : Done). z.notes) (same_Some _ x is)))
 
@@ -137,7 +137,7 @@ module _ (start : Image) (state : Machines) (journal : List Note) (kept : Reache
     module _ (t : Task) (runs : d.view.task ≡ Some t) (s : TaskState) (s_is : d.host.task ≡ Some s) (standing : StandsAs (length start) s t) where
       inside : IsInImage (op_of t) (record { image = state.memory; cache = d.view.cache })
       inside =
-          asks_inside (settled_of (past_of start journal).state (line_at state.memory)) (length start) (hosts_of kept.views (past_of start journal).hosts) (shared_of state.memory kept.views) held.limit held.invariant.stage h (run_of t d.told)
+          asks_inside (settled_of (past_of start journal).state (line_at state.memory)) (length start) (hosts_of kept.views (past_of start journal).hosts) (shared_of state.memory kept.views) held.limit held.invariant.stage h (protocol_run t d.told)
           (ap₂ run_at d.view_is d.told_is ∙ ap (λ (o : Option Task). run_with o (Some d.told)) runs) (record { image = state.memory; cache = d.view.cache })
           record { memory = λ l. refl; copies = λ l. ap (λ (o : Option HostView). copy_at o l) d.view_is } held.lines
 
@@ -161,7 +161,7 @@ module _ (start : Image) (state : Machines) (journal : List Note) (kept : Reache
           sym (ap (λ (z : Done). z.notes) (same_Some _ x (sym row ∙ is)))
 
       -- the media failed in the operation
-      cut_kept : (o : Option Failure) (x : Done) → cut h state o ≡ Some x → ((failure : Failure) → o ≡ Some failure → HasBroken (op_of t) (record { image = state.memory; cache = d.view.cache }) failure) → Reached start x.left (journal ++ x.notes)
+      cut_kept : (o : Option Failure) (x : Done) → cut_task h state o ≡ Some x → ((failure : Failure) → o ≡ Some failure → HasBroken (op_of t) (record { image = state.memory; cache = d.view.cache }) failure) → Reached start x.left (journal ++ x.notes)
       cut_kept None x is broken = absurd cc
       cut_kept (Some failure) x is broken =
           subst (λ (z : Done). Reached start z.left (journal ++ z.notes)) (same_Some _ x is)
@@ -262,8 +262,8 @@ module _ (start : Image) (state : Machines) (journal : List Note) (kept : Reache
         let may = may_make request.unit request.log h state free in
         record {
           format = good.format;
-          unit = both_first (is_unit request.unit) (is_log_length request.unit request.log) may.form;
-          log_length = both_next (is_unit request.unit) (is_log_length request.unit request.log) may.form;
+          unit = both_first (is_unit request.unit) (is_log_length request.unit request.log) may.shape;
+          log_length = both_next (is_unit request.unit) (is_log_length request.unit request.log) may.shape;
           slots = refl;
           need = may.room;
           device = omega (arith, held.limit, held.lines);
@@ -304,7 +304,7 @@ module _ (start : Image) (state : Machines) (journal : List Note) (kept : Reache
     pub enough_to_make : (unit log : ℕ) → makes_refusal unit log h state ≡ None → least_lines ≤ length state.memory
     enough_to_make unit log free =
         let may = may_make unit log h state free in
-        omega (arith, may.room, (unit_told unit (both_first (is_unit unit) (is_log_length unit log) may.form)).least)
+        omega (arith, may.room, (unit_told unit (both_first (is_unit unit) (is_log_length unit log) may.shape)).least)
 
     pub met_kept : (name : List ℕ) (cause : Refusal) → least_lines ≤ length state.memory → Reached start (with_machine h (operated_all read_ops (machine_of state d.host)) d.host.task state) (journal ++ Refused name cause ∷ [])
     met_kept name cause enough = record {

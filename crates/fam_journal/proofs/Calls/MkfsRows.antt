@@ -137,8 +137,8 @@ module _ (start : Image) (state : Machines) (world : WorldView) (held : Agrees s
     pub enough : least_lines ≤ length state.memory
     enough = omega (arith, sound.need, device, (unit_told p.unit sound.unit).least)
 
-    form : IsFormatted p (operated_all read_ops m).image left.image
-    form = lines_formatted (operated_all read_ops m).image p (omega (arith, enough, read_length m))
+    shape : IsFormatted p (operated_all read_ops m).image left.image
+    shape = lines_formatted (operated_all read_ops m).image p (omega (arith, enough, read_length m))
 
     small_line : (l : ℕ) → l ≤ 2 → cell_at left.cache l ≡ Absent
     small_line zero small = magic_dropped p (operated_all read_ops m).cache
@@ -152,11 +152,11 @@ module _ (start : Image) (state : Machines) (world : WorldView) (held : Agrees s
 
     formats : Formats h p (shared_of state.memory world.hosts) (shared_of left.image views)
     formats = record {
-      magic = form.magic;
-      first = form.super_prefix;
-      second = form.super_rest;
-      header = form.header;
-      gate = form.gate;
+      magic = shape.magic;
+      first = shape.super_prefix;
+      second = shape.super_rest;
+      header = shape.header;
+      gate = shape.gate;
       head = λ l head. copy_here left.cache l ∙ head_line l head;
       dropped = copy_here left.cache gate_line ∙ gate_dropped p (operated_all read_ops m).cache;
       dirty = λ l dirty. subst IsDirty (sym (ap (λ (o : Option HostView). copy_at o l) d.view_is)) (made_dirty p m l (subst IsDirty (copy_here left.cache l) dirty));
@@ -181,7 +181,7 @@ module _ (start : Image) (state : Machines) (world : WorldView) (held : Agrees s
     formatted_held : Agrees start (with_machine h left d.host.task state) (record { hosts = views; journal = world.journal ++ Made h p ∷ [] }) left.image
     formatted_held =
         held_with start state world state.memory held (with_machine h left d.host.task state) views (Made h p ∷ []) (line_at left.image)
-        (form.count ∙ read_length m ∙ held.lines) (formatted_normal p (operated_all read_ops m).image (read_normal m held.normal)) (tt, tt)
+        (shape.count ∙ read_length m ∙ held.lines) (formatted_normal p (operated_all read_ops m).image (read_normal m held.normal)) (tt, tt)
         (stands_changed h d.view world.hosts d.view_is makes (length start) state.hosts d.host d.host_is (λ z. record z { cache = left.cache; task = d.host.task })
         record { name = d.stands.name; uuid = d.stands.uuid; cache = refl; task = d.stands.task; kept = d.stands.kept; joined = d.stands.joined } held.stands)
         (told_changed h d.view world.hosts d.view_is makes x.hosts x.hosts d.told d.told_is (λ k ne. refl)

@@ -21,14 +21,14 @@ use Rattle.fam_protocol.proofs.Hosts.Steps.{invariant_stepped}
 use Rattle.fam_rules.specs.Asks.{File}
 use Rattle.fam_rules.specs.Place.{line_bytes}
 use Rattle.fam_journal.specs.View.{HostStands, HostView, HostStandsAt, StandsAs, TaskStands, WorldView}
-use Rattle.fam_journal.specs.Kept.{Agrees, HostTold, IfHalted, IfRuns, IsCleared, TaskTold, ToldAt, hosts_of, run_at, run_of, run_with, shared_of, settled_of, uuid_at}
+use Rattle.fam_journal.specs.Kept.{Agrees, HostTold, IfHalted, IfRuns, IsCleared, TaskTold, ToldAt, hosts_of, run_at, protocol_run, run_with, shared_of, settled_of, uuid_at}
 use Rattle.fam_base.specs.declared.entry.Entry.{Entry}
 use Rattle.fam_base.specs.declared.entry.Params.{Params}
 use Rattle.fam_format.specs.Layout.{least_lines}
 use Rattle.fam_format.specs.Reading as read
 use Rattle.fam_format.specs.Reading.{Lines, reading_of}
 use Rattle.fam_protocol.specs.Bad.{MaySayBad}
-use Rattle.fam_journal.specs.Laws.{IsOwn}
+use Rattle.fam_journal.specs.Laws.{IsOwnDamage}
 use Rattle.fam_journal.specs.Legal.{LegalBehind}
 use Rattle.fam_journal.specs.Machines as machine
 use Rattle.fam_journal.specs.Machines.{HostState, Machines, Passes, TaskState, machine_of, notes_of, operation, task_on, with_parts}
@@ -61,7 +61,7 @@ module _ (start : Image) (hosts : List HostPast) (h : ℕ) (told : HostPast) (ho
   keeps_command p history pending have uuids master c e = tt
 
   -- a damaged image has as many lines as the one that was handed in
-  damaged_bridged : (image : Image) (damage : Damage) (g : ℕ) → IsOwn (length start) image damage g → least_lines ≤ length start
+  damaged_bridged : (image : Image) (damage : Damage) (g : ℕ) → IsOwnDamage (length start) image damage g → least_lines ≤ length start
       → ((p : Params) (entries : List Entry) → reading_of (line_at image) (line_bytes * length start) ≢ read.Sound p entries)
       → MaySayBad turn (line_at image) (line_bytes * length start) t → Bridged (record { start = start; state = Bad (Given image) damage g; hosts = hosts }) now h turn
   damaged_bridged image damage g own enough bad says = record {
@@ -80,8 +80,8 @@ module _ (start : Image) (hosts : List HostPast) (h : ℕ) (told : HostPast) (ho
     halted = subst (λ (s : State). IfHalted s now) (sym (bad_stays start hosts h Halted damage g turn)) cleared;
   }
 
-  pub bridged : (state : State) → ((i : Image) (d : Damage) (g : ℕ) → state ≡ Bad (Given i) d g → IsOwn (length start) i d g) → IfHalted state now → InvariantBy (settled_of state now) (length start) all_hosts shared
-      → TurnSays turn (run_of t told) (settled_of state now) (length start) all_hosts → Bridged (record { start = start; state = state; hosts = hosts }) now h turn
+  pub bridged : (state : State) → ((i : Image) (d : Damage) (g : ℕ) → state ≡ Bad (Given i) d g → IsOwnDamage (length start) i d g) → IfHalted state now → InvariantBy (settled_of state now) (length start) all_hosts shared
+      → TurnSays turn (protocol_run t told) (settled_of state now) (length start) all_hosts → Bridged (record { start = start; state = state; hosts = hosts }) now h turn
   bridged (Sound p history pending) first halted stage says = record {
     legal = sound_legal p history pending start hosts h told host_is t was.cmd me (line_bytes * length start) all_hosts.uuid says.master turn says.may;
     settles = settled;
@@ -169,7 +169,7 @@ module _ (start : Image) (state : Machines) (world : WorldView) (held : Agrees s
     abbrev old_hosts : Hosts
     old_hosts = hosts_of world.hosts x.hosts
 
-    run_is : old_hosts.run h ≡ Some (run_of t told)
+    run_is : old_hosts.run h ≡ Some (protocol_run t told)
     run_is = ap₂ run_at view_is told_is ∙ ap (λ (o : Option Task). run_with o (Some told)) runs
 
     uuid_same : (k : ℕ) → uuid_at (slice_get views k) ≡ uuid_at (slice_get world.hosts k)
@@ -181,7 +181,7 @@ module _ (start : Image) (state : Machines) (world : WorldView) (held : Agrees s
           | inr ne ↦ ap uuid_at (changed_other h k changed world.hosts ne)
         ]
 
-    steps : Steps h word settled (run_of t told) old_hosts (hosts_of views y.hosts) (shared_of state.memory world.hosts) (shared_of after.image views)
+    steps : Steps h word settled (protocol_run t told) old_hosts (hosts_of views y.hosts) (shared_of state.memory world.hosts) (shared_of after.image views)
     steps = record {
       is = run_is;
       operates = operates_by h m (shared_of state.memory world.hosts) (shared_of (operated (op_of t) m).image (changed_at h changed world.hosts)) (op_of t) (acts_at world.hosts h view view_is changed state.memory (operated (op_of t) m) refl) held.invariant.wide inside;
@@ -189,8 +189,8 @@ module _ (start : Image) (state : Machines) (world : WorldView) (held : Agrees s
       mine =
           ap₂ run_at (changed_at_member h changed world.hosts view view_is) (told_here x h turn told told_is)
           ∙ run_same turn (settled_length x.state) t told
-          ∙ ap (λ (n : ℕ). run_after turn n (run_of t told)) (sym (settled_same x.state now))
-          ∙ ap (λ (z : Turn). run_after z (settled_count settled) (run_of t told)) (sym is);
+          ∙ ap (λ (n : ℕ). run_after turn n (protocol_run t told)) (sym (settled_same x.state now))
+          ∙ ap (λ (z : Turn). run_after z (settled_count settled) (protocol_run t told)) (sym is);
       runs = λ k ne. ap₂ run_at (changed_other h k changed world.hosts ne) (told_other x h turn k ne);
       keeps =
           kept_here h view world.hosts view_is changed
@@ -199,8 +199,8 @@ module _ (start : Image) (state : Machines) (world : WorldView) (held : Agrees s
       kept = λ k ne. kept_else h view world.hosts view_is changed k ne;
     }
 
-    step_holds : StepHolds settled (length start) word (run_of t told) old_hosts (hosts_of views y.hosts) (shared_of after.image views)
-    step_holds = invariant_stepped (length start) h word settled (run_of t told) old_hosts (hosts_of views y.hosts) (shared_of state.memory world.hosts) (shared_of after.image views) held.invariant steps
+    step_holds : StepHolds settled (length start) word (protocol_run t told) old_hosts (hosts_of views y.hosts) (shared_of after.image views)
+    step_holds = invariant_stepped (length start) h word settled (protocol_run t told) old_hosts (hosts_of views y.hosts) (shared_of state.memory world.hosts) (shared_of after.image views) held.invariant steps
 
     task_was : TaskTold t told
     task_was = subst (λ (o : Option Task). IfRuns o told) runs host_told.task
@@ -208,14 +208,14 @@ module _ (start : Image) (state : Machines) (world : WorldView) (held : Agrees s
     me_is : told.uuid ≡ t.me
     me_is =
         same_Some told.uuid t.me
-        (ap Some host_told.uuid ∙ ap uuid_at (sym view_is) ∙ me_of settled (length start) old_hosts (shared_of state.memory world.hosts) h (run_of t told) held.invariant.stage run_is)
+        (ap Some host_told.uuid ∙ ap uuid_at (sym view_is) ∙ me_of settled (length start) old_hosts (shared_of state.memory world.hosts) h (protocol_run t told) held.invariant.stage run_is)
 
     bridge : Bridged x now h turn
     bridge =
         subst (λ (i : Image). Bridged (record { start = i; state = x.state; hosts = x.hosts }) now h turn) (sym (start_kept world.journal (first_past start)))
         (bridged start x.hosts h told told_is s.kept s.cmd s.me t s.words s.made word standing.joined standing.stands turn is task_was me_is old_hosts (shared_of state.memory world.hosts) now x.state
         (λ i d g e. bad_own start i d g world.journal e) held.halted held.invariant.stage
-        (subst (λ (z : Turn). TurnSays z (run_of t told) settled (length start) old_hosts) is step_holds.says))
+        (subst (λ (z : Turn). TurnSays z (protocol_run t told) settled (length start) old_hosts) is step_holds.says))
 
     settles : settled_of y.state now ≡ turn_settles turn settled
     settles = bridge.settles

@@ -11,9 +11,9 @@ use Rattle.fam_commands.specs.Task.{mounted}
 use Rattle.fam_journal.specs.declared.refusal.Refusal.{Refusal}
 use Rattle.fam_journal.specs.declared.refusal.Refusal.TheVariants as why
 use Rattle.fam_journal.specs.Calls as call
-use Rattle.fam_journal.specs.Calls.{Acts, ActsAt, ActsOf, AtNumber, ByRefusal, Call, Does, MayBeRefused, OnHost, begins_refusal, has_name, idle_refusal, name_of, number_of, on_host, refusal_of, umounts_refusal}
+use Rattle.fam_journal.specs.Calls.{Acts, ActsAt, ActsOf, AtNumber, ByRefusal, Call, Does, MayBeRefused, OnHost, begins_refusal, has_name, idle_refusal, asked_name, number_of, on_host, refusal_of, umounts_refusal}
 use Rattle.fam_journal.specs.View.{HostStands, HostView, HostStandsAt, TaskStands, WorldStands, WorldView}
-use Rattle.fam_journal.specs.ByWorld.{IsRow, TakesNoMedia, acted, acted_by, number_in, refusal_in, with_host, world_after}
+use Rattle.fam_journal.specs.ByWorld.{IsCallRow, TakesNoMedia, acted, acted_by, number_in, refusal_in, with_host, world_after}
 use Rattle.fam_journal.specs.Machines.{HostState, Machines, task_begun, with_kept, with_parts, with_task}
 use Rattle.fam_journal.specs.Members.{changed_at, index_from}
 use Rattle.fam_journal.specs.Notes.{Halt, Host, Note, Refused, Start, Stop, Umount}
@@ -81,9 +81,9 @@ module _ (state : Machines) (world : WorldView) (stands : WorldStands (length st
       by_view (Some view) view_is = record { number = number; host = member.x; host_is = host_is; view = view; view_is = view_is; mine = both (Some view) view_is }
 
   by_none : (c : Call) (notes : List Note) (left : Machines) → refusal_of c state ≡ None → Acts c state notes left → Does c state notes left
-  by_none c notes left free x = subst (λ (o : Option Refusal). ByRefusal (name_of c) o notes state left (Acts c state notes left)) (sym free) x
+  by_none c notes left free x = subst (λ (o : Option Refusal). ByRefusal (asked_name c) o notes state left (Acts c state notes left)) (sym free) x
 
-  acts_at : (c : Call) (notes : List Note) (left : Machines) (h : ℕ) → (p : Placed (name_of c) h) → ActsAt c h p.host state notes left → ActsOf c state notes left
+  acts_at : (c : Call) (notes : List Note) (left : Machines) (h : ℕ) → (p : Placed (asked_name c) h) → ActsAt c h p.host state notes left → ActsOf c state notes left
   acts_at c notes left h p x =
       subst (λ (o : Option ℕ). AtNumber o state (λ h host. ActsAt c h host state notes left)) (sym p.number)
       (subst (λ (o : Option HostState). OnHost o (λ host. ActsAt c h host state notes left)) (sym p.host_is) x)
@@ -92,7 +92,7 @@ module _ (state : Machines) (world : WorldView) (stands : WorldStands (length st
       → (k : ℕ) → HostStandsAt lines (slice_get (changed_at h g state.hosts) k) (slice_get (changed_at h f world.hosts) k)
   changed h name p g f mine = stands_changed h p.view world.hosts p.view_is f lines state.hosts p.host p.host_is g mine stands
 
-  acts : (c : Call) → TakesNoMedia c lines world → refusal_of c state ≡ None → IsRow c lines state world (acted c lines world)
+  acts : (c : Call) → TakesNoMedia c lines world → refusal_of c state ≡ None → IsCallRow c lines state world (acted c lines world)
   unfolding refusal_of
   acts (call.Declares name uuid) takes free = record {
     left = record state { hosts = state.hosts ++ record { name = name; uuid = uuid; cache = finmap.empty; task = None; kept = None } ∷ [] };
@@ -104,7 +104,7 @@ module _ (state : Machines) (world : WorldView) (stands : WorldStands (length st
   }
   acts (call.Begins name cmd) takes free = by_number (number_in name world) refl
     where
-      by_number : (o : Option ℕ) → number_in name world ≡ o → IsRow (call.Begins name cmd) lines state world (with_host o (λ v. record v { task = Some (mounted v.kept cmd v.uuid lines) }) (λ h. Start h cmd) world)
+      by_number : (o : Option ℕ) → number_in name world ≡ o → IsCallRow (call.Begins name cmd) lines state world (with_host o (λ v. record v { task = Some (mounted v.kept cmd v.uuid lines) }) (λ h. Start h cmd) world)
       by_number None is = absurd (let e : on_host (number_of name state) (λ h. begins_refusal h (is_mount cmd) state) ≡ Some why.NoHost = ap (λ (o : Option ℕ). on_host o (λ h. begins_refusal h (is_mount cmd) state)) (number_shown lines state world name stands ∙ is) in cc)
       by_number (Some h) is =
           let p = placed name h is in
@@ -127,7 +127,7 @@ module _ (state : Machines) (world : WorldView) (stands : WorldStands (length st
           }
   acts (call.Stops name) takes free = by_number (number_in name world) refl
     where
-      by_number : (o : Option ℕ) → number_in name world ≡ o → IsRow (call.Stops name) lines state world (with_host o (λ v. record v { task = None }) Stop world)
+      by_number : (o : Option ℕ) → number_in name world ≡ o → IsCallRow (call.Stops name) lines state world (with_host o (λ v. record v { task = None }) Stop world)
       by_number None is = absurd (let e : on_host (number_of name state) (λ h. idle_refusal h state) ≡ Some why.NoHost = ap (λ (o : Option ℕ). on_host o (λ h. idle_refusal h state)) (number_shown lines state world name stands ∙ is) in cc)
       by_number (Some h) is =
           let p = placed name h is in
@@ -141,7 +141,7 @@ module _ (state : Machines) (world : WorldView) (stands : WorldStands (length st
           }
   acts (call.Halts name) takes free = by_number (number_in name world) refl
     where
-      by_number : (o : Option ℕ) → number_in name world ≡ o → IsRow (call.Halts name) lines state world (with_host o (λ v. record v { cache = finmap.empty; task = None; kept = None }) Halt world)
+      by_number : (o : Option ℕ) → number_in name world ≡ o → IsCallRow (call.Halts name) lines state world (with_host o (λ v. record v { cache = finmap.empty; task = None; kept = None }) Halt world)
       by_number None is = absurd (let e : on_host (number_of name state) (λ h. None) ≡ Some why.NoHost = ap (λ (o : Option ℕ). on_host o (λ h. None)) (number_shown lines state world name stands ∙ is) in cc)
       by_number (Some h) is =
           let p = placed name h is in
@@ -155,7 +155,7 @@ module _ (state : Machines) (world : WorldView) (stands : WorldStands (length st
           }
   acts (call.Umounts name) takes free = by_number (number_in name world) refl
     where
-      by_number : (o : Option ℕ) → number_in name world ≡ o → IsRow (call.Umounts name) lines state world (with_host o (λ v. record v { kept = None }) Umount world)
+      by_number : (o : Option ℕ) → number_in name world ≡ o → IsCallRow (call.Umounts name) lines state world (with_host o (λ v. record v { kept = None }) Umount world)
       by_number None is = absurd (let e : on_host (number_of name state) (λ h. umounts_refusal h state) ≡ Some why.NoHost = ap (λ (o : Option ℕ). on_host o (λ h. umounts_refusal h state)) (number_shown lines state world name stands ∙ is) in cc)
       by_number (Some h) is =
           let p = placed name h is in
@@ -181,14 +181,14 @@ module _ (state : Machines) (world : WorldView) (stands : WorldStands (length st
       may (inr is) = inr (is_mount is.0, refusal_shown lines state world (call.Begins name is.0) stands ∙ is.1)
   acts e takes free = absurd takes
 
-  pub row_done : (c : Call) → TakesNoMedia c lines world → IsRow c lines state world (world_after c lines world)
+  pub row_done : (c : Call) → TakesNoMedia c lines world → IsCallRow c lines state world (world_after c lines world)
   row_done c takes = by_refusal (refusal_in c world lines) refl
     where
-      by_refusal : (o : Option Refusal) → refusal_in c world lines ≡ o → IsRow c lines state world (acted_by o c lines world)
+      by_refusal : (o : Option Refusal) → refusal_in c world lines ≡ o → IsCallRow c lines state world (acted_by o c lines world)
       by_refusal (Some cause) is = record {
         left = state;
-        notes = Refused (name_of c) cause ∷ [];
-        row = subst (λ (o : Option Refusal). ByRefusal (name_of c) o (Refused (name_of c) cause ∷ []) state state (Acts c state (Refused (name_of c) cause ∷ []) state)) (sym (refusal_shown lines state world c stands ∙ is)) (refl, refl);
+        notes = Refused (asked_name c) cause ∷ [];
+        row = subst (λ (o : Option Refusal). ByRefusal (asked_name c) o (Refused (asked_name c) cause ∷ []) state state (Acts c state (Refused (asked_name c) cause ∷ []) state)) (sym (refusal_shown lines state world c stands ∙ is)) (refl, refl);
         memory = refl;
         stands = stands;
         joined = refl;

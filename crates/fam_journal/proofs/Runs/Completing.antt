@@ -22,18 +22,18 @@ use Rattle.fam_journal.specs.declared.event.Event.{Event}
 use Rattle.fam_journal.specs.declared.event.Event.TheVariants as event
 use Rattle.fam_journal.specs.declared.refusal.Refusal.{Refusal}
 use Rattle.fam_journal.specs.Calls as call
-use Rattle.fam_journal.specs.Calls.{Acts, ActsAt, AtNumber, ByRefusal, Call, Completes, Does, MakesOrHalts, OnHost, DoesOperations, busy_at, has_name, is_busy_host, name_of, number_of, refusal_of}
+use Rattle.fam_journal.specs.Calls.{Acts, ActsAt, AtNumber, ByRefusal, Call, Completes, Does, MakesOrHalts, OnHost, DoesOperations, busy_at, has_name, is_busy_host, asked_name, number_of, refusal_of}
 use Rattle.fam_journal.specs.Complete.{AreRuled, EndsInAnswer}
 use Rattle.fam_journal.specs.Ends.{IsFaultless}
 use Rattle.fam_journal.specs.Events.{DoesEvent, Continues, Session, first_session}
 use Rattle.fam_journal.specs.Follows.{Follows}
-use Rattle.fam_journal.specs.Kept.{Reached, hosts_of, run_at, run_of, run_with, shared_of, settled_of, uuid_at}
-use Rattle.fam_journal.specs.Laws.{AreSound, IsImage, IsSoundEvent}
+use Rattle.fam_journal.specs.Kept.{Reached, hosts_of, run_at, protocol_run, run_with, shared_of, settled_of, uuid_at}
+use Rattle.fam_journal.specs.Laws.{AreSound, IsImage, IsValidEvent}
 use Rattle.fam_journal.specs.Legal.{LegalBehind}
 use Rattle.fam_journal.specs.Machines.{Done, HostState, Machines, Operation, Passes, TaskState, host_done, machine_of, next_note, next_op, op_done, operation, served, task_begun, task_done, task_on, with_parts}
 use Rattle.fam_journal.specs.Notes.{Answered, MediaFault, Note, Refused, Replied}
 use Rattle.fam_journal.specs.Past.{Past, first_past, past_of}
-use Rattle.fam_journal.proofs.Forms.EventRows.{begun_free}
+use Rattle.fam_journal.proofs.Shapes.EventRows.{begun_free}
 use Rattle.fam_journal.proofs.Calls.Cases.{by_host, place_same}
 use Rattle.fam_journal.proofs.Runs.Following.{begun_kept, declared_at, event_kept, first_kept, operation_kept}
 use Rattle.fam_journal.proofs.Settled.Journals.{legal_rest, past_both}
@@ -66,19 +66,19 @@ module _ (start : Image) where
       legal : LegalBehind (past_of start journal) notes
       legal = legal_rest (first_past start) journal notes (operation_kept start h state journal kept notes new op).held.legal
 
-      runs : (d : Declared start state (record { hosts = kept.views; journal = journal }) h) → (t : Turned start state journal kept h d notes) → (hosts_kept state journal kept).run h ≡ Some (run_of t.t d.told)
+      runs : (d : Declared start state (record { hosts = kept.views; journal = journal }) h) → (t : Turned start state journal kept h d notes) → (hosts_kept state journal kept).run h ≡ Some (protocol_run t.t d.told)
       runs d t = ap₂ run_at d.view_is d.told_is ∙ ap (λ (o : Option Task). run_with o (Some d.told)) t.runs
 
       mine : (d : Declared start state (record { hosts = kept.views; journal = journal }) h) → (t : Turned start state journal kept h d notes) → d.told.uuid ≡ t.t.me
       mine d t =
           same_Some d.told.uuid t.t.me
-          (ap Some d.host_told.uuid ∙ ap uuid_at (sym d.view_is) ∙ me_of (settled_of (past_of start journal).state (line_at state.memory)) (length start) (hosts_kept state journal kept) (shared_kept state journal kept) h (run_of t.t d.told) kept.held.invariant.stage (runs d t))
+          (ap Some d.host_told.uuid ∙ ap uuid_at (sym d.view_is) ∙ me_of (settled_of (past_of start journal).state (line_at state.memory)) (length start) (hosts_kept state journal kept) (shared_kept state journal kept) h (protocol_run t.t d.told) kept.held.invariant.stage (runs d t))
 
       by_turn : (d : Declared start state (record { hosts = kept.views; journal = journal }) h) → Turned start state journal kept h d notes ⊎ ((line : ℕ) × (notes ≡ Answered h (MediaFault line) ∷ [])) → AreRuled (past_of start journal) notes
       by_turn d (inl t) =
           subst (AreRuled (past_of start journal)) (sym t.notes_are)
           (turn_ruled (past_of start journal) h (turn_given t.t t.word) d.told t.s.cmd d.told_is t.cmd_is (turn_fits t.s.kept t.s.cmd t.s.me (length start) t.t t.s.words t.s.made t.word t.standing.joined t.standing.stands)
-          (λ given is. owns_fault (length start) (hosts_kept state journal kept) (shared_kept state journal kept) h (run_of t.t d.told) (runs d t)
+          (λ given is. owns_fault (length start) (hosts_kept state journal kept) (shared_kept state journal kept) h (protocol_run t.t d.told) (runs d t)
           (standing_tied t.s.kept t.s.cmd t.s.me (length start) t.t t.s.words t.s.made t.standing.joined t.standing.stands) d.told t.cmd_is (mine d t)
           (past_of start journal).state (λ i g n e. bad_own start i g n journal e) (line_at state.memory) kept.held.invariant.stage t.word given is)
           (subst (LegalBehind (past_of start journal)) t.notes_are legal))
@@ -135,7 +135,7 @@ module _ (start : Image) where
     does_ruled : (c : Call) → Does c state notes new → AreRuled (past_of start journal) notes
     does_ruled c x = by_refusal (refusal_of c state) x
       where
-        by_refusal : (o : Option Refusal) → ByRefusal (name_of c) o notes state new (Acts c state notes new) → AreRuled (past_of start journal) notes
+        by_refusal : (o : Option Refusal) → ByRefusal (asked_name c) o notes state new (Acts c state notes new) → AreRuled (past_of start journal) notes
         by_refusal (Some cause) x = subst (AreRuled (past_of start journal)) (sym x.0) (tt, tt)
         by_refusal None x = acts_ruled c x
 
@@ -143,7 +143,7 @@ module _ (start : Image) where
     refusal_ruled name cause is = subst (AreRuled (past_of start journal)) (sym is) (tt, tt)
 
   module _ (files : Files) where
-    event_ruled : (e : Event) → IsSoundEvent e → (old new : Session) (journal notes : List Note) → Reached start old.machines journal → DoesEvent files e old notes new → AreRuled (past_of start journal) notes
+    event_ruled : (e : Event) → IsValidEvent e → (old new : Session) (journal notes : List Note) → Reached start old.machines journal → DoesEvent files e old notes new → AreRuled (past_of start journal) notes
     event_ruled (event.Begin name what) sound old new journal notes kept (inl x) = does_ruled old.machines journal kept notes new.machines (call.Begins name x.cmd) x.does
     event_ruled (event.Begin name what) sound old new journal notes kept (inr (inl x)) = refusal_ruled old.machines journal kept notes new.machines name x.cause x.notes_are
     event_ruled (event.Begin name what) sound old new journal notes kept (inr (inr x)) = does_ruled old.machines journal kept notes new.machines (call.Refuses name x.cause) x.does

@@ -18,12 +18,12 @@ use Rattle.fam_journal.specs.declared.event.Event.{Event}
 use Rattle.fam_journal.specs.declared.refusal.Refusal.{Refusal}
 use Rattle.fam_journal.specs.declared.event.Event.TheVariants as event
 use Rattle.fam_journal.specs.Calls as call
-use Rattle.fam_journal.specs.Calls.{AtNumber, BreaksOff, Call, MakesCut, OnHost, makes_refusal, number_of, on_host, refusal_of, IsSoundRequest}
+use Rattle.fam_journal.specs.Calls.{AtNumber, CutCall, Call, MakesCut, OnHost, makes_refusal, number_of, on_host, refusal_of, IsSoundRequest}
 use Rattle.fam_journal.specs.CallRecords.{IsSoundCall}
 use Rattle.fam_journal.specs.Ends.{CutCallReads, CutEventReads, CutReads, ReadsAs, StillReads}
 use Rattle.fam_journal.specs.Events.{BreaksEvent, Session}
 use Rattle.fam_journal.specs.Kept.{Reached, copy_at, hosts_of, settled_of, shared_of}
-use Rattle.fam_journal.specs.Laws.{IsSoundEvent}
+use Rattle.fam_journal.specs.Laws.{IsValidEvent}
 use Rattle.fam_journal.specs.Machines.{HostState, Machines, machine_of}
 use Rattle.fam_journal.specs.Notes.{Note, Refused}
 use Rattle.fam_journal.specs.Past.{Bad, Given, Halted, Past, Sound, State, first_past, past_of}
@@ -106,7 +106,7 @@ module _ (start : Image) (state : Machines) (journal : List Note) (kept : Reache
   no_cut None x = x
   no_cut (Some h) x = no_cut_at (slice_get state.hosts h) x
 
-  pub call_cut : (c : Call) → IsSoundCall c → (notes : List Note) (new : Machines) → BreaksOff c state notes new → CutCallReads c state s new.memory
+  pub call_cut : (c : Call) → IsSoundCall c → (notes : List Note) (new : Machines) → CutCall c state notes new → CutCallReads c state s new.memory
   call_cut (call.Makes name request) sound notes new x = make_cut name request sound x.0 notes new x.1
   call_cut (call.Declares name uuid) sound notes new x = no_cut (number_of name state) x.1
   call_cut (call.Begins name cmd) sound notes new x = no_cut (number_of name state) x.1
@@ -119,7 +119,7 @@ module _ (start : Image) (state : Machines) (journal : List Note) (kept : Reache
   call_cut (call.Refuses name cause) sound notes new x = no_cut (number_of name state) x.1
 
 -- of an event
-pub event_cut : (start : Image) (e : Event) → IsSoundEvent e → (old new : Session) (journal notes : List Note) → Reached start old.machines journal → BreaksEvent e old notes new → CutEventReads e old (past_of start journal).state new.machines.memory
+pub event_cut : (start : Image) (e : Event) → IsValidEvent e → (old new : Session) (journal notes : List Note) → Reached start old.machines journal → BreaksEvent e old notes new → CutEventReads e old (past_of start journal).state new.machines.memory
 event_cut start (event.Mkfs name fs unit log format force halt) sound old new journal notes kept x =
     call_cut start old.machines journal kept (call.Makes name (mkfs_request fs unit log format force halt)) sound notes new.machines x.0
 event_cut start e sound old new journal notes kept x = absurd x

@@ -17,13 +17,13 @@ use Rattle.fam_journal.specs.declared.event.Event.TheVariants as event
 use Rattle.fam_journal.specs.declared.refusal.Refusal.{Refusal}
 use Rattle.fam_journal.specs.declared.refusal.Refusal.TheVariants as why
 use Rattle.fam_journal.specs.Calls as call
-use Rattle.fam_journal.specs.Calls.{ActsAt, ActsOf, Acts, AtNumber, BreaksOff, ByRefusal, Call, Completes, CutsAt, Does, MakesOrHalts, OnHost, DoesOperations, Unfinished, begins_refusal, line_refusal, makes_refusal, name_of, number_of, on_host, refusal_of, umounts_refusal, IsSoundRequest}
+use Rattle.fam_journal.specs.Calls.{ActsAt, ActsOf, Acts, AtNumber, CutCall, ByRefusal, Call, Completes, CutsAt, Does, MakesOrHalts, OnHost, DoesOperations, Unfinished, begins_refusal, line_refusal, makes_refusal, asked_name, number_of, on_host, refusal_of, umounts_refusal, IsSoundRequest}
 use Rattle.fam_journal.specs.Ends.{AllDone, CutEventReads, Ending, EventsDone, MkfsFails, EndsOutOfMemory, EndsOutOfMemoryBroken, ReadsAs, SinkFails, SourceFails}
-use Rattle.fam_journal.specs.Events.{BreaksEvent, DoesEvent, Continues, IsBegun, RefusesEvent, MayNotStep, PartOf, Session, first_session}
+use Rattle.fam_journal.specs.Events.{BreaksEvent, DoesEvent, Continues, CommandBegins, RefusesEvent, MayNotStep, PartOf, Session, first_session}
 use Rattle.fam_journal.specs.Follows.{Follows, FollowsBroken}
 use Rattle.fam_journal.specs.Kept.{Reached}
 use Rattle.fam_journal.specs.CallRecords.{IsSoundCall}
-use Rattle.fam_journal.specs.Laws.{AreSound, IsImage, IsSettled, IsSoundEvent}
+use Rattle.fam_journal.specs.Laws.{AreSound, IsImage, IsSettled, IsValidEvent}
 use Rattle.fam_journal.specs.Legal.{Legal}
 use Rattle.fam_journal.specs.Machines.{HostState, Machines, Operation, host_done, operation, unused, with_parts, with_task}
 use Rattle.fam_journal.specs.Notes.{Halt, Note, Refused, Stop}
@@ -76,7 +76,7 @@ module _ (start : Image) (state : Machines) (journal : List Note) (kept : Reache
   make_kept request good h d may (Some k) x = kept_as start journal notes _ new _ x.notes_are x.left (halts_kept start state journal kept h d request good may k)
 
   -- of a declared host
-  act_kept : (c : Call) → IsSoundCall c → refusal_of c state ≡ None → (h : ℕ) → number_of (name_of c) state ≡ Some h → (d : Declared start state (record { hosts = kept.views; journal = journal }) h) → ActsAt c h d.host state notes new → Reached start new (journal ++ notes)
+  act_kept : (c : Call) → IsSoundCall c → refusal_of c state ≡ None → (h : ℕ) → number_of (asked_name c) state ≡ Some h → (d : Declared start state (record { hosts = kept.views; journal = journal }) h) → ActsAt c h d.host state notes new → Reached start new (journal ++ notes)
   unfolding refusal_of
   act_kept (call.Declares name uuid) sound free h number d x = absurd x
   act_kept (call.Makes name request) sound free h number d (inl x) =
@@ -109,15 +109,15 @@ module _ (start : Image) (state : Machines) (journal : List Note) (kept : Reache
   act_kept (call.Refuses name cause) sound free h number d x = absurd x
 
   acts_of_kept : (c : Call) → IsSoundCall c → refusal_of c state ≡ None → ActsOf c state notes new → Reached start new (journal ++ notes)
-  acts_of_kept c sound free x = by_number (number_of (name_of c) state) refl x
+  acts_of_kept c sound free x = by_number (number_of (asked_name c) state) refl x
     where
-      by_host : (h : ℕ) → number_of (name_of c) state ≡ Some h → (o : Option HostState) → slice_get state.hosts h ≡ o → OnHost o (λ host. ActsAt c h host state notes new) → Reached start new (journal ++ notes)
+      by_host : (h : ℕ) → number_of (asked_name c) state ≡ Some h → (o : Option HostState) → slice_get state.hosts h ≡ o → OnHost o (λ host. ActsAt c h host state notes new) → Reached start new (journal ++ notes)
       by_host h number None is x = absurd x
       by_host h number (Some host) is x =
           let d = declared_at start state journal kept h host is in
           act_kept c sound free h number d (subst (λ (z : HostState). ActsAt c h z state notes new) (same_Some host d.host (sym is ∙ d.host_is)) x)
 
-      by_number : (o : Option ℕ) → number_of (name_of c) state ≡ o → AtNumber o state (λ h host. ActsAt c h host state notes new) → Reached start new (journal ++ notes)
+      by_number : (o : Option ℕ) → number_of (asked_name c) state ≡ o → AtNumber o state (λ h host. ActsAt c h host state notes new) → Reached start new (journal ++ notes)
       by_number None is x = absurd x
       by_number (Some h) is x = by_host h is (slice_get state.hosts h) refl x
 
@@ -130,14 +130,14 @@ module _ (start : Image) (state : Machines) (journal : List Note) (kept : Reache
   pub does_kept : (c : Call) → IsSoundCall c → Does c state notes new → Reached start new (journal ++ notes)
   does_kept c sound does = by_refusal (refusal_of c state) refl does
     where
-      by_refusal : (o : Option Refusal) → refusal_of c state ≡ o → ByRefusal (name_of c) o notes state new (Acts c state notes new) → Reached start new (journal ++ notes)
-      by_refusal (Some cause) is x = kept_as start journal notes _ new _ x.0 x.1 (refused_kept start state journal kept (name_of c) cause)
+      by_refusal : (o : Option Refusal) → refusal_of c state ≡ o → ByRefusal (asked_name c) o notes state new (Acts c state notes new) → Reached start new (journal ++ notes)
+      by_refusal (Some cause) is x = kept_as start journal notes _ new _ x.0 x.1 (refused_kept start state journal kept (asked_name c) cause)
       by_refusal None is x = acts_kept c sound is x
 
 -- Events.
 
 module _ (start : Image) (files : Files) where
-  pub begun_kept : (name : List ℕ) (what : Ask) (old new : Session) (journal notes : List Note) → Reached start old.machines journal → IsBegun files name what old notes new → Reached start new.machines (journal ++ notes)
+  pub begun_kept : (name : List ℕ) (what : Ask) (old new : Session) (journal notes : List Note) → Reached start old.machines journal → CommandBegins files name what old notes new → Reached start new.machines (journal ++ notes)
   begun_kept name what old new journal notes kept x =
       does_kept start old.machines journal kept notes new.machines (call.Begins name x.cmd) x.fits x.does
 
@@ -162,7 +162,7 @@ module _ (start : Image) (files : Files) where
   unfinished_kept : (h : ℕ) (state : Machines) (journal : List Note) → Reached start state journal → (notes : List Note) (new : Machines) → Unfinished h state notes new → Reached start new (journal ++ notes)
   unfinished_kept h state journal kept notes new x = operates_kept start h x.count state journal kept notes new x.does
 
-  pub event_kept : (e : Event) → IsSoundEvent e → (old new : Session) (journal notes : List Note) → Reached start old.machines journal → DoesEvent files e old notes new → Reached start new.machines (journal ++ notes)
+  pub event_kept : (e : Event) → IsValidEvent e → (old new : Session) (journal notes : List Note) → Reached start old.machines journal → DoesEvent files e old notes new → Reached start new.machines (journal ++ notes)
   event_kept (event.Host name uuid) sound old new journal notes kept x = does_kept start old.machines journal kept notes new.machines (call.Declares name uuid) sound x.0
   event_kept (event.Mkfs name fs unit log format force halt) sound old new journal notes kept x = does_kept start old.machines journal kept notes new.machines (call.Makes name (mkfs_request fs unit log format force halt)) sound x.0
   event_kept (event.Begin name what) sound old new journal notes kept (inl x) = begun_kept name what old new journal notes kept x
@@ -173,7 +173,7 @@ module _ (start : Image) (files : Files) where
   event_kept (event.Step name count) sound old new journal notes kept (inr x) = not_step_kept name old new journal notes kept x
   event_kept e sound old new journal notes kept x = does_kept start old.machines journal kept notes new.machines _ tt x.0
 
-  part_kept : (e : Event) → IsSoundEvent e → (old new : Session) (journal notes : List Note) → Reached start old.machines journal → PartOf files e old notes new → Reached start new.machines (journal ++ notes)
+  part_kept : (e : Event) → IsValidEvent e → (old new : Session) (journal notes : List Note) → Reached start old.machines journal → PartOf files e old notes new → Reached start new.machines (journal ++ notes)
   part_kept (event.Run name what) sound old new journal notes kept x = goes_kept Unfinished unfinished_kept name what old new journal notes kept x
   part_kept (event.Step name count) sound old new journal notes kept x = unfinished_kept x.host old.machines journal kept notes new.machines x.does.does
   part_kept (event.Finish name) sound old new journal notes kept x = unfinished_kept x.host old.machines journal kept notes new.machines x.does
@@ -191,14 +191,14 @@ module _ (start : Image) (files : Files) where
   prefix_sound (suc count) [] sound = tt
   prefix_sound (suc count) (e ∷ events) sound = (sound.0, prefix_sound count events sound.1)
 
-  one_sound : (events : List Event) (count : ℕ) (e : Event) → AreSound events → slice_get events count ≡ Some e → IsSoundEvent e
+  one_sound : (events : List Event) (count : ℕ) (e : Event) → AreSound events → slice_get events count ≡ Some e → IsValidEvent e
   one_sound [] count e sound is = absurd cc
-  one_sound (x ∷ events) zero e sound is = subst IsSoundEvent (same_Some x e is) sound.0
+  one_sound (x ∷ events) zero e sound is = subst IsValidEvent (same_Some x e is) sound.0
   one_sound (x ∷ events) (suc count) e sound is = one_sound events count e sound.1 is
 
 -- The media failed in a mkfs: one note says so.
-pub cut_notes : (c : Call) (old new : Machines) (notes : List Note) → BreaksOff c old notes new → (name : List ℕ) × (cause : Refusal) × (notes ≡ Refused name cause ∷ [])
-cut_notes c old new notes x = by_number (number_of (name_of c) old) x.1
+pub cut_notes : (c : Call) (old new : Machines) (notes : List Note) → CutCall c old notes new → (name : List ℕ) × (cause : Refusal) × (notes ≡ Refused name cause ∷ [])
+cut_notes c old new notes x = by_number (number_of (asked_name c) old) x.1
   where
     at_host : (c : Call) (h : ℕ) (host : HostState) → CutsAt c h host old notes new → (who : List ℕ) × (cause : Refusal) × (notes ≡ Refused who cause ∷ [])
     at_host (call.Declares name uuid) h host y = absurd y

@@ -9,7 +9,7 @@ use Rattle.fam_journal.specs.declared.event.Event.TheVariants as event
 use Rattle.fam_journal.specs.Calls as call
 use Rattle.fam_journal.specs.Calls.{Call, Completes, Does, DoesOperations, Unfinished}
 use Rattle.fam_journal.specs.Ends.{AllDone, Ending, EventsDone, MkfsFails, EndsOutOfMemory, EndsOutOfMemoryBroken, SinkFails, SourceFails}
-use Rattle.fam_journal.specs.Events.{DoesEvent, Continues, IsBegun, RefusesEvent, PartOf, Session}
+use Rattle.fam_journal.specs.Events.{DoesEvent, Continues, CommandBegins, RefusesEvent, PartOf, Session}
 use Rattle.fam_journal.specs.Follows.{Follows, FollowsUpTo}
 use Rattle.fam_journal.specs.Kept.{Reached}
 use Rattle.fam_journal.specs.Laws.{AreSound, IsUncut, NoneEnds}
@@ -47,7 +47,7 @@ module _ (start : Image) (files : Files) (origin : Origin) (damage : Damage) (ga
   operations_stay : (h count : ℕ) (state new : Machines) (journal notes : List Note) → IsBadAt state journal → DoesOperations h count state notes new → new.memory ≡ state.memory
   operations_stay h count state new journal notes old x = operates_stay start h count state journal old.kept origin damage gate old.is notes new x
 
-  begun_stays : (name : List ℕ) (what : Ask) (old new : Session) (journal notes : List Note) → IsBadAt old.machines journal → NoneEnds notes → IsBegun files name what old notes new → new.machines.memory ≡ old.machines.memory
+  begun_stays : (name : List ℕ) (what : Ask) (old new : Session) (journal notes : List Note) → IsBadAt old.machines journal → NoneEnds notes → CommandBegins files name what old notes new → new.machines.memory ≡ old.machines.memory
   begun_stays name what old new journal notes bad none x = call_stays (call.Begins name x.cmd) old.machines new.machines journal notes bad none x.does
 
   refused_event_stays : (name : List ℕ) (what : Ask) (old new : Session) (journal notes : List Note) → IsBadAt old.machines journal → NoneEnds notes → RefusesEvent files name what old notes new → new.machines.memory ≡ old.machines.memory

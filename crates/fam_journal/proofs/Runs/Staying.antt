@@ -21,10 +21,10 @@ use Rattle.fam_protocol.specs.Invariant.{Hosts, InvariantBy}
 use Rattle.fam_protocol.specs.SharedState.{SharedState}
 use Rattle.fam_journal.specs.declared.refusal.Refusal.{Refusal}
 use Rattle.fam_journal.specs.Calls as call
-use Rattle.fam_journal.specs.Calls.{Acts, ActsAt, ActsOf, AtNumber, ByRefusal, Call, Does, DoesOperations, MakesOrHalts, OnHost, name_of, number_of, refusal_of}
+use Rattle.fam_journal.specs.Calls.{Acts, ActsAt, ActsOf, AtNumber, ByRefusal, Call, Does, DoesOperations, MakesOrHalts, OnHost, asked_name, number_of, refusal_of}
 use Rattle.fam_journal.specs.Kept.{Reached, copy_at, hosts_of, origin_lines, settled_bad, settled_of, shared_of}
 use Rattle.fam_journal.specs.Laws.{NoneEnds}
-use Rattle.fam_journal.specs.Machines.{Done, Fails, HostState, Machines, Operation, Outcome, Passes, TaskState, cut, host_done, machine_of, notes_of, op_done, operation, served, task_done}
+use Rattle.fam_journal.specs.Machines.{Done, Fails, HostState, Machines, Operation, Outcome, Passes, TaskState, cut_task, host_done, machine_of, notes_of, op_done, operation, served, task_done}
 use Rattle.fam_journal.specs.Notes.{Note}
 use Rattle.fam_journal.specs.Past as past
 use Rattle.fam_journal.specs.Past.{Bad, Damage, FewLines, Origin, Past, State, first_past, past_of}
@@ -69,7 +69,7 @@ served_memory : (h : ℕ) (m : Machines) (host : HostState) (t : TaskState) (op 
 served_memory h m host t op None x is = absurd cc
 served_memory h m host t op (Some note) x is = sym (ap (λ (z : Done). z.left.memory) (same_Some _ x is))
 
-cut_memory : (h : ℕ) (m : Machines) (o : Option Failure) (x : Done) → cut h m o ≡ Some x → (failure : Failure) × (o ≡ Some failure) × (x.left.memory ≡ failure.left.image)
+cut_memory : (h : ℕ) (m : Machines) (o : Option Failure) (x : Done) → cut_task h m o ≡ Some x → (failure : Failure) × (o ≡ Some failure) × (x.left.memory ≡ failure.left.image)
 cut_memory h m None x is = absurd cc
 cut_memory h m (Some failure) x is = (failure, refl, sym (ap (λ (z : Done). z.left.memory) (same_Some _ x is)))
 
@@ -82,7 +82,7 @@ served_ends : (h : ℕ) (m : Machines) (host : HostState) (t : TaskState) (op : 
 served_ends h m host t op None x is = absurd cc
 served_ends h m host t op (Some note) x is = subst (λ (z : Done). NoneEnds z.notes) (same_Some _ x is) (row_ends h note)
 
-cut_ends : (h : ℕ) (m : Machines) (o : Option Failure) (x : Done) → cut h m o ≡ Some x → NoneEnds x.notes
+cut_ends : (h : ℕ) (m : Machines) (o : Option Failure) (x : Done) → cut_task h m o ≡ Some x → NoneEnds x.notes
 cut_ends h m None x is = absurd cc
 cut_ends h m (Some failure) x is = subst (λ (z : Done). NoneEnds z.notes) (same_Some _ x is) (refl, tt)
 
@@ -168,7 +168,7 @@ module _ (start : Image) (state : Machines) (journal : List Note) (kept : Reache
   act_stays e h host at x = ap memory_in x.1
 
   acts_of_stay : (c : Call) → ActsOf c state notes new → new.memory ≡ state.memory
-  acts_of_stay c x = by_number (number_of (name_of c) state) x
+  acts_of_stay c x = by_number (number_of (asked_name c) state) x
     where
       by_host : (h : ℕ) (o : Option HostState) → slice_get state.hosts h ≡ o → OnHost o (λ host. ActsAt c h host state notes new) → new.memory ≡ state.memory
       by_host h None at x = absurd x
@@ -186,6 +186,6 @@ module _ (start : Image) (state : Machines) (journal : List Note) (kept : Reache
   pub does_stay : (c : Call) → Does c state notes new → new.memory ≡ state.memory
   does_stay c x = by_refusal (refusal_of c state) x
     where
-      by_refusal : (o : Option Refusal) → ByRefusal (name_of c) o notes state new (Acts c state notes new) → new.memory ≡ state.memory
+      by_refusal : (o : Option Refusal) → ByRefusal (asked_name c) o notes state new (Acts c state notes new) → new.memory ≡ state.memory
       by_refusal (Some cause) x = ap memory_in x.1
       by_refusal None x = acts_stay c x

@@ -18,12 +18,12 @@ use Rattle.fam_journal.specs.declared.event.Event.{Event}
 use Rattle.fam_journal.specs.declared.event.Event.TheVariants as event
 use Rattle.fam_journal.specs.declared.refusal.Refusal.{Refusal}
 use Rattle.fam_journal.specs.Calls as call
-use Rattle.fam_journal.specs.Calls.{Call, Acts, ActsAt, AtNumber, ByRefusal, Completes, Does, MakesOrHalts, Meets, DoesOperations, busy_at, OnHost, name_of, number_of, refusal_of}
+use Rattle.fam_journal.specs.Calls.{Call, Acts, ActsAt, AtNumber, ByRefusal, Completes, Does, MakesOrHalts, Meets, DoesOperations, busy_at, OnHost, asked_name, number_of, refusal_of}
 use Rattle.fam_journal.specs.Ends.{IsFaultless, faults_of, note_faults}
-use Rattle.fam_journal.specs.Events.{BytesSay, DoesEvent, Continues, HasNoSource, IsBegun, RefusesEvent, ListingIs, MayNot, MayNotStep, Ready, Session, SourceSays, Sourced, StepsBy, Unfit, WithinSays, copy_limit}
+use Rattle.fam_journal.specs.Events.{BytesSay, DoesEvent, Continues, HasNoSource, CommandBegins, RefusesEvent, ListingIs, MayNot, MayNotStep, Ready, Session, SourceSays, Sourced, StepsBy, Unfit, WithinSays, copy_limit}
 use Rattle.fam_journal.specs.Follows.{Follows}
 use Rattle.fam_journal.specs.Laws.{AreSame, OneListing}
-use Rattle.fam_journal.specs.Machines.{Done, Fails, HostState, Machines, Operation, Outcome, Passes, TaskState, cut, host_done, machine_of, op_done, operation, task_done}
+use Rattle.fam_journal.specs.Machines.{Done, Fails, HostState, Machines, Operation, Outcome, Passes, TaskState, cut_task, host_done, machine_of, op_done, operation, task_done}
 use Rattle.fam_machine.specs.Mkfs.{goes_on, superblock_found}
 use Rattle.fam_journal.specs.Notes.{Note}
 
@@ -52,7 +52,7 @@ same_by e f g i = record { notes_are = e ∙ sym g; machines_are = f ∙ sym i }
 
 -- One operation.
 
-failed_cut : (h : ℕ) (m : Machines) (o : Option Failure) (d : Done) → cut h m o ≡ Some d → IsFaultless d.notes → ⊥
+failed_cut : (h : ℕ) (m : Machines) (o : Option Failure) (d : Done) → cut_task h m o ≡ Some d → IsFaultless d.notes → ⊥
 failed_cut h m None d is clean = absurd cc
 failed_cut h m (Some failure) d is clean =
     absurd (omega (arith, ap (λ (x : Done). faults_of x.notes) (same_Some _ d is), clean))
@@ -180,7 +180,7 @@ module _ (old : Machines) (a b : List Note) (m n : Machines) (clean_a : IsFaultl
   by_refusal c name None x y = one_act c x y
 
   one_call : (c : Call) → Does c old a m → Does c old b n → Same a b m n
-  one_call c x y = by_refusal c (name_of c) (refusal_of c old) x y
+  one_call c x y = by_refusal c (asked_name c) (refusal_of c old) x y
 
 -- Sources.
 
@@ -222,7 +222,7 @@ module _ (one_listing : OneListing) where
     one_plain : (c : Call) → Does c old.machines a m.machines × (m.copied ≡ old.copied) → Does c old.machines b n.machines × (n.copied ≡ old.copied) → AreSame a b m n
     one_plain c x y = same_session (one_call old.machines a b m.machines n.machines clean_a clean_b c x.0 y.0) (x.1 ∙ sym y.1)
 
-    one_begun : (name : List ℕ) (what : Ask) → IsBegun files name what old a m → IsBegun files name what old b n → AreSame a b m n
+    one_begun : (name : List ℕ) (what : Ask) → CommandBegins files name what old a m → CommandBegins files name what old b n → AreSame a b m n
     one_begun name what x y =
         let e : Ready x.cmd x.copied ≡ Ready y.cmd y.copied = one_source files old.copied what (Ready x.cmd x.copied) (Ready y.cmd y.copied) x.says y.says in
         let commands : x.cmd ≡ y.cmd = cc in
@@ -252,7 +252,7 @@ module _ (one_listing : OneListing) where
     one_refused name what (inr x) (inr y) = one_no_source name what x y
 
   -- what begins isn't refused
-  begun_or_refused : (files : Files) (name : List ℕ) (what : Ask) (old : Session) (a b : List Note) (m n : Session) → IsBegun files name what old a m → RefusesEvent files name what old b n → ⊥
+  begun_or_refused : (files : Files) (name : List ℕ) (what : Ask) (old : Session) (a b : List Note) (m n : Session) → CommandBegins files name what old a m → RefusesEvent files name what old b n → ⊥
   begun_or_refused files name what old a b m n x (inl y) = absurd (let p = x.free in let q = y.first in cc)
   begun_or_refused files name what old a b m n x (inr y) =
       absurd (let e : Ready x.cmd x.copied ≡ Unfit y.cause y.copied = one_source files old.copied what (Ready x.cmd x.copied) (Unfit y.cause y.copied) x.says y.says in cc)

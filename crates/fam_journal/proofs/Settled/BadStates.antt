@@ -17,10 +17,10 @@ use Rattle.fam_format.specs.Tree.{join_fault}
 use Rattle.fam_machine.specs.Mkfs.{first_sent}
 use Rattle.fam_rules.specs.Asks.{File}
 use Rattle.fam_rules.specs.Reply.{Reply}
-use Rattle.fam_journal.specs.Laws.{IsOwn}
+use Rattle.fam_journal.specs.Laws.{IsOwnDamage}
 use Rattle.fam_journal.proofs.Settled.ReplyCases.{replied_by}
 use Rattle.fam_journal.specs.Notes.{Answer, Replied, MediaFault, Note, Made, Cut, Found, Writes, Answered}
-use Rattle.fam_journal.specs.Past.{Damage, FewLines, NoSuperblock, Given, Halted, Origin, State, Bad, Sound, Past, acknowledges, ended, finds, first_past, first_state, past_after, past_behind, past_of, pends, replied, shows, state_after, state_read, with_pending}
+use Rattle.fam_journal.specs.Past.{Damage, FewLines, NoSuperblock, Given, Halted, Origin, State, Bad, Sound, Past, acknowledges, ended_state, finds, first_past, first_state, past_after, past_behind, past_of, pends, replied, shows, state_after, state_read, with_pending}
 
 -- no sound state is bad
 no_bad : {p : Params} {history : List File} {pending : Option File} {i : Origin} {d : Damage} {g : ℕ} → Sound p history pending ≡ Bad i d g → ⊥
@@ -54,7 +54,7 @@ module _ (i : Image) (d : Damage) (g : ℕ) where
   was_replied : (given : Reply) (s : State) → replied given s ≡ Bad (Given i) d g → s ≡ Bad (Given i) d g
   was_replied = replied_by (λ f. (s : State) → f s ≡ Bad (Given i) d g → s ≡ Bad (Given i) d g) (λ s e. e) was_shown was_acknowledged
 
-  was_ended : (answer : Answer) (s : State) → ended answer s ≡ Bad (Given i) d g → s ≡ Bad (Given i) d g
+  was_ended : (answer : Answer) (s : State) → ended_state answer s ≡ Bad (Given i) d g → s ≡ Bad (Given i) d g
   was_ended (Replied given) s e = was_replied given s e
   was_ended (MediaFault at) s e = e
 
@@ -100,7 +100,7 @@ module _ (start image : Image) (damage : Damage) (gate : ℕ) where
   pub bad_image : (journal : List Note) → (past_of start journal).state ≡ Bad (Given image) damage gate → image ≡ start
   bad_image journal e = first_image (bad_first image damage gate start journal e)
 
-  pub bad_own : (journal : List Note) → (past_of start journal).state ≡ Bad (Given image) damage gate → IsOwn (length start) image damage gate
+  pub bad_own : (journal : List Note) → (past_of start journal).state ≡ Bad (Given image) damage gate → IsOwnDamage (length start) image damage gate
   bad_own journal e =
       let same = bad_image journal e in
       record { reads = ap first_state same ∙ bad_first image damage gate start journal e; lines_are = ap (λ (x : Image). length x) same }

@@ -22,7 +22,7 @@ use Rattle.fam_protocol.specs.Bad.{MayReplyBad, MaySayBad, fault_of}
 use Rattle.fam_protocol.specs.Steps.{turn_settles}
 use Rattle.fam_journal.proofs.Settled.ReplyCases.{replied_by}
 use Rattle.fam_journal.specs.Kept.{IsCleared, origin_lines, settled_bad, settled_of}
-use Rattle.fam_journal.specs.Legal.{DamageAllowed, cleared_report, FoundAllowed, HasSuper, LegalBehind, OfHost, ReplyAllowed, ReportAllowed, master_of, master_read}
+use Rattle.fam_journal.specs.Legal.{DamageAllowed, cleared_report, FoundAllowed, HasParams, LegalBehind, OfHost, ReplyAllowed, ReportAllowed, master_of, master_read}
 use Rattle.fam_journal.specs.Machines.{notes_of}
 use Rattle.fam_journal.specs.Past as past
 use Rattle.fam_journal.specs.Past.{Damage, FewLines, Halted, Origin, State, Bad, Sound, HostPast, past_behind, replied, state_read}
@@ -74,7 +74,7 @@ module _ (first start : Image) (state : State) (hosts : List HostPast) (h : ℕ)
   master_by p (read.BadSlot i reason) super is = ap master_read super
   master_by p (read.Sound q entries) super is = absurd (bad q entries is)
 
-  super_by : (p : Params) (r : Reading) → super_in (line_at start) have ≡ Ok p → reading_of (line_at start) have ≡ r → HasSuper p (state_read start r)
+  super_by : (p : Params) (r : Reading) → super_in (line_at start) have ≡ Ok p → reading_of (line_at start) have ≡ r → HasParams p (state_read start r)
   super_by p (read.NoSuperblock fault) super is = absurd (not_super (line_at start) p fault have super is)
   super_by p (read.BadHeader fault) super is = super
   super_by p (read.BadSlot i reason) super is = super
@@ -94,7 +94,7 @@ module _ (first start : Image) (state : State) (hosts : List HostPast) (h : ℕ)
   }
   reply_legal (reply.NotAppended (refused.LongPath limit)) a = record {
     params = a.params;
-    super = subst (HasSuper a.params) (sym state_is) (super_by a.params (reading_of (line_at start) have) a.super refl);
+    super = subst (HasParams a.params) (sym state_is) (super_by a.params (reading_of (line_at start) have) a.super refl);
     names = names_long a.params t told limit cmd_is me a.is;
   }
   reply_legal (reply.Reports report) a =

@@ -29,7 +29,7 @@ use Rattle.fam_protocol.specs.Invariant.{Hosts, IsDamaged, InvariantBy}
 use Rattle.fam_commands.proofs.BeforeWrites.{EndsAt, IsBehindSuper, SaysAt, turn_says}
 use Rattle.fam_commands.proofs.Steps.Ties.{Tied}
 use Rattle.fam_journal.specs.Kept.{settled_bad, settled_of}
-use Rattle.fam_journal.specs.Laws.{IsOwn}
+use Rattle.fam_journal.specs.Laws.{IsOwnDamage}
 use Rattle.fam_journal.specs.Legal.{DamagedSuper, GivenSuper, NamesLong, damaged_master, given_master, master_read}
 use Rattle.fam_journal.specs.Past as past
 use Rattle.fam_journal.specs.Past.{Damage, FewLines, Given, Halted, Origin, State, Bad, Sound, HostPast}
@@ -129,7 +129,7 @@ module _ (lines : ℕ) (hosts : Hosts) (shared : SharedState) (h : ℕ) (r : Run
     short image (past.BadHeader fault) same stage p limit super names = short_by image same stage p limit super names
     short image (past.BadSlot i reason) same stage p limit super names = short_by image same stage p limit super names
 
-    owns : (state : State) → ((i : Image) (d : Damage) (g : ℕ) → state ≡ Bad (Given i) d g → IsOwn lines i d g) → (now : Lines) → InvariantBy (settled_of state now) lines hosts shared → Owns cmd told state
+    owns : (state : State) → ((i : Image) (d : Damage) (g : ℕ) → state ≡ Bad (Given i) d g → IsOwnDamage lines i d g) → (now : Lines) → InvariantBy (settled_of state now) lines hosts shared → Owns cmd told state
     owns (Sound p history pending) own now stage = tt
     owns (Bad Halted damage gate) own now stage = record { own = λ wish master is. absurd cc; fits = λ p limit super names. super }
     owns (Bad (Given image) damage gate) own now stage =
@@ -142,7 +142,7 @@ module _ (lines : ℕ) (hosts : Hosts) (shared : SharedState) (h : ℕ) (r : Run
 pub owns_fault : (lines : ℕ) (hosts : Hosts) (shared : SharedState) (h : ℕ) (r : Run) → hosts.run h ≡ Some r
     → {kept : Option Kept} {cmd : Cmd} {me : List ℕ} {words : List ℕ} {made : ℕ} → Tied cmd me lines kept r.task words made
     → (told : HostPast) → told.cmd ≡ Some cmd → told.uuid ≡ r.task.me
-    → (state : State) → ((i : Image) (d : Damage) (g : ℕ) → state ≡ Bad (Given i) d g → IsOwn lines i d g) → (now : Lines) → InvariantBy (settled_of state now) lines hosts shared
+    → (state : State) → ((i : Image) (d : Damage) (g : ℕ) → state ≡ Bad (Given i) d g → IsOwnDamage lines i d g) → (now : Lines) → InvariantBy (settled_of state now) lines hosts shared
     → (word : ℕ) (given : Reply) → turn_given r.task word ≡ Ends given → OwnsFault cmd told state given
 owns_fault lines hosts shared h r run tied told cmd_is uuid_is state own now stage word given is = record {
   header = λ fault e. owns lines hosts shared h r run (header_behind r.task word given is fault e) tied told cmd_is uuid_is state own now stage;

@@ -13,12 +13,12 @@ use Rattle.fam_protocol.proofs.Settled.Lists.{entries_count}
 use Rattle.fam_rules.specs.Reply.{Reply, Played, Mounted, Same, Differs, Length, Bytes, NotFound, IsDirectory, Checks, Reports, NoSuperblock}
 use Rattle.fam_journal.proofs.Settled.DamagedTurns.{replied_bad}
 use Rattle.fam_journal.proofs.Settled.ReplyCases.{replied_by}
-use Rattle.fam_journal.specs.Laws.{IsFree, IsPrefix, NoneEnds, TwoAnswers, entries_at, first_entries, history_at, second_entries}
+use Rattle.fam_journal.specs.Laws.{NonePending, IsPrefix, NoneEnds, TwoAnswers, answerable_entries, first_entries, history_at, second_entries}
 use Rattle.fam_journal.specs.Ends.{ends_history}
 use Rattle.fam_journal.specs.Legal.{Legal, OfHost, ReplyAllowed, WritesAllowed}
 use Rattle.fam_journal.specs.Notes.{Answer, Replied, MediaFault, Note, Made, Cut, Found, Writes, Answered}
 use Rattle.fam_journal.specs.Past as past
-use Rattle.fam_journal.specs.Past.{Halted, HostPast, Origin, Past, State, Bad, Sound, acknowledges, count_of, ended, finds, first_past, past_after, past_behind, past_of, pends, replied, reported_count, shows, shows_count, state_after, with_pending}
+use Rattle.fam_journal.specs.Past.{Halted, HostPast, Origin, Past, State, Bad, Sound, acknowledges, reply_count, ended_state, finds, first_past, past_after, past_behind, past_of, pends, replied, reported_count, shows, shows_count, state_after, with_pending}
 use Rattle.fam_journal.proofs.Settled.Journals.{legal_rest, past_both}
 use Rattle.fam_journal.proofs.Settled.Settles.{length-pending, shows_less, shows_more, take_whole}
 
@@ -69,7 +69,7 @@ module _ (m : ℕ) where
   reply_keeps : (given : Reply) (s : State) → m ≤ length (history_at s) → Keeps m s (replied given s)
   reply_keeps = replied_by (λ f. (s : State) → m ≤ length (history_at s) → Keeps m s (f s)) (λ s within. keeps_same m s within) shows_keeps acknowledges_keeps
 
-  answer_keeps : (answer : Answer) (s : State) → m ≤ length (history_at s) → Keeps m s (ended answer s)
+  answer_keeps : (answer : Answer) (s : State) → m ≤ length (history_at s) → Keeps m s (ended_state answer s)
   answer_keeps (Replied given) s within = reply_keeps given s within
   answer_keeps (MediaFault at) s within = keeps_same m s within
 
@@ -115,7 +115,7 @@ module _ where
 
 module _ (p : Params) (history : List File) (pending : Option File) where
   -- of a legal answer in a sound state
-  bound : (told : HostPast) (given : Reply) (m : ℕ) → ReplyAllowed given told (Sound p history pending) → count_of given ≡ Some m → m ≤ length (with_pending history pending)
+  bound : (told : HostPast) (given : Reply) (m : ℕ) → ReplyAllowed given told (Sound p history pending) → reply_count given ≡ Some m → m ≤ length (with_pending history pending)
   bound told (Played n tree) m a is = subst (λ k. k ≤ length (with_pending history pending)) (Rattle.std.proofs.lemmas.Option.same_Some n m is) a.bounds.high
   bound told (Mounted n) m a is = subst (λ k. k ≤ length (with_pending history pending)) (Rattle.std.proofs.lemmas.Option.same_Some n m is) a.bounds.high
   bound told (Same n) m a is = subst (λ k. k ≤ length (with_pending history pending)) (Rattle.std.proofs.lemmas.Option.same_Some n m is) a.bounds.high
@@ -151,7 +151,7 @@ module _ (p : Params) (history : List File) (pending : Option File) where
           less_of (Some f) high is = grind (arith, nat_tests, high, length-pending history f)
 
 -- every counted reply shows its count
-counted : (given : Reply) (m : ℕ) (s : State) → count_of given ≡ Some m → replied given s ≡ shows m s
+counted : (given : Reply) (m : ℕ) (s : State) → reply_count given ≡ Some m → replied given s ≡ shows m s
 counted (Played n tree) m s is = ap (λ k. shows k s) (Rattle.std.proofs.lemmas.Option.same_Some n m is)
 counted (Mounted n) m s is = ap (λ k. shows k s) (Rattle.std.proofs.lemmas.Option.same_Some n m is)
 counted (Same n) m s is = ap (λ k. shows k s) (Rattle.std.proofs.lemmas.Option.same_Some n m is)
@@ -165,7 +165,7 @@ counted (Reports report) m s is = ap (λ (o : Option ℕ). shows_count o s) is
 counted e m s is = absurd cc
 
 -- with the pending entry behind
-entries_prefix : (m : ℕ) (s : State) → m ≤ length (history_at s) → take m (entries_at s) ≡ take m (history_at s)
+entries_prefix : (m : ℕ) (s : State) → m ≤ length (history_at s) → take m (answerable_entries s) ≡ take m (history_at s)
 entries_prefix m (Bad origin damage gate) within = refl
 entries_prefix m (Sound p history pending) within = prefix_pending m history pending within
 
@@ -198,10 +198,10 @@ module _ (start : Image) (two : TwoAnswers start) where
   by_host (Some told) s a = (told, a)
 
   -- the first answer's entries are those that stand first behind it
-  at_state : (s : State) → x.state ≡ s → take two.m (entries_at s) ≡ take two.m (entries_at y.state)
+  at_state : (s : State) → x.state ≡ s → take two.m (answerable_entries s) ≡ take two.m (answerable_entries y.state)
   at_state (Bad i d g) is =
       let bad : y.state ≡ Bad i d g = notes_bad two.between (past_after x note) i d g two.none (note_bad x i d g note refl is) in
-      take_nothing two.m ∙ sym (ap (λ (s : State). take two.m (entries_at s)) bad ∙ take_nothing two.m)
+      take_nothing two.m ∙ sym (ap (λ (s : State). take two.m (answerable_entries s)) bad ∙ take_nothing two.m)
   at_state (Sound p history pending) is =
       let legal = by_host (slice_get x.hosts two.first_host) (Sound p history pending) (subst (λ (s : State). OfHost (slice_get x.hosts two.first_host) (λ host. ReplyAllowed two.first host s)) is first_legal) in
       let high : two.m ≤ length (with_pending history pending) = bound p history pending legal.0 two.first two.m legal.1 two.first_count in
@@ -210,15 +210,15 @@ module _ (start : Image) (two : TwoAnswers start) where
       let keeps = notes_keep two.m two.between (past_after x note) two.none settled.within in
       sym (entries_prefix two.m y.state keeps.within ∙ keeps.same ∙ settled.same)
 
-  same_prefix : first_entries two ≡ take two.m (entries_at (past_of start (two.before ++ note ∷ two.between)).state)
-  same_prefix = at_state x.state refl ∙ ap (λ (z : Past). take two.m (entries_at z.state)) (sym y_is)
+  same_prefix : first_entries two ≡ take two.m (answerable_entries (past_of start (two.before ++ note ∷ two.between)).state)
+  same_prefix = at_state x.state refl ∙ ap (λ (z : Past). take two.m (answerable_entries z.state)) (sym y_is)
 
   -- the shorter one is a prefix of the longer one
   pub prefixes : two.m ≤ two.n → first_entries two ≡ take two.m (second_entries two)
-  prefixes order = same_prefix ∙ sym (take-take two.m two.n (entries_at (past_of start (two.before ++ note ∷ two.between)).state) order)
+  prefixes order = same_prefix ∙ sym (take-take two.m two.n (answerable_entries (past_of start (two.before ++ note ∷ two.between)).state) order)
 
   pub prefixes_back : two.n ≤ two.m → second_entries two ≡ take two.n (first_entries two)
-  prefixes_back order = sym (ap (take two.n) same_prefix ∙ take-take two.n two.m (entries_at (past_of start (two.before ++ note ∷ two.between)).state) order)
+  prefixes_back order = sym (ap (take two.n) same_prefix ∙ take-take two.n two.m (answerable_entries (past_of start (two.before ++ note ∷ two.between)).state) order)
 
 -- What is settled stays in front until the next note that ends the history.
 
@@ -237,13 +237,13 @@ module _ (start : Image) (before : List Note) where
       }
 
   -- an entry is written where nothing is pending
-  pub writes_free : (rest : List Note) (h seq : ℕ) (e : Entry) → Legal start (before ++ Writes h seq e ∷ rest) → IsFree seq (past_of start before).state
+  pub writes_free : (rest : List Note) (h seq : ℕ) (e : Entry) → Legal start (before ++ Writes h seq e ∷ rest) → NonePending seq (past_of start before).state
   writes_free rest h seq e legal = by_host (slice_get (past_of start before).hosts h) (past_of start before).state (legal_rest (first_past start) before (Writes h seq e ∷ rest) legal).0
     where
-      by_state : (host : HostPast) (s : State) → WritesAllowed seq e host s → IsFree seq s
+      by_state : (host : HostPast) (s : State) → WritesAllowed seq e host s → NonePending seq s
       by_state host (Bad origin damage gate) allowed = allowed
       by_state host (Sound p history pending) allowed = (allowed.1.none, allowed.0)
 
-      by_host : (o : Option HostPast) (s : State) → OfHost o (λ host. WritesAllowed seq e host s) → IsFree seq s
+      by_host : (o : Option HostPast) (s : State) → OfHost o (λ host. WritesAllowed seq e host s) → NonePending seq s
       by_host None s allowed = absurd allowed
       by_host (Some host) s allowed = by_state host s allowed

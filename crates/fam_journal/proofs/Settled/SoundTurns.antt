@@ -23,7 +23,7 @@ use Rattle.fam_protocol.specs.Core.{System}
 use Rattle.fam_protocol.specs.Lines.{IsAtLeast}
 use Rattle.fam_protocol.specs.Steps.{turn_settles}
 use Rattle.fam_protocol.specs.Invariant.{Known}
-use Rattle.fam_journal.specs.Kept.{run_of, settled_of}
+use Rattle.fam_journal.specs.Kept.{protocol_run, settled_of}
 use Rattle.fam_journal.specs.Legal.{FoundAllowed, WritesAllowed, InBounds, IsAskedOf, IsDecided, IsReportOf, LegalBehind, OfHost, ReplyAllowed, CauseAllowed}
 use Rattle.fam_journal.specs.Machines.{notes_of}
 use Rattle.fam_journal.specs.Past.{State, Sound, HostPast, Past, cmd_of, filled_bytes, past_behind, replied, reported_count, shows_count, with_pending}
@@ -42,7 +42,7 @@ module _ (p : Params) (history : List File) (pending : Option File) (start : Ima
 
   -- What is settled.
 
-  reply_settles : (now : Lines) (given : Reply) → MayReply given sys (run_of t told) all (length history)
+  reply_settles : (now : Lines) (given : Reply) → MayReply given sys (protocol_run t told) all (length history)
       → settled_of (replied given (Sound p history pending)) now ≡ Known p all (max (length history) (shown_by given))
   reply_settles now (Appended seq) a = acknowledges_settles p history now seq pending a.count
   reply_settles now (NotAppended why) a = ap (Known p all) (omega arith)
@@ -86,7 +86,7 @@ module _ (p : Params) (history : List File) (pending : Option File) (start : Ima
   KeepsCommand (Writes seq e next) = next.cmd ≡ t.cmd
   KeepsCommand (Ends reply) = ⊤
 
-  pub sound_settles : (now : Lines) (turn : Turn) → MaySay turn sys (run_of t told) all (length history) → KeepsCommand turn
+  pub sound_settles : (now : Lines) (turn : Turn) → MaySay turn sys (protocol_run t told) all (length history) → KeepsCommand turn
       → settled_of (past_behind past (notes_of h (note_of turn))).state now ≡ turn_settles turn (Known p all (length history))
   sound_settles now (Goes next) may keeps = refl
   sound_settles now (Marks next) may keeps = refl
@@ -127,7 +127,7 @@ module _ (p : Params) (history : List File) (pending : Option File) (start : Ima
   reported : (report : Report) → ReportsPrefix p told.floor all report → IsReportOf p told all report
   reported report a = record { m = a.m; bounds = bounds_of a.m told.floor refl a.low a.high; is = a.is }
 
-  reply_allowed : (given : Reply) → MayReply given sys (run_of t told) all (length history) → ReplyAllowed given told (Sound p history pending)
+  reply_allowed : (given : Reply) → MayReply given sys (protocol_run t told) all (length history) → ReplyAllowed given told (Sound p history pending)
   reply_allowed (Appended seq) a =
       subst (λ (s : State). Rattle.fam_journal.specs.Legal.AppendedAllowed seq told s) (sym (acknowledged p history seq pending a.count))
       record { entry = a.file.entry; named = a.named; count = a.count; last = ap (option_map (λ (f : File). f.entry)) a.last }
@@ -141,7 +141,7 @@ module _ (p : Params) (history : List File) (pending : Option File) (start : Ima
   of_host : (P : HostPast → Type 0) → P told → OfHost (slice_get hosts h) P
   of_host P is = subst (λ (o : Option HostPast). OfHost o P) (sym host_is) is
 
-  pub sound_legal : (turn : Turn) → MaySay turn sys (run_of t told) all (length history) → LegalBehind past (notes_of h (note_of turn))
+  pub sound_legal : (turn : Turn) → MaySay turn sys (protocol_run t told) all (length history) → LegalBehind past (notes_of h (note_of turn))
   sound_legal (Goes next) may = tt
   sound_legal (Marks next) may = (tt, tt)
   sound_legal (Finds n next) may = (found n pending may, tt)

@@ -11,7 +11,7 @@ use Rattle.fam_commands.specs.Task.{Task, op_of}
 use Rattle.fam_commands.specs.Turns.{Turn, Goes, Marks, Finds, Writes, Ends}
 use Rattle.fam_commands.proofs.Steps.Standing.{standing_tied}
 use Rattle.fam_protocol.specs.Steps.{run_after, settled_count}
-use Rattle.fam_journal.specs.Kept.{IfRuns, TaskTold, run_of, run_with, settled_of}
+use Rattle.fam_journal.specs.Kept.{IfRuns, TaskTold, protocol_run, run_with, settled_of}
 use Rattle.fam_journal.specs.Machines.{notes_of}
 use Rattle.fam_journal.specs.Past as past
 use Rattle.fam_journal.specs.Past.{FewLines, State, Bad, Sound, HostPast, Past, past_behind, settled_length}
@@ -55,7 +55,7 @@ module _ (x : Past) (h : ℕ) where
   told_other (Ends given) k ne = refl
 
 -- the run goes on as the protocol has it
-pub run_same : (turn : Turn) (n : ℕ) (t : Task) (told : HostPast) → run_with (task_after turn) (Some (told_after turn n told)) ≡ run_after turn n (run_of t told)
+pub run_same : (turn : Turn) (n : ℕ) (t : Task) (told : HostPast) → run_with (task_after turn) (Some (told_after turn n told)) ≡ run_after turn n (protocol_run t told)
 run_same (Goes next) n t told = refl
 run_same (Marks next) n t told = refl
 run_same (Finds count next) n t told = refl

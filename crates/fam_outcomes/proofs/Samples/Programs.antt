@@ -27,7 +27,7 @@ use Rattle.fam_media.specs.Outside.{IfModelled}
 use Rattle.fam_media.specs.Modelled.{modelled}
 use Rattle.fam_journal.specs.declared.event.Event.{Event}
 use Rattle.fam_journal.specs.Calls.{refusal_of}
-use Rattle.fam_journal.specs.EventForms.{FollowsForm}
+use Rattle.fam_journal.specs.EventShapes.{FollowsShape}
 use Rattle.fam_journal.specs.Events.{Session}
 use Rattle.fam_outcomes.specs.Runs.{Outside, RunsOn}
 use Rattle.fam_outcomes.specs.Texts.{render, shown}
@@ -148,7 +148,7 @@ module _ (script : List ℕ) (within : length script ≤ script_limit) (files : 
     reads = refl;
   }
 
-  has_form : FollowsForm 0 two [] notes
+  has_form : FollowsShape 0 two [] notes
   unfolding refusal_of
   has_form = (Host (codes "m") id ∷ [], Refused (codes "m") why.Idle ∷ [], refl, (Refused (codes "m") why.Idle ∷ [], [], refl, refl, refl), refl)
 
@@ -176,7 +176,7 @@ module _ (script : List ℕ) (within : length script ≤ script_limit) (files : 
       run = record {
         journal = notes;
         named = (tt, (tt, tt));
-        form = has_form;
+        shape = has_form;
         counted = omega arith;
         caused = tt;
         text_is = refl;

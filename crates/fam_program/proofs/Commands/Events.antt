@@ -12,8 +12,8 @@ use Rattle.fam_journal.specs.declared.event.Ask.TheVariants as ask
 use Rattle.fam_journal.specs.declared.event.Event.{Event}
 use Rattle.fam_journal.specs.declared.event.Event.TheVariants as event
 use Rattle.fam_journal.specs.Ends.{MkfsFails}
-use Rattle.fam_journal.specs.EventForms.{EventBreaksForm, FollowsForm}
-use Rattle.fam_journal.specs.Forms.{HostForm, forms_behind}
+use Rattle.fam_journal.specs.EventShapes.{EventBreaksShape, FollowsShape}
+use Rattle.fam_journal.specs.Shapes.{HostShape, shapes_behind}
 use Rattle.fam_journal.specs.Notes.{Note}
 use Rattle.fam_outcomes.specs.Programs.{MakesParents, OneShot, ends_command, last_passes, path_prefixes, prefixes_behind, shot_events}
 use Rattle.fam_outcomes.specs.Runs.{Outside}
@@ -71,27 +71,27 @@ parents_end name me path attr out journal x = by_stop (last_stops journal) refl
     first : HasFirst (path_prefixes path)
     first = has_first [] path
 
-    each : (hosts : List HostForm) (notes : List Note) → FollowsForm out.lines (shot_events name (MakesParents path attr)) hosts notes → last_passes ends_command notes ≡ true
+    each : (hosts : List HostShape) (notes : List Note) → FollowsShape out.lines (shot_events name (MakesParents path attr)) hosts notes → last_passes ends_command notes ≡ true
     each hosts notes f =
         runs_end name (makes_one attr) first.first first.more out.lines hosts notes
-        (subst (λ (ps : List (List ℕ)). FollowsForm out.lines (map (makes name attr) ps) hosts notes) first.is f)
+        (subst (λ (ps : List (List ℕ)). FollowsShape out.lines (map (makes name attr) ps) hosts notes) first.is f)
 
     by_stop : (t : Bool) → last_stops journal ≡ t → last_passes ends_command journal ≡ true
     by_stop true is = stopped_end journal is
     by_stop false is =
         behind_first ends_command (event.Host name me) (shot_events name (MakesParents path attr)) out.lines [] journal each
-        (subst (λ (es : List Event). FollowsForm out.lines es [] journal) (x.all is) x.ended.form)
+        (subst (λ (es : List Event). FollowsShape out.lines es [] journal) (x.all is) x.ended.shape)
 
 -- Commands alone make no file system.
 
-none_at : {A : Type 0} (name : List ℕ) (asks : A → Ask) (xs : List A) (k : ℕ) (e : Event) (lines : ℕ) (hosts : List HostForm) (notes : List Note) → slice_get (map (λ x. event.Run name (asks x)) xs) k ≡ Some e → EventBreaksForm e lines hosts notes → ⊥
+none_at : {A : Type 0} (name : List ℕ) (asks : A → Ask) (xs : List A) (k : ℕ) (e : Event) (lines : ℕ) (hosts : List HostShape) (notes : List Note) → slice_get (map (λ x. event.Run name (asks x)) xs) k ≡ Some e → EventBreaksShape e lines hosts notes → ⊥
 none_at name asks [] k e lines hosts notes is x = absurd cc
-none_at name asks (a ∷ xs) zero e lines hosts notes is x = subst (λ (z : Event). EventBreaksForm z lines hosts notes) (sym (same_Some (event.Run name (asks a)) e is)) x
+none_at name asks (a ∷ xs) zero e lines hosts notes is x = subst (λ (z : Event). EventBreaksShape z lines hosts notes) (sym (same_Some (event.Run name (asks a)) e is)) x
 none_at name asks (a ∷ xs) (suc k) e lines hosts notes is x = none_at name asks xs k e lines hosts notes is x
 
-behind_host : {A : Type 0} (name me : List ℕ) (asks : A → Ask) (xs : List A) (k : ℕ) (e : Event) (lines : ℕ) (hosts : List HostForm) (notes : List Note) → slice_get (event.Host name me ∷ map (λ x. event.Run name (asks x)) xs) k ≡ Some e → EventBreaksForm e lines hosts notes → ⊥
-behind_host name me asks xs zero e lines hosts notes is x = subst (λ (z : Event). EventBreaksForm z lines hosts notes) (sym (same_Some (event.Host name me) e is)) x
+behind_host : {A : Type 0} (name me : List ℕ) (asks : A → Ask) (xs : List A) (k : ℕ) (e : Event) (lines : ℕ) (hosts : List HostShape) (notes : List Note) → slice_get (event.Host name me ∷ map (λ x. event.Run name (asks x)) xs) k ≡ Some e → EventBreaksShape e lines hosts notes → ⊥
+behind_host name me asks xs zero e lines hosts notes is x = subst (λ (z : Event). EventBreaksShape z lines hosts notes) (sym (same_Some (event.Host name me) e is)) x
 behind_host name me asks xs (suc k) e lines hosts notes is x = none_at name asks xs k e lines hosts notes is x
 
 pub none_breaks : {A : Type 0} (name me : List ℕ) (asks : A → Ask) (xs : List A) (out : Outside) (journal : List Note) → HasEnded MkfsFails out (event.Host name me ∷ map (λ x. event.Run name (asks x)) xs) journal → ⊥
-none_breaks name me asks xs out journal x = behind_host name me asks xs x.form.count x.form.event out.lines (forms_behind [] x.form.whole_notes) x.form.part_notes x.form.is x.form.part
+none_breaks name me asks xs out journal x = behind_host name me asks xs x.shape.count x.shape.event out.lines (shapes_behind [] x.shape.whole_notes) x.shape.part_notes x.shape.is x.shape.part

@@ -69,8 +69,8 @@ module _ (b : Base) (one : IsOneRun b.events) where
         by_part notes new (inr part) = absurd part
 
         by_fault : (y : EventFault) → EventSays (event.Host one.name one.me) shelf (next_of b n m) (Err y) → m.media.image ≡ Some start
-        by_fault fault.MkfsFailed says = absurd says.adds.form
-        by_fault (fault.SourceEnded end) says = absurd (let none = says.0.adds.form.reads in cc)
+        by_fault fault.MkfsFailed says = absurd says.adds.shape
+        by_fault (fault.SourceEnded end) says = absurd (let none = says.0.adds.shape.reads in cc)
         by_fault fault.OutOfMemory says =
             let k = says.keeps start files f.last.machines files_are f.left f.held in
             k.comes.told_is ∙ ap Some (by_part k.comes.notes k.comes.last k.comes.does)

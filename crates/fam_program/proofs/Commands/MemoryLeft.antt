@@ -40,12 +40,12 @@ use Rattle.fam_journal.specs.Calls.{Acts, ActsAt, ByRefusal, Completes, Does, Do
 use Rattle.fam_journal.specs.Events.{Continues, DoesEvent, Session, first_session}
 use Rattle.fam_journal.specs.Follows.{Follows}
 use Rattle.fam_journal.specs.Machines as machine
-use Rattle.fam_journal.specs.Machines.{Fails, HostState, Machines, Outcome, Passes, TaskState, cut, machine_of, notes_of, operation, task_begun, task_on, unused, with_parts, with_machine, with_task}
+use Rattle.fam_journal.specs.Machines.{Fails, HostState, Machines, Outcome, Passes, TaskState, cut_task, machine_of, notes_of, operation, task_begun, task_on, unused, with_parts, with_machine, with_task}
 use Rattle.fam_journal.specs.View.{StandsAs}
 use Rattle.fam_journal.specs.Notes.{Answered, MediaFault, Note, Replied}
 use Rattle.fam_outcomes.specs.Programs.{last_passes}
 use Rattle.fam_journal.proofs.Calls.Cases.{by_host, by_refusal, place_same}
-use Rattle.fam_journal.proofs.Forms.EventRows.{begun_free}
+use Rattle.fam_journal.proofs.Shapes.EventRows.{begun_free}
 use Rattle.fam_journal.proofs.Calls.Members.{changed_at_member}
 use Rattle.fam_journal.proofs.Calls.TaskRows.{row_served}
 use Rattle.fam_world.proofs.UpToOn.{first_behind, reads_clean, reads_leave}
@@ -184,7 +184,7 @@ module _ (h : ℕ) where
     }
 
     -- the media failed in it
-    cut_row : (through : Breaking) → operation (Fails through) h state ≡ cut h state (failed through (op_of t) m)
+    cut_row : (through : Breaking) → operation (Fails through) h state ≡ cut_task h state (failed through (op_of t) m)
     unfolding operation
     cut_row through =
         ap (machine.host_done (Fails through) h state) here.host_is
@@ -201,9 +201,9 @@ module _ (h : ℕ) where
     cut_of through first mid is = by_failure (failed through (op_of t) m) refl
       where
         by_failure : (o : Option Failure) → failed through (op_of t) m ≡ o → IsCutAt through first mid
-        by_failure None fails = absurd (let bad : None ≡ Some (record { notes = first; left = mid }) = ap (cut h state) (sym fails) ∙ sym (cut_row through) ∙ is in cc)
+        by_failure None fails = absurd (let bad : None ≡ Some (record { notes = first; left = mid }) = ap (cut_task h state) (sym fails) ∙ sym (cut_row through) ∙ is in cc)
         by_failure (Some x) fails =
-            let same = same_Some (record { notes = Answered h (MediaFault x.line.0) ∷ []; left = with_machine h x.left None state }) (record { notes = first; left = mid }) (ap (cut h state) (sym fails) ∙ sym (cut_row through) ∙ is) in
+            let same = same_Some (record { notes = Answered h (MediaFault x.line.0) ∷ []; left = with_machine h x.left None state }) (record { notes = first; left = mid }) (ap (cut_task h state) (sym fails) ∙ sym (cut_row through) ∙ is) in
             record { failure = x; fails = fails; first_is = sym (ap (λ (z : machine.Done). z.notes) same); mid_is = sym (ap (λ (z : machine.Done). z.left) same) }
 
     cut_idle : (through : Breaking) (first : List Note) (mid : Machines) → IsCutAt through first mid → busy_at h mid ≡ false

@@ -40,7 +40,7 @@ module _ (me : List ℕ) (out : Outside) (shade : ShadeChange) (given : Status) 
           run = record {
             journal = x.journal;
             named = x.ended.named;
-            form = x.ended.form;
+            shape = x.ended.shape;
             counted = x.ended.counted;
             caused = tt;
             text_is = (x.whole, (is_answered x.journal (x.m, x.tree) x.shown, refl));

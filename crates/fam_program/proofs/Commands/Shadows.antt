@@ -18,7 +18,7 @@ use Rattle.fam_events.specs.declared.fault.EventFault.{EventFault}
 use Rattle.fam_program.specs.Puts.{Put}
 use Rattle.fam_program.specs.Unprinted.{HasStopped, MayLack, ShotEnded}
 use Rattle.fam_shadow.specs.Nodes.{ShadeChange}
-use Rattle.fam_program.specs.Shadows.{IsUntouched, ShadowTop, logplay, shadow_status, shadow_text, shown_tree}
+use Rattle.fam_program.specs.Shadows.{IsShadeUntouched, ShadowTop, logplay, shadow_status, shadow_text, shown_tree}
 use Rattle.fam_program.specs.Shots.{ShotSays}
 use Rattle.fam_program.proofs.Commands.TopEnds.{SparedRun, shot_ran, stopped_whole}
 use Rattle.fam_program.proofs.Commands.Events.{alone_events}
@@ -36,7 +36,7 @@ usage_own e = absurd cc
 
 module _ (out : Outside) (shade : ShadeChange) (given : Status) (later : NoneFalls out) where
   -- no event was run
-  module _ (asked : Option (List ℕ)) (same : out.media.new.image ≡ out.media.old.image) (untouched : IsUntouched shade) where
+  module _ (asked : Option (List ℕ)) (same : out.media.new.image ≡ out.media.old.image) (untouched : IsShadeUntouched shade) where
     early : (cause : Early) → IsEarly script_events storm (option_map (λ me. Single me logplay) asked) out cause → IsOwn (early_status cause) → Put (early_status cause) (early_text cause) out.sink given → ShadowTop asked out shade given
     early cause is own put = record {
       text = early_text cause;
@@ -80,7 +80,7 @@ module _ (out : Outside) (shade : ShadeChange) (given : Status) (later : NoneFal
 
     -- logplay's own answer
     pub logplayed_top : (ended : Result (Unit {0}) EventFault) → SparedRun logplay out (MayLack ended journal) → ShotEnded ended out (alone_events name me logplay) journal → ShotSays ended (last_status journal) journal out.sink given
-        → OnOk ended (shown_tree journal ≡ None) → IsUntouched shade → ShadowTop (Some me) out shade given
+        → OnOk ended (shown_tree journal ≡ None) → IsShadeUntouched shade → ShadowTop (Some me) out shade given
     logplayed_top ended spared x says none untouched =
         let run = shot_ran name me out journal given (shown_tree journal ≡ None) logplay tt ended spared x says none in
         record {

@@ -18,7 +18,7 @@ use Rattle.fam_journal.specs.declared.refusal.Refusal.TheVariants as why
 use Rattle.fam_outcomes.specs.declared.status.Status.{Status}
 use Rattle.fam_outcomes.specs.declared.status.Status.TheVariants as status
 use Rattle.fam_journal.specs.Ends.{AllDone, Ending, IsFaultless, EndsOutOfMemory, MkfsFails, SourceFails}
-use Rattle.fam_journal.specs.EventForms.{FollowsForm}
+use Rattle.fam_journal.specs.EventShapes.{FollowsShape}
 use Rattle.fam_journal.specs.Follows.{SourceEnd}
 use Rattle.fam_journal.specs.Names.{NameDeclared}
 use Rattle.fam_journal.specs.Notes.{Answer, Replied, MediaFault, Note, Host, Answered, Refused}
@@ -29,7 +29,7 @@ use Rattle.fam_outcomes.specs.Texts.{is_sound_report, shown}
 use Rattle.fam_events.specs.declared.fault.EventFault.{EventFault}
 use Rattle.fam_events.specs.declared.fault.EventFault.TheVariants as fault
 use Rattle.fam_program.specs.Puts.{Put}
-use Rattle.fam_program.specs.Unprinted.{GoesOn, HasStopped, MayLack, ShotEnded}
+use Rattle.fam_program.specs.Unprinted.{OnlyLastStops, HasStopped, MayLack, ShotEnded}
 use Rattle.fam_program.specs.Runs.{HasEnded}
 use Rattle.fam_program.specs.Shots.{LastSays, ShotSays, is_short}
 use Rattle.fam_program.proofs.Commands.LastNotes.{behind_first, host_end, mkfs_end, runs_end, stopped_end}
@@ -128,7 +128,7 @@ module _ (name me : List ℕ) (shot : OneShot) (out : Outside) (journal : List N
   all = alone_events name me shot
 
   -- an event ended the run early: all events are those of the run
-  whole : GoesOn journal → IsWholeRun me shot all journal
+  whole : OnlyLastStops journal → IsWholeRun me shot all journal
   whole goes =
       let same : take (length does) does ≡ does = take_all (length does) does (omega arith) in
       record { name = name; count = length does; events_are = ap (λ (es : List Event). event.Host name me ∷ es) (sym same); goes_on = goes; all = λ last. same }
@@ -152,7 +152,7 @@ module _ (name me : List ℕ) (shot : OneShot) (out : Outside) (journal : List N
   -- at least the host is declared
   none_done : (x : HasStopped out all journal) → x.count ≡ 0 → ⊥
   none_done x is =
-      let none : journal ≡ [] = subst (λ (k : ℕ). FollowsForm out.lines (take k all) [] journal) is x.ended.form in
+      let none : journal ≡ [] = subst (λ (k : ℕ). FollowsShape out.lines (take k all) [] journal) is x.ended.shape in
       let same : [] ≡ all = ap (λ (k : ℕ). take k all) (sym is) ∙ x.all (ap last_stops none) in
       absurd cc
 
@@ -176,7 +176,7 @@ module _ (name me : List ℕ) (shot : OneShot) (out : Outside) (journal : List N
       runs = record {
         ending = ending;
         events = events;
-        run = record { journal = journal; named = x.named; form = x.form; counted = x.counted; caused = x.caused; text_is = puts; status_is = refl; told = x.told };
+        run = record { journal = journal; named = x.named; shape = x.shape; counted = x.counted; caused = x.caused; text_is = puts; status_is = refl; told = x.told };
         spares = spares;
       };
       same = refl;
@@ -185,11 +185,11 @@ module _ (name me : List ℕ) (shot : OneShot) (out : Outside) (journal : List N
     }
 
     -- no memory was left for an event
-    wants : SparesImage shot status.OutOfMemory out → HasEnded EndsOutOfMemory out all journal → GoesOn journal → IsFaultless journal → Put status.OutOfMemory memory_line out.sink given → Comes
+    wants : SparesImage shot status.OutOfMemory out → HasEnded EndsOutOfMemory out all journal → OnlyLastStops journal → IsFaultless journal → Put status.OutOfMemory memory_line out.sink given → Comes
     wants spares x goes clean put = ran EndsOutOfMemory all memory_line x (whole goes, (refl, clean)) memory_own spares put (λ e. absurd cc)
 
     -- a source ended early
-    ended : SparesImage shot status.OutOfMemory out → (end : SourceEnd) → HasEnded (SourceFails end) out all journal → GoesOn journal → IsFaultless journal → Put status.SourceFault (source_line end) out.sink given ⊎ Put status.OutOfMemory memory_line out.sink given → Comes
+    ended : SparesImage shot status.OutOfMemory out → (end : SourceEnd) → HasEnded (SourceFails end) out all journal → OnlyLastStops journal → IsFaultless journal → Put status.SourceFault (source_line end) out.sink given ⊎ Put status.OutOfMemory memory_line out.sink given → Comes
     ended spares end x goes clean (inl put) = ran (SourceFails end) all (source_line end) x (whole goes, refl) source_own (own_spares shot status.SourceFault out (λ e. absurd cc)) put (λ e. absurd cc)
     ended spares end x goes clean (inr put) = wants spares (source_wants end out all journal x) goes clean put
 
@@ -221,7 +221,7 @@ module _ (name me : List ℕ) (out : Outside) (journal : List Note) where
       by_stop true is = stopped_end journal is
       by_stop false is =
           behind_first ends_command (event.Host name me) (event.Run name what ∷ []) out.lines [] journal (λ hosts notes f. runs_end name (λ (w : Ask). w) what [] out.lines hosts notes f)
-          (subst (λ (es : List Event). FollowsForm out.lines es [] journal) (x.all is) x.ended.form)
+          (subst (λ (es : List Event). FollowsShape out.lines es [] journal) (x.all is) x.ended.shape)
 
   module _ (request : MkfsRequest) (unhalted : request.halt ≡ None) where
     abbrev makes : OneShot
@@ -230,12 +230,12 @@ module _ (name me : List ℕ) (out : Outside) (journal : List Note) where
     mkfs_ends : HasStopped out (alone_events name me makes) journal → last_passes ends_mkfs journal ≡ true
     mkfs_ends x = by_count x.count refl
       where
-        form_at : (k : ℕ) → x.count ≡ k → FollowsForm out.lines (take k (alone_events name me makes)) [] journal
-        form_at k is = subst (λ (n : ℕ). FollowsForm out.lines (take n (alone_events name me makes)) [] journal) is x.ended.form
+        shape_at : (k : ℕ) → x.count ≡ k → FollowsShape out.lines (take k (alone_events name me makes)) [] journal
+        shape_at k is = subst (λ (n : ℕ). FollowsShape out.lines (take n (alone_events name me makes)) [] journal) is x.ended.shape
 
         -- the host alone was declared: that was refused
         by_stop : (t : Bool) → last_stops journal ≡ t → x.count ≡ 1 → last_passes ends_mkfs journal ≡ true
-        by_stop true stops is = host_end ends_mkfs name me out.lines journal (λ cause. refl) stops (form_at 1 is)
+        by_stop true stops is = host_end ends_mkfs name me out.lines journal (λ cause. refl) stops (shape_at 1 is)
         by_stop false goes is =
             let same : event.Host name me ∷ [] ≡ alone_events name me makes = ap (λ (n : ℕ). take n (alone_events name me makes)) (sym is) ∙ x.all goes in
             absurd cc
@@ -245,7 +245,7 @@ module _ (name me : List ℕ) (out : Outside) (journal : List Note) where
         by_count (suc zero) is = by_stop (last_stops journal) refl is
         by_count (suc (suc k)) is =
             behind_first ends_mkfs (event.Host name me) (event.Mkfs name request.fs request.unit request.log request.format request.force request.halt ∷ []) out.lines [] journal (mkfs_end name request out.lines unhalted)
-            (subst (λ (es : List Event). FollowsForm out.lines (event.Host name me ∷ event.Mkfs name request.fs request.unit request.log request.format request.force request.halt ∷ es) [] journal) (take_none k) (form_at (suc (suc k)) is))
+            (subst (λ (es : List Event). FollowsShape out.lines (event.Host name me ∷ event.Mkfs name request.fs request.unit request.log request.format request.force request.halt ∷ es) [] journal) (take_none k) (shape_at (suc (suc k)) is))
 
   shot_ends : (shot : OneShot) → IsUnhalted shot → HasStopped out (alone_events name me shot) journal → last_passes (ends_shot shot) journal ≡ true
   shot_ends (Makes request) unhalted x = mkfs_ends request unhalted x
@@ -258,7 +258,7 @@ module _ (name me : List ℕ) (out : Outside) (journal : List Note) where
 
   module _ (given : Status) (fact : Type 0) where
     -- the media failed in a mkfs
-    broken : (shot : OneShot) → HasEnded MkfsFails out (alone_events name me shot) journal → GoesOn journal → LastSays status.MediaFault journal out.sink given → Ran me shot out journal fact given
+    broken : (shot : OneShot) → HasEnded MkfsFails out (alone_events name me shot) journal → OnlyLastStops journal → LastSays status.MediaFault journal out.sink given → Ran me shot out journal fact given
     broken (Makes request) x goes (inl put) = ran name me (Makes request) out journal given fact MkfsFails (alone_events name me (Makes request)) (shown journal) x (whole name me (Makes request) out journal goes, refl) media_own tt put (λ e. absurd cc)
     broken (Makes request) x goes (inr put) = absurd (false≢true (sym put.1 ∙ fault_short x.caused))
     broken (Runs what) x goes put = absurd (none_breaks name me (λ (w : Ask). w) (what ∷ []) out journal x)

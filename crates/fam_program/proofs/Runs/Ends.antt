@@ -13,10 +13,10 @@ use Rattle.fam_sources.specs.Sourced.{HasEndCause, end_of}
 use Rattle.fam_journal.specs.declared.event.Event.{Event}
 use Rattle.fam_journal.specs.declared.event.Event.TheVariants as event
 use Rattle.fam_journal.specs.Ends.{AllDone, CutEventReads, EndsOutOfMemory, EndsOutOfMemoryBroken, HasCounted, MkfsFails, SinkFails, SourceFails}
-use Rattle.fam_journal.specs.EventForms.{EndsForm, EventBreaksForm, EventPartForm, FollowsForm, FormUpTo}
+use Rattle.fam_journal.specs.EventShapes.{EndsShape, EventBreaksShape, EventPartShape, FollowsShape, ShapeUpTo}
 use Rattle.fam_journal.specs.Events.{BreaksEvent, DoesEvent, PartOf, Session, first_session}
 use Rattle.fam_journal.specs.Follows.{Follows, FollowsBroken, FollowsLast, ReadsSource}
-use Rattle.fam_journal.specs.Forms.{HostForm, forms_behind}
+use Rattle.fam_journal.specs.Shapes.{HostShape, shapes_behind}
 use Rattle.fam_journal.specs.Kept.{Held}
 use Rattle.fam_journal.specs.Legal.{Legal}
 use Rattle.fam_journal.specs.Notes.{Note}
@@ -54,7 +54,7 @@ module _ (b : Base) (count : ℕ) (n : Now) (far : Far b count n) (shelf : Shelf
   pub prefix_ended : HasEnded EndsOutOfMemory out b.events n.world.journal
   prefix_ended = record {
     named = far.named;
-    form = inl record { count = count; follows = far.form };
+    shape = inl record { count = count; follows = far.shape };
     counted = far.counted;
     caused = tt;
     told = λ start told_is files files_are.
@@ -66,7 +66,7 @@ module _ (b : Base) (count : ℕ) (n : Now) (far : Far b count n) (shelf : Shelf
   pub all_ended : take count b.events ≡ b.events → HasEnded AllDone out b.events n.world.journal
   all_ended whole = record {
     named = far.named;
-    form = subst (λ (es : List Event). FollowsForm b.lines es [] n.world.journal) whole far.form;
+    shape = subst (λ (es : List Event). FollowsShape b.lines es [] n.world.journal) whole far.shape;
     counted = far.counted;
     caused = tt;
     told = λ start told_is files files_are.
@@ -98,18 +98,18 @@ module _ (b : Base) (count : ℕ) (n m : Now) (far : Far b count n) (e : Event) 
   same_last s same = ap (λ (c : ℕ). session s.machines c) (sym same)
 
   -- the media failed in a mkfs
-  broken_caused : (e : Event) → slice_get b.events count ≡ Some e → (lines : ℕ) (hosts : List HostForm) (notes : List Note) → EventBreaksForm e lines hosts notes → m.world.journal ≡ n.world.journal ++ notes → EndsBroken b.events m.world.journal
-  broken_caused (event.Mkfs name fs unit log format force halt) at lines hosts notes form joined = record {
+  broken_caused : (e : Event) → slice_get b.events count ≡ Some e → (lines : ℕ) (hosts : List HostShape) (notes : List Note) → EventBreaksShape e lines hosts notes → m.world.journal ≡ n.world.journal ++ notes → EndsBroken b.events m.world.journal
+  broken_caused (event.Mkfs name fs unit log format force halt) at lines hosts notes shape joined = record {
     count = count;
     event = event.Mkfs name fs unit log format force halt;
     event_is = at;
     prefix = n.world.journal;
     name = name;
-    line = record { 0 = form.1.0 };
+    line = record { 0 = shape.1.0 };
     of_mkfs = refl;
-    is = joined ∙ ap (λ (ns : List Note). n.world.journal ++ ns) form.1.1;
+    is = joined ∙ ap (λ (ns : List Note). n.world.journal ++ ns) shape.1.1;
   }
-  broken_caused e at lines hosts notes form joined = absurd form
+  broken_caused e at lines hosts notes shape joined = absurd shape
 
   -- where image and files are modelled
   pub record BrokenOn (start : Image) (files : Files) : Type 0 where
@@ -145,8 +145,8 @@ module _ (b : Base) (count : ℕ) (n m : Now) (far : Far b count n) (e : Event) 
             (subst (λ (s : Session). CutEventReads e s (past_of start n.world.journal).state k.comes.last.machines.memory) (same_last f.last f.copied) k.reads);
       }
 
-  broken_form : EventBroken e a → FormUpTo EventBreaksForm b.lines b.events [] m.world.journal
-  broken_form x = record { count = count; event = e; is = is; whole_notes = n.world.journal; part_notes = x.adds.notes; whole = far.form; part = x.adds.form; joined = x.adds.joined }
+  broken_shape : EventBroken e a → ShapeUpTo EventBreaksShape b.lines b.events [] m.world.journal
+  broken_shape x = record { count = count; event = e; is = is; whole_notes = n.world.journal; part_notes = x.adds.notes; whole = far.shape; part = x.adds.shape; joined = x.adds.joined }
 
   broken_told : (x : EventBroken e a) → IfModelled b.media.image (λ start. IfModelled b.files (λ files. RunsOn MkfsFails files b.events start m.media.image m.world.journal))
   broken_told x start told_is files files_are =
@@ -161,9 +161,9 @@ module _ (b : Base) (count : ℕ) (n m : Now) (far : Far b count n) (e : Event) 
   pub broken_ended : EventBroken e a → HasEnded MkfsFails end_out b.events m.world.journal
   broken_ended x = record {
     named = named_more b count n m far x.adds.notes x.adds.named x.adds.joined;
-    form = broken_form x;
+    shape = broken_shape x;
     counted = counted_more x.adds.notes x.adds.counted x.adds.later x.adds.joined;
-    caused = broken_caused e is b.lines _ x.adds.notes x.adds.form x.adds.joined;
+    caused = broken_caused e is b.lines _ x.adds.notes x.adds.shape x.adds.joined;
     told = broken_told x;
   }
 
@@ -171,9 +171,9 @@ module _ (b : Base) (count : ℕ) (n m : Now) (far : Far b count n) (e : Event) 
   pub broken_wants : EventBroken e a → HasEnded EndsOutOfMemoryBroken end_out b.events m.world.journal
   broken_wants x = record {
     named = named_more b count n m far x.adds.notes x.adds.named x.adds.joined;
-    form = broken_form x;
+    shape = broken_shape x;
     counted = counted_more x.adds.notes x.adds.counted x.adds.later x.adds.joined;
-    caused = broken_caused e is b.lines _ x.adds.notes x.adds.form x.adds.joined;
+    caused = broken_caused e is b.lines _ x.adds.notes x.adds.shape x.adds.joined;
     told = broken_want x;
   }
 
@@ -185,15 +185,15 @@ module _ (b : Base) (count : ℕ) (n m : Now) (far : Far b count n) (e : Event) 
   pub source_ended : (end : SourceEnd) → EventEnded e end a → HasEndCause shelf end → HasEnded (SourceFails (end_of end)) end_out b.events m.world.journal
   source_ended end x cause = record {
     named = named_more b count n m far x.adds.notes x.adds.named x.adds.joined;
-    form = record {
+    shape = record {
       count = count;
       event = e;
       is = is;
-      host = x.adds.form.host;
-      source = x.adds.form.source;
-      reads = x.adds.form.reads;
-      free = subst (λ (j : List Note). Rattle.fam_journal.specs.Calls.may_begin x.adds.form.host false (Rattle.fam_journal.specs.Forms.shown_forms b.lines (forms_behind [] j)) ≡ None) (sym same) x.adds.form.free;
-      follows = subst (λ (j : List Note). FollowsForm b.lines (take count b.events) [] j) (sym same) far.form;
+      host = x.adds.shape.host;
+      source = x.adds.shape.source;
+      reads = x.adds.shape.reads;
+      free = subst (λ (j : List Note). Rattle.fam_journal.specs.Calls.may_begin x.adds.shape.host false (Rattle.fam_journal.specs.Shapes.shown_shapes b.lines (shapes_behind [] j)) ≡ None) (sym same) x.adds.shape.free;
+      follows = subst (λ (j : List Note). FollowsShape b.lines (take count b.events) [] j) (sym same) far.shape;
     };
     counted = counted_more x.adds.notes x.adds.counted x.adds.later x.adds.joined;
     caused = source_caused end cause;
@@ -218,13 +218,13 @@ module _ (b : Base) (count : ℕ) (n m : Now) (far : Far b count n) (e : Event) 
   }
     where
       same : m.world.journal ≡ n.world.journal
-      same = x.adds.joined ∙ ap (λ (ns : List Note). n.world.journal ++ ns) x.adds.form.none ∙ append-nil n.world.journal
+      same = x.adds.joined ∙ ap (λ (ns : List Note). n.world.journal ++ ns) x.adds.shape.none ∙ append-nil n.world.journal
 
   -- no memory was left
   pub part_ended : EventPart e a → HasEnded EndsOutOfMemory end_out b.events m.world.journal
   part_ended x = record {
     named = named_more b count n m far x.adds.notes x.adds.named x.adds.joined;
-    form = by_form x.adds.form;
+    shape = by_shape x.adds.shape;
     counted = counted_more x.adds.notes x.adds.counted x.adds.later x.adds.joined;
     caused = tt;
     told = λ start told_is files files_are.
@@ -239,10 +239,10 @@ module _ (b : Base) (count : ℕ) (n m : Now) (far : Far b count n) (e : Event) 
         };
   }
     where
-      by_form : (x.adds.notes ≡ []) ⊎ EventPartForm e b.lines (forms_behind [] n.world.journal) x.adds.notes → EndsForm EndsOutOfMemory b.lines b.events [] m.world.journal
-      by_form (inl none) =
-          inl record { count = count; follows = subst (λ (j : List Note). FollowsForm b.lines (take count b.events) [] j) (sym (x.adds.joined ∙ ap (λ (ns : List Note). n.world.journal ++ ns) none ∙ append-nil n.world.journal)) far.form }
-      by_form (inr part) = inr record { count = count; event = e; is = is; whole_notes = n.world.journal; part_notes = x.adds.notes; whole = far.form; part = part; joined = x.adds.joined }
+      by_shape : (x.adds.notes ≡ []) ⊎ EventPartShape e b.lines (shapes_behind [] n.world.journal) x.adds.notes → EndsShape EndsOutOfMemory b.lines b.events [] m.world.journal
+      by_shape (inl none) =
+          inl record { count = count; follows = subst (λ (j : List Note). FollowsShape b.lines (take count b.events) [] j) (sym (x.adds.joined ∙ ap (λ (ns : List Note). n.world.journal ++ ns) none ∙ append-nil n.world.journal)) far.shape }
+      by_shape (inr part) = inr record { count = count; event = e; is = is; whole_notes = n.world.journal; part_notes = x.adds.notes; whole = far.shape; part = part; joined = x.adds.joined }
 
       by_part : (start : Image) (files : Files) (mid : Session) → Follows files (take count b.events) (first_session start) n.world.journal mid → mid.copied ≡ n.copied → (notes : List Note) (new : Session) → m.world.journal ≡ n.world.journal ++ notes
           → ((notes ≡ []) × (new ≡ session mid.machines n.copied)) ⊎ PartOf files e (session mid.machines n.copied) notes new → Rattle.fam_journal.specs.Ends.EventsDone EndsOutOfMemory files b.events (first_session start) m.world.journal new
@@ -299,7 +299,7 @@ module _ (b : Base) (count : ℕ) (n m : Now) (far : Far b count n) (e : Event) 
   pub sink_ended : EventDone e a → HasRisen all.old.faults all.new.faults → HasEnded SinkFails end_out b.events m.world.journal
   sink_ended x rose = record {
     named = named_more b count n m far x.adds.notes x.adds.named x.adds.joined;
-    form = record { count = count; event = e; is = is; whole_notes = n.world.journal; part_notes = x.adds.notes; whole = far.form; part = x.adds.form; joined = x.adds.joined };
+    shape = record { count = count; event = e; is = is; whole_notes = n.world.journal; part_notes = x.adds.notes; whole = far.shape; part = x.adds.shape; joined = x.adds.joined };
     counted = counted_more x.adds.notes x.adds.counted x.adds.later x.adds.joined;
     caused = rose;
     told = λ start told_is files files_are.

@@ -6,7 +6,7 @@ use Rattle.std.proofs.lemmas.List.{append-nil}
 use Rattle.fam_media.specs.States.{ShelfChange, SinkChange}
 use Rattle.fam_journal.specs.declared.event.Event.{Event}
 use Rattle.fam_journal.specs.Ends.{AllDone}
-use Rattle.fam_journal.specs.Forms.{forms_of}
+use Rattle.fam_journal.specs.Shapes.{shapes_of}
 use Rattle.fam_journal.specs.Notes.{Note}
 use Rattle.fam_outcomes.specs.Statuses.{note_stops}
 use Rattle.fam_journal.proofs.JournalLaws.{held_reads_as}
@@ -14,7 +14,7 @@ use Rattle.fam_events.specs.declared.fault.EventFault.{EventFault}
 use Rattle.fam_events.specs.declared.fault.EventFault.TheVariants as fault
 use Rattle.fam_events.specs.Happens.{EventSays}
 use Rattle.fam_program.specs.Far.{Base, Far, Now}
-use Rattle.fam_program.specs.Unprinted.{GoesOn, IsShotEvent}
+use Rattle.fam_program.specs.Unprinted.{OnlyLastStops, IsShotEvent}
 use Rattle.fam_program.specs.Runs.{HasEnded, ending_of}
 use Rattle.fam_program.proofs.Runs.Ends.{broken_ended, out_of, part_ended, source_ended}
 use Rattle.fam_program.proofs.Runs.GoesOn.{next_of}
@@ -31,7 +31,7 @@ fault_ended b count n m far e is shelf all fault.OutOfMemory says = part_ended b
 pub taken_ended : (b : Base) (count : ℕ) (n : Now) → Far b count n → (shelf : ShelfChange) (all : SinkChange) → HasEnded AllDone (out_of b n shelf all) (take count b.events) n.world.journal
 taken_ended b count n far shelf all = record {
   named = far.named;
-  form = far.form;
+  shape = far.shape;
   counted = far.counted;
   caused = tt;
   told = λ start told_is files files_are.
@@ -40,11 +40,11 @@ taken_ended b count n far shelf all = record {
 }
 
 -- of the notes of an event that ends a run at most the last one stops
-pub fault_goes : (b : Base) (n m : Now) (e : Event) → IsShotEvent e → (shelf : ShelfChange) (x : EventFault) → list_any note_stops n.world.journal ≡ false → EventSays e shelf (next_of b n m) (Err x) → GoesOn m.world.journal
+pub fault_goes : (b : Base) (n m : Now) (e : Event) → IsShotEvent e → (shelf : ShelfChange) (x : EventFault) → list_any note_stops n.world.journal ≡ false → EventSays e shelf (next_of b n m) (Err x) → OnlyLastStops m.world.journal
 fault_goes b n m e is shelf fault.MkfsFailed goes says =
-    subst GoesOn (sym says.adds.joined) (go_behind n.world.journal says.adds.notes goes (breaks_goes e b.lines (forms_of n.world.journal) says.adds.notes says.adds.form))
+    subst OnlyLastStops (sym says.adds.joined) (go_behind n.world.journal says.adds.notes goes (breaks_goes e b.lines (shapes_of n.world.journal) says.adds.notes says.adds.shape))
 fault_goes b n m e is shelf (fault.SourceEnded end) goes says =
-    let same : m.world.journal ≡ n.world.journal = says.0.adds.joined ∙ ap (λ (ns : List Note). n.world.journal ++ ns) says.0.adds.form.none ∙ append-nil n.world.journal in
-    subst GoesOn (sym same) (all_go n.world.journal goes)
+    let same : m.world.journal ≡ n.world.journal = says.0.adds.joined ∙ ap (λ (ns : List Note). n.world.journal ++ ns) says.0.adds.shape.none ∙ append-nil n.world.journal in
+    subst OnlyLastStops (sym same) (all_go n.world.journal goes)
 fault_goes b n m e is shelf fault.OutOfMemory goes says =
-    subst GoesOn (sym says.adds.joined) (go_behind n.world.journal says.adds.notes goes (cut_goes e is b.lines (forms_of n.world.journal) says.adds.notes says.adds.form))
+    subst OnlyLastStops (sym says.adds.joined) (go_behind n.world.journal says.adds.notes goes (cut_goes e is b.lines (shapes_of n.world.journal) says.adds.notes says.adds.shape))

@@ -6,12 +6,12 @@ use Rattle.std.proofs.lemmas.List.{append-nil, append_assoc}
 use Rattle.std.proofs.lemmas.Option.{same_Some}
 use Rattle.fam_media.specs.Files.{Files}
 use Rattle.fam_journal.specs.declared.event.Event.{Event}
-use Rattle.fam_journal.specs.EventForms.{EventForm, FollowsForm}
+use Rattle.fam_journal.specs.EventShapes.{EventShape, FollowsShape}
 use Rattle.fam_journal.specs.Events.{DoesEvent, Session}
 use Rattle.fam_journal.specs.Follows.{Follows}
-use Rattle.fam_journal.specs.Forms.{HostForm, forms_behind}
+use Rattle.fam_journal.specs.Shapes.{HostShape, shapes_behind}
 use Rattle.fam_journal.specs.Notes.{Note}
-use Rattle.fam_journal.proofs.Forms.Operations.{forms_both}
+use Rattle.fam_journal.proofs.Shapes.Operations.{shapes_both}
 
 -- the first ones and the next
 pub take_next : {A : Type 0} (xs : List A) (k : ℕ) (x : A) → slice_get xs k ≡ Some x → take (suc k) xs ≡ take k xs ++ x ∷ []
@@ -32,19 +32,19 @@ follows_more files (x ∷ events) e old mid new first rest follows does = (
   ap (λ (z : List Note). z ++ rest) follows.5 ∙ append_assoc follows.1 follows.2 rest,
 )
 
-pub form_more : (lines : ℕ) (events : List Event) (e : Event) (hosts : List HostForm) (first rest : List Note) → FollowsForm lines events hosts first → EventForm e lines (forms_behind hosts first) rest → FollowsForm lines (events ++ e ∷ []) hosts (first ++ rest)
-form_more lines [] e hosts first rest form next = (
+pub shape_more : (lines : ℕ) (events : List Event) (e : Event) (hosts : List HostShape) (first rest : List Note) → FollowsShape lines events hosts first → EventShape e lines (shapes_behind hosts first) rest → FollowsShape lines (events ++ e ∷ []) hosts (first ++ rest)
+shape_more lines [] e hosts first rest shape next = (
   rest,
   [],
-  subst (λ (n : List Note). EventForm e lines (forms_behind hosts n) rest) form next,
+  subst (λ (n : List Note). EventShape e lines (shapes_behind hosts n) rest) shape next,
   refl,
-  ap (λ (z : List Note). z ++ rest) form ∙ sym (append-nil rest),
+  ap (λ (z : List Note). z ++ rest) shape ∙ sym (append-nil rest),
 )
-form_more lines (x ∷ events) e hosts first rest form next = (
-  form.0,
-  form.1 ++ rest,
-  form.2,
-  form_more lines events e (forms_behind hosts form.0) form.1 rest form.3
-      (subst (λ (h : List HostForm). EventForm e lines h rest) (ap (forms_behind hosts) form.4 ∙ forms_both hosts form.0 form.1) next),
-  ap (λ (z : List Note). z ++ rest) form.4 ∙ append_assoc form.0 form.1 rest,
+shape_more lines (x ∷ events) e hosts first rest shape next = (
+  shape.0,
+  shape.1 ++ rest,
+  shape.2,
+  shape_more lines events e (shapes_behind hosts shape.0) shape.1 rest shape.3
+      (subst (λ (h : List HostShape). EventShape e lines h rest) (ap (shapes_behind hosts) shape.4 ∙ shapes_both hosts shape.0 shape.1) next),
+  ap (λ (z : List Note). z ++ rest) shape.4 ∙ append_assoc shape.0 shape.1 rest,
 )

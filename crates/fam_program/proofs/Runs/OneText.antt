@@ -12,7 +12,7 @@ use Rattle.fam_journal.specs.declared.event.Event.{Event}
 use Rattle.fam_outcomes.specs.declared.status.Status.{Status}
 use Rattle.fam_outcomes.specs.declared.status.Status.TheVariants as status
 use Rattle.fam_journal.specs.Ends.{AllDone, Ending, EndsOutOfMemory, EndsOutOfMemoryBroken, MkfsFails, SourceFails}
-use Rattle.fam_journal.specs.EventForms.{FollowsForm}
+use Rattle.fam_journal.specs.EventShapes.{FollowsShape}
 use Rattle.fam_journal.specs.Events.{event_source, first_session}
 use Rattle.fam_journal.specs.Follows.{Follows, SourceEnd}
 use Rattle.fam_journal.specs.Notes.{Note}
@@ -76,14 +76,14 @@ not_both : (x : List ℕ × List ℕ) (o : Option (List ℕ × List ℕ)) → o 
 not_both x o some none = absurd cc
 
 pub no_source_ends : (end : SourceEnd) (out : Outside) (events : List Event) (journal : List Note) → ReadNoSource events → HasEnded (SourceFails end) out events journal → ⊥
-no_source_ends end out events journal none x = not_both (x.form.host, x.form.source) (event_source x.form.event) x.form.reads (member events x.form.count x.form.event x.form.is none)
+no_source_ends end out events journal none x = not_both (x.shape.host, x.shape.source) (event_source x.shape.event) x.shape.reads (member events x.shape.count x.shape.event x.shape.is none)
 
 -- No memory is left for what is put of a run that has ended.
 
 pub done_wants : (out : Outside) (events : List Event) (journal : List Note) → HasEnded AllDone out events journal → HasEnded EndsOutOfMemory out events journal
 done_wants out events journal x = record {
   named = x.named;
-  form = inl record { count = length events; follows = subst (λ (es : List Event). FollowsForm out.lines es [] journal) (sym whole) x.form };
+  shape = inl record { count = length events; follows = subst (λ (es : List Event). FollowsShape out.lines es [] journal) (sym whole) x.shape };
   counted = x.counted;
   caused = tt;
   told = λ start told_is files files_are.
@@ -103,7 +103,7 @@ done_wants out events journal x = record {
 pub broken_wants : (out : Outside) (events : List Event) (journal : List Note) → HasEnded MkfsFails out events journal → HasEnded EndsOutOfMemoryBroken out events journal
 broken_wants out events journal x = record {
   named = x.named;
-  form = x.form;
+  shape = x.shape;
   counted = x.counted;
   caused = x.caused;
   told = λ start told_is files files_are.
@@ -114,7 +114,7 @@ broken_wants out events journal x = record {
 pub source_wants : (end : SourceEnd) (out : Outside) (events : List Event) (journal : List Note) → HasEnded (SourceFails end) out events journal → HasEnded EndsOutOfMemory out events journal
 source_wants end out events journal x = record {
   named = x.named;
-  form = inl record { count = x.form.count; follows = x.form.follows };
+  shape = inl record { count = x.shape.count; follows = x.shape.follows };
   counted = x.counted;
   caused = tt;
   told = λ start told_is files files_are.
@@ -134,7 +134,7 @@ module _ (seed size : ℕ) (events : List Event) (reads : script_events (storm s
       ending = ending;
       events = events;
       reads = reads;
-      run = record { journal = journal; named = x.named; form = x.form; counted = x.counted; caused = x.caused; text_is = puts; status_is = refl; told = x.told };
+      run = record { journal = journal; named = x.named; shape = x.shape; counted = x.counted; caused = x.caused; text_is = puts; status_is = refl; told = x.told };
     };
     later = later;
     put = put_alone out text (storm_status ending journal) given other put;

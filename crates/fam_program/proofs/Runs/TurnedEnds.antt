@@ -10,7 +10,7 @@ use Rattle.fam_outcomes.specs.Statuses.{note_stops}
 use Rattle.fam_events.specs.declared.fault.EventFault.{EventFault}
 use Rattle.fam_events.specs.Rested.{IsRested, IsRun}
 use Rattle.fam_program.specs.Far.{Far, Now, base_of, now_of}
-use Rattle.fam_program.specs.Unprinted.{GoesOn, HidesNoFault, IsOneRun, IsShotEvent}
+use Rattle.fam_program.specs.Unprinted.{OnlyLastStops, HidesNoFault, IsOneRun, IsShotEvent}
 use Rattle.fam_program.specs.Runs.{HasEnded, ending_of, outside_of}
 use Rattle.fam_program.proofs.Commands.ImageLeft.{fault_spares}
 use Rattle.fam_program.proofs.Commands.NoFaultHidden.{fault_hides}
@@ -42,7 +42,7 @@ module _ {M S : Type 0} {size : M → ℕ} {state : M → MediaState} {shelf_sta
 
       module _ (shot : IsShotEvent e) (goes : list_any note_stops here.world.journal ≡ false) where
         -- at most its last note stops
-        pub fault_goes_on : GoesOn world.journal
+        pub fault_goes_on : OnlyLastStops world.journal
         fault_goes_on = fault_goes (base_of events (size media) (state media) (shelf_state shelf)) here (now_of world (state next) copied) e shot (change shelf_state shelf shelf_next) x goes t.says
 
         pub fault_is_told : HidesNoFault x world.journal
@@ -58,9 +58,9 @@ module _ {M S : Type 0} {size : M → ℕ} {state : M → MediaState} {shelf_sta
       done_far = more_far (base_of events (size media) (state media) (shelf_state shelf)) (length passed) here (now_of world (state next) copied) t.far e t.is t.says
 
       -- at most its last note stops
-      pub done_goes_on : IsShotEvent e → list_any note_stops here.world.journal ≡ false → GoesOn world.journal
+      pub done_goes_on : IsShotEvent e → list_any note_stops here.world.journal ≡ false → OnlyLastStops world.journal
       done_goes_on shot goes =
-          subst GoesOn (sym t.says.adds.joined) (go_behind here.world.journal t.says.adds.notes goes (step_goes e shot (size media) _ t.says.adds.notes t.says.adds.form))
+          subst OnlyLastStops (sym t.says.adds.joined) (go_behind here.world.journal t.says.adds.notes goes (step_goes e shot (size media) _ t.says.adds.notes t.says.adds.shape))
 
       -- the events up to it are done
       pub done_ends : (sink : SinkChange) → HasEnded AllDone (outside_of size state media next (change shelf_state shelf shelf_next) sink) (take (suc (length passed)) events) world.journal

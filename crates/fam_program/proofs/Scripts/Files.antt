@@ -78,7 +78,7 @@ module _ (out : Outside) (shelf shorts : ℕ) (shelf_before : shelf ≤ out.shel
     run = record {
       journal = x.run.journal;
       named = x.run.named;
-      form = x.run.form;
+      shape = x.run.shape;
       counted = x.run.counted;
       caused = caused_before x.ending events x.run.journal x.run.caused;
       text_is = x.run.text_is;

@@ -12,7 +12,7 @@ use Rattle.fam_journal.specs.declared.event.Event.{Event}
 use Rattle.fam_grammar.specs.Scripts.{LineReading, events_from, is_line_feed, line_reads, lines_of, script_events, with_line}
 use Rattle.fam_grammar.specs.Sound.{IfEvent}
 use Rattle.fam_program.specs.Far.{AreSoundEvents}
-use Rattle.fam_program.specs.LineByLine.{IsCut, StartsWith}
+use Rattle.fam_program.specs.LineByLine.{SplitsAtLine, StartsWith}
 use Rattle.fam_program.proofs.Scripts.Lines.{script_is}
 
 -- Readings with a value.
@@ -37,12 +37,12 @@ value_is said x y first second = sym (ap (λ r. result_unwrap_or r x) first) ∙
 abbrev pub NoFeed : List ℕ → ℕ → Type 0
 NoFeed script i = (k : ℕ) → k < i → is_line_feed (get_or script k 0) ≡ false
 
-pub cut_at : (script : List ℕ) (i : ℕ) → i < length script → NoFeed script i → is_line_feed (get_or script i 0) ≡ true → IsCut script (take i script) (take (length script - (i + 1)) (drop (i + 1) script))
+pub cut_at : (script : List ℕ) (i : ℕ) → i < length script → NoFeed script i → is_line_feed (get_or script i 0) ≡ true → SplitsAtLine script (take i script) (take (length script - (i + 1)) (drop (i + 1) script))
 cut_at script i within none here =
     let at : position_or_len is_line_feed script ≡ i = position_or_len_is is_line_feed script i 0 (omega arith) none (λ _. here) in
     inl (slice_split_first is_line_feed script 0 (omega (arith, at, within)) ∙ ap (λ (k : ℕ). take k script ∷ lines_of (drop (k + 1) script)) at ∙ ap (λ (bytes : List ℕ). take i script ∷ lines_of bytes) (sym (take_rest script (i + 1))))
 
-pub cut_none : (script : List ℕ) (i : ℕ) → i ≡ length script → NoFeed script i → IsCut script script []
+pub cut_none : (script : List ℕ) (i : ℕ) → i ≡ length script → NoFeed script i → SplitsAtLine script script []
 cut_none script i all none = inr (slice_split_none is_line_feed script (All-from_get_or (λ byte. is_line_feed byte ≡ false) script 0 (λ k within. none k (omega (arith, all, within)))), refl)
 
 -- Readings of lines.
@@ -85,11 +85,11 @@ pub none_in : script_events [] ≡ Ok []
 unfolding script_events line_reads
 none_in = refl
 
-module _ (script line rest : List ℕ) (cut : IsCut script line rest) where
+module _ (script line rest : List ℕ) (cut : SplitsAtLine script line rest) where
   by_line : script_events script ≡ with_line (line_reads line) 1 (events_from line_reads 2 (lines_of rest))
   by_line = script_is script ∙ by_cut cut
     where
-      by_cut : IsCut script line rest → events_from line_reads 1 (lines_of script) ≡ with_line (line_reads line) 1 (events_from line_reads 2 (lines_of rest))
+      by_cut : SplitsAtLine script line rest → events_from line_reads 1 (lines_of script) ≡ with_line (line_reads line) 1 (events_from line_reads 2 (lines_of rest))
       by_cut (inl is) = ap (events_from line_reads 1) is
       by_cut (inr all) =
           ap (events_from line_reads 1) all.0

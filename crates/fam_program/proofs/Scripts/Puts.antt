@@ -40,7 +40,7 @@ abbrev to_run : (ending : Ending) (out : Outside) (events : List Event) (journal
 to_run ending out events journal text own x text_is status_is = record {
   journal = journal;
   named = x.named;
-  form = x.form;
+  shape = x.shape;
   counted = x.counted;
   caused = x.caused;
   text_is = text_is;
@@ -249,7 +249,7 @@ module _ (b : Base) (shelf : ShelfChange) (all : SinkChange) where
       }
         where
           same : m.world.journal ≡ n.world.journal
-          same = x.adds.joined ∙ ap (λ (ns : List Note). n.world.journal ++ ns) x.adds.form.none ∙ append-nil n.world.journal
+          same = x.adds.joined ∙ ap (λ (ns : List Note). n.world.journal ++ ns) x.adds.shape.none ∙ append-nil n.world.journal
 
       -- no memory was left for the event
       part_script : (x : EventPart e a) → PutShort (names_behind [] n.world.journal) x.adds.notes s given → ScriptRan b.events (out_at m) given
@@ -293,7 +293,7 @@ module _ (b : Base) (shelf : ShelfChange) (all : SinkChange) where
       -- an event whose source ended early has done nothing
       ended_part : (end : SourceEnd) → EventEnded e end a → EventPart e a
       ended_part end x = record {
-        adds = record { notes = x.adds.notes; joined = x.adds.joined; named = x.adds.named; counted = x.adds.counted; later = x.adds.later; fits = x.adds.fits; formed = x.adds.formed; form = inl x.adds.form.none };
+        adds = record { notes = x.adds.notes; joined = x.adds.joined; named = x.adds.named; counted = x.adds.counted; later = x.adds.later; fits = x.adds.fits; shaped = x.adds.shaped; shape = inl x.adds.shape.none };
         keeps = λ start files state files_are told_is held.
             let k = x.keeps start files state files_are told_is held in
             record {

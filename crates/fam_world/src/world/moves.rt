@@ -14,7 +14,7 @@ ghost use Rattle.fam_machine.specs.HostMoves as how;
 ghost use Rattle.fam_journal.specs.Calls.{Moves};
 ghost use Rattle.fam_journal.specs.CallRecords.{MediaCall};
 ghost use Rattle.fam_world.specs.Answers.{IfAnswered, IsUntouched};
-ghost use Rattle.fam_world.specs.Moves.{fault_of, move_of};
+ghost use Rattle.fam_world.specs.Moves.{send_fault, move_of};
 
 use super::World;
 use crate::fault::WorldFault;
@@ -38,7 +38,7 @@ enum OwnMove {
 
 /// That a send failed, as a fault of a cache.
 fn sends(sent: Result<(), Failed>) -> Result<(), CacheFault>
-    ensures { result ≡ fault_of sent }
+    ensures { result ≡ send_fault sent }
 {
     match sent {
         Ok(()) => Ok(()),

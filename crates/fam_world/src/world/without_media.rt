@@ -8,7 +8,7 @@ ghost use Rattle.fam_journal.specs.CallRecords.{WorldCall};
 ghost use Rattle.fam_base.specs.Commands.{IsSoundCmd};
 ghost use Rattle.fam_notes.specs.Commands.{command_of};
 ghost use Rattle.fam_tasks.specs.Sound.{most_lines};
-ghost use Rattle.fam_world.specs.Answers.{IfAnswered, refusal_told};
+ghost use Rattle.fam_world.specs.Answers.{IfAnswered, refusal_given};
 ghost use Rattle.fam_commands.specs.Classes.{is_mount};
 ghost use Rattle.fam_world.specs.View.{count_named, host_view, views};
 
@@ -90,7 +90,7 @@ impl World {
     /// a mount is to begin and the host keeps something of the log. Nothing is noted.
     pub fn may_begin(&self, lines: u64, name: &HostName, mount: bool) -> Result<(), Refusal>
         ensures first { (cmd : Cmd) → is_mount cmd ≡ mount
-            → refusal_told result ≡ refusal_in (Begins name.now cmd) self.now lines }
+            → refusal_given result ≡ refusal_in (Begins name.now cmd) self.now lines }
     {
         match may_begin(&self.hosts, lines, name, mount) {
             Ok(_) => Ok(()),

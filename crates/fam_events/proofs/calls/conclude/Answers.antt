@@ -20,8 +20,8 @@ returns-clause-says g c = λ files copied.
       shown = x.shown;
       journal = x.journal;
       says = subst (CallSays call a) (sym c.noted.ensures)
-          (media_says call a c.requires.formed c.requires.fits refl tt c.conclude.result x.answered
-          (λ e. finish_part c.args.name.now a c.requires.formed c.requires.fits refl (x.want e)));
+          (media_says call a c.requires.shaped c.requires.fits refl tt c.conclude.result x.answered
+          (λ e. finish_part c.args.name.now a c.requires.shaped c.requires.fits refl (x.want e)));
     }
 
 pub returns-clause-same : goal.returns-clause-same

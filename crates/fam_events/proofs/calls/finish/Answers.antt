@@ -16,8 +16,8 @@ returns-clause-says g c = λ files copied.
     let call : Call = Finishes c.args.name.now in
     let a : WorldChange = world_change g.M.Media.size g.M.Media.state c.args.media.now c.finish.new.media c.args.world.now c.finish.new.self files copied copied in
     subst (CallSays call a) (sym c.noted.ensures)
-    (media_says call a c.requires.formed c.requires.fits refl tt c.finish.result c.finish.ensures.answered
-    (λ e. finish_part c.args.name.now a c.requires.formed c.requires.fits refl (c.finish.ensures.want e)))
+    (media_says call a c.requires.shaped c.requires.fits refl tt c.finish.result c.finish.ensures.answered
+    (λ e. finish_part c.args.name.now a c.requires.shaped c.requires.fits refl (c.finish.ensures.want e)))
 
 pub returns-clause-same : goal.returns-clause-same
 returns-clause-same g c =

@@ -13,7 +13,7 @@ returns-in-Some-clause-says g c = λ files copied.
     let a : WorldChange = world_change g.M.Media.size g.M.Media.state c.args.media.now c.mkfs_cut.new.media c.args.world.now c.mkfs_cut.new.self files copied copied in
     subst (λ (halt : Option ℕ). CallSays (Makes c.args.name.now (mkfs_request r.fs r.unit r.log r.format r.force halt)) a c.made.result) (sym c.in-Some.is)
     (subst (CallSays (Makes c.args.name.now (mkfs_request r.fs r.unit r.log r.format r.force (Some c.in-Some.k))) a) (sym c.made.ensures)
-    (make_says c.args.name.now (mkfs_request r.fs r.unit r.log r.format r.force (Some c.in-Some.k)) a c.requires.formed c.requires.fits refl c.mkfs_cut.result c.mkfs_cut.ensures.answered
+    (make_says c.args.name.now (mkfs_request r.fs r.unit r.log r.format r.force (Some c.in-Some.k)) a c.requires.shaped c.requires.fits refl c.mkfs_cut.result c.mkfs_cut.ensures.answered
     (λ e. record { world = c.mkfs_cut.ensures.err e; media = ap (λ m. (g.M.Media.state m).image) (c.mkfs_cut.ensures.undone e); count = ap (λ m. (g.M.Media.state m).faults) (c.mkfs_cut.ensures.undone e) })))
 
 pub returns-in-None-clause-says : goal.returns-in-None-clause-says
@@ -22,7 +22,7 @@ returns-in-None-clause-says g c = λ files copied.
     let a : WorldChange = world_change g.M.Media.size g.M.Media.state c.args.media.now c.mkfs.new.media c.args.world.now c.mkfs.new.self files copied copied in
     subst (λ (halt : Option ℕ). CallSays (Makes c.args.name.now (mkfs_request r.fs r.unit r.log r.format r.force halt)) a c.made-in-None.result) (sym c.in-None.is)
     (subst (CallSays (Makes c.args.name.now (mkfs_request r.fs r.unit r.log r.format r.force None)) a) (sym c.made-in-None.ensures)
-    (make_says c.args.name.now (mkfs_request r.fs r.unit r.log r.format r.force None) a c.requires.formed c.requires.fits refl c.mkfs.result c.mkfs.ensures.answered
+    (make_says c.args.name.now (mkfs_request r.fs r.unit r.log r.format r.force None) a c.requires.shaped c.requires.fits refl c.mkfs.result c.mkfs.ensures.answered
     (λ e. record { world = c.mkfs.ensures.err e; media = ap (λ m. (g.M.Media.state m).image) (c.mkfs.ensures.undone e); count = ap (λ m. (g.M.Media.state m).faults) (c.mkfs.ensures.undone e) })))
 
 pub returns-in-Some-clause-untouched : goal.returns-in-Some-clause-untouched

@@ -2,7 +2,7 @@ use Rattle.std.proofs.Common.{◌≡◌, Some, Ok, Err, subst, ◌∙◌}
 use Rattle.fam_media.specs.Outside.{IfModelled}
 use Rattle.fam_media.specs.States.{change, ShelfChange}
 use Rattle.fam_events.specs.Rested.{IsRested}
-use Rattle.fam_journal.proofs.Forms.Views.{number_formed}
+use Rattle.fam_journal.proofs.Shapes.Views.{number_shaped}
 use Rattle.fam_events.specs.declared.asks.Asked.{Asked}
 use Rattle.fam_events.specs.WorldChange.{WorldChange, world_change}
 use Rattle.fam_events.specs.Begins.{AskBegun, AskSays}
@@ -10,13 +10,13 @@ use Rattle.fam_events.proofs.Events.{run_fault, run_refused, run_says, with_line
 use Rattle.fam_events.proofs.Resting.{run_same}
 use Rattle.fam_events.proofs.doing.run.Goals as goal
 
-pub finish-requires-clause-formed : goal.finish-requires-clause-formed
-finish-requires-clause-formed g c =
+pub finish-requires-clause-shaped : goal.finish-requires-clause-shaped
+finish-requires-clause-shaped g c =
     let shelf : ShelfChange = change g.S.Shelf.state c.args.shelf.now c.ask.new.shelf in
     let a : WorldChange = world_change g.M.Media.size g.M.Media.state c.args.media.now c.args.media.now c.args.world.now c.ask.new.world (g.S.Shelf.state c.args.shelf.now).files c.args.copied.now c.ask.new.copied in
     (subst (λ (x : Asked). AskSays c.args.name c.args.what shelf a (Ok x)) c.in-Ok-Begun.field-0-is
     (with_lines c.lines.result (g.M.Media.size c.args.media.now) c.lines.ensures.count c.args.name c.args.what shelf c.args.world.now c.ask.new.world (g.M.Media.state c.args.media.now).image (g.M.Media.state c.args.media.now).faults (g.S.Shelf.state c.args.shelf.now).files c.args.copied.now c.ask.new.copied (Ok c.in-Ok-Begun.field-0)
-    (c.in-Ok-Begun.ensures.says (g.M.Media.state c.args.media.now).image (g.M.Media.state c.args.media.now).faults) (g.met.M.Media.modelled c.args.media.now) c.requires.fits)).adds.formed
+    (c.in-Ok-Begun.ensures.says (g.M.Media.state c.args.media.now).image (g.M.Media.state c.args.media.now).faults) (g.met.M.Media.modelled c.args.media.now) c.requires.fits)).adds.shaped
 
 pub finish-requires-clause-fits : goal.finish-requires-clause-fits
 finish-requires-clause-fits g c =
@@ -38,7 +38,7 @@ pub returns-in-Ok-Begun-clause-says : goal.returns-in-Ok-Begun-clause-says
 returns-in-Ok-Begun-clause-says g c =
     let shelf : ShelfChange = change g.S.Shelf.state c.args.shelf.now c.ask.new.shelf in
     let a : WorldChange = world_change g.M.Media.size g.M.Media.state c.args.media.now c.args.media.now c.args.world.now c.ask.new.world (g.S.Shelf.state c.args.shelf.now).files c.args.copied.now c.ask.new.copied in
-    run_says c.args.name c.args.what (g.M.Media.size c.args.media.now) c.args.world.now c.ask.new.world c.finish.new.world (g.M.Media.state c.args.media.now).image (g.M.Media.state c.finish.new.media).image (g.M.Media.state c.args.media.now).faults (g.M.Media.state c.finish.new.media).faults (g.S.Shelf.state c.args.shelf.now).files c.args.copied.now c.ask.new.copied c.requires.formed
+    run_says c.args.name c.args.what (g.M.Media.size c.args.media.now) c.args.world.now c.ask.new.world c.finish.new.world (g.M.Media.state c.args.media.now).image (g.M.Media.state c.finish.new.media).image (g.M.Media.state c.args.media.now).faults (g.M.Media.state c.finish.new.media).faults (g.S.Shelf.state c.args.shelf.now).files c.args.copied.now c.ask.new.copied c.requires.shaped
     (subst (λ (x : Asked). AskSays c.args.name c.args.what shelf a (Ok x)) c.in-Ok-Begun.field-0-is
     (with_lines c.lines.result (g.M.Media.size c.args.media.now) c.lines.ensures.count c.args.name c.args.what shelf c.args.world.now c.ask.new.world (g.M.Media.state c.args.media.now).image (g.M.Media.state c.args.media.now).faults (g.S.Shelf.state c.args.shelf.now).files c.args.copied.now c.ask.new.copied (Ok c.in-Ok-Begun.field-0)
     (c.in-Ok-Begun.ensures.says (g.M.Media.state c.args.media.now).image (g.M.Media.state c.args.media.now).faults) (g.met.M.Media.modelled c.args.media.now) c.requires.fits))
@@ -59,8 +59,8 @@ returns-in-Ok-Begun-clause-same g c =
     let begun : AskBegun c.args.name c.args.what a = subst (λ (x : Asked). AskSays c.args.name c.args.what shelf a (Ok x)) c.in-Ok-Begun.field-0-is
     (with_lines c.lines.result (g.M.Media.size c.args.media.now) c.lines.ensures.count c.args.name c.args.what shelf c.args.world.now c.ask.new.world (g.M.Media.state c.args.media.now).image (g.M.Media.state c.args.media.now).faults (g.S.Shelf.state c.args.shelf.now).files c.args.copied.now c.ask.new.copied (Ok c.in-Ok-Begun.field-0)
     (c.in-Ok-Begun.ensures.says (g.M.Media.state c.args.media.now).image (g.M.Media.state c.args.media.now).faults) (g.met.M.Media.modelled c.args.media.now) c.requires.fits) in
-    let number = number_formed (g.M.Media.size c.args.media.now) c.args.world.now c.requires.formed c.args.name ∙ begun.adds.form.starts.number in
-    run_same c.finish.result c.ask.new.world c.args.name begun.adds.form.starts.host (IsRested c.args.world.now) (IfModelled (g.M.Media.state c.args.media.now).image (λ image. (g.M.Media.state c.finish.new.media).image ≡ Some image)) (begun.number ∙ number) (λ rested. c.in-Ok-Begun.ensures.unstored c.in-Ok-Begun.field-0-is rested begun.adds.form.starts.host number) c.finish.ensures.same
+    let number = number_shaped (g.M.Media.size c.args.media.now) c.args.world.now c.requires.shaped c.args.name ∙ begun.adds.shape.starts.number in
+    run_same c.finish.result c.ask.new.world c.args.name begun.adds.shape.starts.host (IsRested c.args.world.now) (IfModelled (g.M.Media.state c.args.media.now).image (λ image. (g.M.Media.state c.finish.new.media).image ≡ Some image)) (begun.number ∙ number) (λ rested. c.in-Ok-Begun.ensures.unstored c.in-Ok-Begun.field-0-is rested begun.adds.shape.starts.host number) c.finish.ensures.same
 
 pub returns-in-Err-clause-same : goal.returns-in-Err-clause-same
 returns-in-Err-clause-same g c = λ rested. λ image is. is

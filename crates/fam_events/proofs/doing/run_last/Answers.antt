@@ -2,7 +2,7 @@ use Rattle.std.proofs.Common.{◌≡◌, Some, Ok, Err, refl, subst, sym, ◌∙
 use Rattle.fam_media.specs.Outside.{IfModelled}
 use Rattle.fam_media.specs.States.{change, ShelfChange}
 use Rattle.fam_events.specs.Rested.{IsRested}
-use Rattle.fam_journal.proofs.Forms.Views.{number_formed}
+use Rattle.fam_journal.proofs.Shapes.Views.{number_shaped}
 use Rattle.fam_events.specs.declared.asks.Asked.{Asked}
 use Rattle.fam_events.specs.WorldChange.{WorldChange, world_change}
 use Rattle.fam_events.specs.Begins.{AskBegun, AskSays}
@@ -10,13 +10,13 @@ use Rattle.fam_events.proofs.Events.{run_fault, run_refused, run_says, with_line
 use Rattle.fam_events.proofs.Resting.{run_same}
 use Rattle.fam_events.proofs.doing.run_last.Goals as goal
 
-pub conclude-requires-clause-formed : goal.conclude-requires-clause-formed
-conclude-requires-clause-formed g c =
+pub conclude-requires-clause-shaped : goal.conclude-requires-clause-shaped
+conclude-requires-clause-shaped g c =
     let shelf : ShelfChange = change g.S.Shelf.state c.args.shelf.now c.ask.new.shelf in
     let a : WorldChange = world_change g.M.Media.size g.M.Media.state c.args.media.now c.args.media.now c.args.world.now c.ask.new.world (g.S.Shelf.state c.args.shelf.now).files c.args.copied.now c.ask.new.copied in
     (subst (λ (x : Asked). AskSays c.args.name c.args.what shelf a (Ok x)) c.in-Ok-Begun.field-0-is
     (with_lines c.lines.result (g.M.Media.size c.args.media.now) c.lines.ensures.count c.args.name c.args.what shelf c.args.world.now c.ask.new.world (g.M.Media.state c.args.media.now).image (g.M.Media.state c.args.media.now).faults (g.S.Shelf.state c.args.shelf.now).files c.args.copied.now c.ask.new.copied (Ok c.in-Ok-Begun.field-0)
-    (c.in-Ok-Begun.ensures.says (g.M.Media.state c.args.media.now).image (g.M.Media.state c.args.media.now).faults) (g.met.M.Media.modelled c.args.media.now) c.requires.fits)).adds.formed
+    (c.in-Ok-Begun.ensures.says (g.M.Media.state c.args.media.now).image (g.M.Media.state c.args.media.now).faults) (g.met.M.Media.modelled c.args.media.now) c.requires.fits)).adds.shaped
 
 pub conclude-requires-clause-fits : goal.conclude-requires-clause-fits
 conclude-requires-clause-fits g c =
@@ -59,7 +59,7 @@ returns-in-Ok-Begun-clause-says g c =
     record {
       shown = x.shown;
       journal = x.journal;
-      says = run_says c.args.name c.args.what (g.M.Media.size c.args.media.now) c.args.world.now c.ask.new.world x.shown (g.M.Media.state c.args.media.now).image (g.M.Media.state c.conclude.new.media).image (g.M.Media.state c.args.media.now).faults (g.M.Media.state c.conclude.new.media).faults (g.S.Shelf.state c.args.shelf.now).files c.args.copied.now c.ask.new.copied c.requires.formed
+      says = run_says c.args.name c.args.what (g.M.Media.size c.args.media.now) c.args.world.now c.ask.new.world x.shown (g.M.Media.state c.args.media.now).image (g.M.Media.state c.conclude.new.media).image (g.M.Media.state c.args.media.now).faults (g.M.Media.state c.conclude.new.media).faults (g.S.Shelf.state c.args.shelf.now).files c.args.copied.now c.ask.new.copied c.requires.shaped
           (subst (λ (x : Asked). AskSays c.args.name c.args.what shelf a (Ok x)) c.in-Ok-Begun.field-0-is
           (with_lines c.lines.result (g.M.Media.size c.args.media.now) c.lines.ensures.count c.args.name c.args.what shelf c.args.world.now c.ask.new.world (g.M.Media.state c.args.media.now).image (g.M.Media.state c.args.media.now).faults (g.S.Shelf.state c.args.shelf.now).files c.args.copied.now c.ask.new.copied (Ok c.in-Ok-Begun.field-0)
           (c.in-Ok-Begun.ensures.says (g.M.Media.state c.args.media.now).image (g.M.Media.state c.args.media.now).faults) (g.met.M.Media.modelled c.args.media.now) c.requires.fits))
@@ -85,8 +85,8 @@ returns-in-Ok-Begun-clause-same g c =
     let begun : AskBegun c.args.name c.args.what a = subst (λ (x : Asked). AskSays c.args.name c.args.what shelf a (Ok x)) c.in-Ok-Begun.field-0-is
     (with_lines c.lines.result (g.M.Media.size c.args.media.now) c.lines.ensures.count c.args.name c.args.what shelf c.args.world.now c.ask.new.world (g.M.Media.state c.args.media.now).image (g.M.Media.state c.args.media.now).faults (g.S.Shelf.state c.args.shelf.now).files c.args.copied.now c.ask.new.copied (Ok c.in-Ok-Begun.field-0)
     (c.in-Ok-Begun.ensures.says (g.M.Media.state c.args.media.now).image (g.M.Media.state c.args.media.now).faults) (g.met.M.Media.modelled c.args.media.now) c.requires.fits) in
-    let number = number_formed (g.M.Media.size c.args.media.now) c.args.world.now c.requires.formed c.args.name ∙ begun.adds.form.starts.number in
-    run_same c.conclude.result c.ask.new.world c.args.name begun.adds.form.starts.host (IsRested c.args.world.now) (IfModelled (g.M.Media.state c.args.media.now).image (λ image. (g.M.Media.state c.conclude.new.media).image ≡ Some image)) (begun.number ∙ number) (λ rested. c.in-Ok-Begun.ensures.unstored c.in-Ok-Begun.field-0-is rested begun.adds.form.starts.host number) c.conclude.ensures.same
+    let number = number_shaped (g.M.Media.size c.args.media.now) c.args.world.now c.requires.shaped c.args.name ∙ begun.adds.shape.starts.number in
+    run_same c.conclude.result c.ask.new.world c.args.name begun.adds.shape.starts.host (IsRested c.args.world.now) (IfModelled (g.M.Media.state c.args.media.now).image (λ image. (g.M.Media.state c.conclude.new.media).image ≡ Some image)) (begun.number ∙ number) (λ rested. c.in-Ok-Begun.ensures.unstored c.in-Ok-Begun.field-0-is rested begun.adds.shape.starts.host number) c.conclude.ensures.same
 
 pub returns-in-Err-clause-same : goal.returns-in-Err-clause-same
 returns-in-Err-clause-same g c = λ rested. λ image is. is

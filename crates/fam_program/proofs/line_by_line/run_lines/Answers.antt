@@ -25,7 +25,7 @@ happen-requires g c =
     let s = subst (λ (event : Option Event). StartsWith c.lines.rest.now event c.in-Ok.read.1.now) c.in-Some.is c.in-Ok.ensures.starts in
     record {
       sound = next_sound c.lines.invariant.turns (left_is c.lines.invariant s);
-      formed = c.lines.invariant.turns.far.formed;
+      shaped = c.lines.invariant.turns.far.shaped;
       fits = fits_here c.lines.invariant.turns;
     }
 

@@ -10,13 +10,13 @@ use Rattle.fam_program.proofs.unprinted.run_alone.Goals as goal
 pub happen-requires : goal.happen-requires
 happen-requires g c =
     let t = before_run g.M.Media.size g.M.Media.state g.S.Shelf.state c.args.name c.args.me c.args.what c.args.media.now c.args.shelf.now c.args.world.now c.requires.sound c.requires.fresh c.is_image.ensures in
-    record { sound = tt; formed = t.far.formed; fits = fits_here t }
+    record { sound = tt; shaped = t.far.shaped; fits = fits_here t }
 
 pub run_last-requires : goal.run_last-requires
 run_last-requires g c =
     let first = before_run g.M.Media.size g.M.Media.state g.S.Shelf.state c.args.name c.args.me c.args.what c.args.media.now c.args.shelf.now c.args.world.now c.requires.sound c.requires.fresh c.is_image.ensures in
     let t = goes_on first refl (turned first refl c.happen.new.media c.happen.new.shelf c.happen.new.world c.happen.new.copied (Ok tt) c.happen.ensures.size c.happen.ensures.steady c.in-Ok.ensures.says) in
-    record { sound = c.requires.sound; formed = t.far.formed; fits = fits_here t }
+    record { sound = c.requires.sound; shaped = t.far.shaped; fits = fits_here t }
 
 pub returns-in-Err : goal.returns-in-Err
 returns-in-Err g c =

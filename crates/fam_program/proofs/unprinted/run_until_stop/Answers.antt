@@ -22,7 +22,7 @@ events-init g c = record {
 pub happen-requires : goal.happen-requires
 happen-requires g c = record {
   sound = next_sound c.events.invariant.turns c.in-Some.ensures.steps.0;
-  formed = c.events.invariant.turns.far.formed;
+  shaped = c.events.invariant.turns.far.shaped;
   fits = fits_here c.events.invariant.turns;
 }
 

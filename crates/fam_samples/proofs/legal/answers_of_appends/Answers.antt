@@ -6,7 +6,7 @@ use Rattle.fam_base.specs.declared.entry.Kind.TheVariants as kind
 use Rattle.fam_rules.specs.declared.answers.Refused.TheVariants as cause
 use Rattle.fam_rules.specs.Content.{fill}
 use Rattle.fam_journal.specs.Past.{HostPast, new_host}
-use Rattle.fam_samples.specs.Scene.{client, folder, held, long, master, mkdir, params, x}
+use Rattle.fam_samples.specs.Scene.{client_uuid, folder, held, long, master, mkdir, params, x}
 use Rattle.fam_samples.proofs.Decided.{again, decides, first}
 use Rattle.fam_samples.proofs.Longs.{length-long, long_named, long_says, long_wished}
 use Rattle.fam_samples.proofs.legal.answers_of_appends.Goals as goal
@@ -44,7 +44,7 @@ last_byte : List ℕ → ℕ
 last_byte bytes = get_or bytes 15 0
 
 -- two hosts
-other_host : client ≡ master → ⊥
+other_host : client_uuid ≡ master → ⊥
 unfolding last_byte
 other_host e = let b : 2 ≡ 1 = ap last_byte e in absurd (omega (arith, b))
 
@@ -61,7 +61,7 @@ returns-clause-other_limit c = λ a. absurd (omega (arith, (long_says params (st
 
 pub returns-clause-long_of_client : goal.returns-clause-long_of_client
 returns-clause-long_of_client c = λ a.
-    other_host (long_says params (record (new_host (codes "c") client) { cmd = Some (mkdir (long 169)) }) (long 169) 168 refl a).master
+    other_host (long_says params (record (new_host (codes "c") client_uuid) { cmd = Some (mkdir (long 169)) }) (long 169) 168 refl a).master
 
 pub returns-clause-long_read : goal.returns-clause-long_read
 returns-clause-long_read c = λ a. long_wished a.params (record (new_host (codes "m") master) { cmd = Some Logplay }) Logplay 168 refl refl a.names

@@ -4,7 +4,7 @@ use Rattle.fam_rules.specs.declared.answers.Refused.{Refused}
 use Rattle.fam_rules.specs.declared.answers.Refused.TheVariants as cause
 use Rattle.fam_rules.specs.Content.{fill}
 use Rattle.fam_journal.specs.Past.{new_host}
-use Rattle.fam_samples.specs.Scene.{client, folder, master, mkdir, params, x, y}
+use Rattle.fam_samples.specs.Scene.{client_uuid, folder, master, mkdir, params, x, y}
 use Rattle.fam_samples.proofs.Decided.{decides, first, of_client, other_name}
 use Rattle.fam_samples.proofs.legal.notes_of_the_master.Goals as goal
 
@@ -23,4 +23,4 @@ returns-clause-other_entry c = λ a.
 pub returns-clause-client : goal.returns-clause-client
 unfolding fill
 returns-clause-client c = λ a.
-    absurd (let e : Some (Err (cause.NotMaster client master)) ≡ Some (Ok (folder x)) = sym of_client ∙ decides params (record (new_host (codes "c") client) { cmd = Some (mkdir x); floor = Some 0 }) [] (Ok (folder x)) (mkdir x) refl a.1 in cc)
+    absurd (let e : Some (Err (cause.NotMaster client_uuid master)) ≡ Some (Ok (folder x)) = sym of_client ∙ decides params (record (new_host (codes "c") client_uuid) { cmd = Some (mkdir x); floor = Some 0 }) [] (Ok (folder x)) (mkdir x) refl a.1 in cc)

@@ -3,11 +3,11 @@ use Rattle.fam_journal.specs.Calls.{refusal_of}
 use Rattle.fam_journal.specs.Events.{Session, first_session}
 use Rattle.fam_journal.specs.Notes.{Halt, Host, Refused}
 use Rattle.fam_journal.specs.declared.refusal.Refusal.TheVariants as why
-use Rattle.fam_samples.specs.Scene.{master, one_host, session}
+use Rattle.fam_samples.specs.Scene.{master, one_host, unread_session}
 use Rattle.fam_samples.proofs.machine.events.Goals as goal
 
 abbrev one : Session
-one = session (one_host [] None)
+one = unread_session (one_host [] None)
 
 pub returns-clause-ten : goal.returns-clause-ten
 unfolding refusal_of

@@ -2,7 +2,7 @@ use Rattle.std.proofs.Common.{◌∙◌, sym, refl, length, arith}
 use Rattle.std.proofs.lemmas.List.{length-map}
 use Rattle.std.proofs.lemmas.Option.{slice_get_read}
 use Rattle.fam_journal.specs.ByWorld.{shown_host}
-use Rattle.fam_world.specs.View.{host_view, shown, views}
+use Rattle.fam_world.specs.View.{host_view, shown_hosts, views}
 use Rattle.fam_world.proofs.Members.{map_at}
 use Rattle.fam_world.proofs.Places.{dirty_here, dirty_next, dirty_past}
 use Rattle.fam_world.proofs.find.dirty_host.Goals as goal
@@ -11,7 +11,7 @@ pub returns-then-is_dirty_other-clause-is : goal.returns-then-is_dirty_other-cla
 returns-then-is_dirty_other-clause-is c =
     let items = c.args.hosts.now.items in
     let at_is = slice_get_read items (length items) c.loop-at.at c.index.result.now refl (omega (arith, c.loop-at-test.true, c.len-at-end.ensures)) c.index.ensures in
-    sym (dirty_here c.args.maker (shown items) c.loop-at.at c.loop-at.at _
+    sym (dirty_here c.args.maker (shown_hosts items) c.loop-at.at c.loop-at.at _
     (map_at shown_host (views items) c.loop-at.at (host_view c.index.result.now) (map_at host_view items c.loop-at.at c.index.result.now at_is))
     (sym c.is_dirty_other.ensures ∙ c.if-is_dirty_other.true))
     ∙ c.loop-at.invariant
@@ -20,7 +20,7 @@ pub loop-at-preserved : goal.loop-at-preserved
 loop-at-preserved c =
     let items = c.args.hosts.now.items in
     let at_is = slice_get_read items (length items) c.loop-at.at c.index.result.now refl (omega (arith, c.loop-at-test.true, c.len-at-end.ensures)) c.index.ensures in
-    sym (dirty_next c.args.maker (shown items) c.loop-at.at c.loop-at.at _
+    sym (dirty_next c.args.maker (shown_hosts items) c.loop-at.at c.loop-at.at _
     (map_at shown_host (views items) c.loop-at.at (host_view c.index.result.now) (map_at host_view items c.loop-at.at c.index.result.now at_is))
     (sym c.is_dirty_other.ensures ∙ c.if-is_dirty_other.false))
     ∙ c.loop-at.invariant
@@ -28,6 +28,6 @@ loop-at-preserved c =
 pub returns-clause-is : goal.returns-clause-is
 returns-clause-is c =
     let items = c.args.hosts.now.items in
-    sym (dirty_past c.args.maker (shown items) c.loop-at.at c.loop-at.at
+    sym (dirty_past c.args.maker (shown_hosts items) c.loop-at.at c.loop-at.at
     (omega (arith, c.loop-at-test.false, c.len-at-end.ensures, length-map (views items) shown_host, length-map items host_view)))
     ∙ c.loop-at.invariant

@@ -3,7 +3,7 @@ use Rattle.std.proofs.lemmas.List.{length-map}
 use Rattle.std.proofs.lemmas.Option.{slice_get_read}
 use Rattle.fam_journal.specs.Calls.{is_engaged}
 use Rattle.fam_journal.specs.ByWorld.{shown_host}
-use Rattle.fam_world.specs.View.{host_view, shown, views}
+use Rattle.fam_world.specs.View.{host_view, shown_hosts, views}
 use Rattle.fam_world.proofs.Members.{map_at}
 use Rattle.fam_world.proofs.Places.{place_here, place_next, place_past}
 use Rattle.fam_world.proofs.find.engaged_host.Goals as goal
@@ -12,7 +12,7 @@ pub returns-then-is_engaged-clause-is : goal.returns-then-is_engaged-clause-is
 returns-then-is_engaged-clause-is c =
     let items = c.args.hosts.now.items in
     let at_is = slice_get_read items (length items) c.loop-at.at c.index.result.now refl (omega (arith, c.loop-at-test.true, c.len-at-end.ensures)) c.index.ensures in
-    sym (place_here (is_engaged) (shown items) c.loop-at.at c.loop-at.at _
+    sym (place_here (is_engaged) (shown_hosts items) c.loop-at.at c.loop-at.at _
     (map_at shown_host (views items) c.loop-at.at (host_view c.index.result.now) (map_at host_view items c.loop-at.at c.index.result.now at_is))
     (sym c.is_engaged.ensures ∙ c.if-is_engaged.true))
     ∙ c.loop-at.invariant
@@ -21,7 +21,7 @@ pub loop-at-preserved : goal.loop-at-preserved
 loop-at-preserved c =
     let items = c.args.hosts.now.items in
     let at_is = slice_get_read items (length items) c.loop-at.at c.index.result.now refl (omega (arith, c.loop-at-test.true, c.len-at-end.ensures)) c.index.ensures in
-    sym (place_next (is_engaged) (shown items) c.loop-at.at c.loop-at.at _
+    sym (place_next (is_engaged) (shown_hosts items) c.loop-at.at c.loop-at.at _
     (map_at shown_host (views items) c.loop-at.at (host_view c.index.result.now) (map_at host_view items c.loop-at.at c.index.result.now at_is))
     (sym c.is_engaged.ensures ∙ c.if-is_engaged.false))
     ∙ c.loop-at.invariant
@@ -29,6 +29,6 @@ loop-at-preserved c =
 pub returns-clause-is : goal.returns-clause-is
 returns-clause-is c =
     let items = c.args.hosts.now.items in
-    sym (place_past (is_engaged) (shown items) c.loop-at.at c.loop-at.at
+    sym (place_past (is_engaged) (shown_hosts items) c.loop-at.at c.loop-at.at
     (omega (arith, c.loop-at-test.false, c.len-at-end.ensures, length-map (views items) shown_host, length-map items host_view)))
     ∙ c.loop-at.invariant

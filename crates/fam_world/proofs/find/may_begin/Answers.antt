@@ -8,7 +8,7 @@ use Rattle.fam_format.specs.Layout.{least_lines}
 use Rattle.fam_journal.specs.declared.refusal.Refusal.TheVariants as why
 use Rattle.fam_journal.specs.Calls as call
 use Rattle.fam_journal.specs.Calls.{is_busy_host, is_kept_host}
-use Rattle.fam_world.specs.View.{host_view, shown, views}
+use Rattle.fam_world.specs.View.{host_view, shown_hosts, views}
 use Rattle.fam_world.proofs.Deciding.{begins_by, begins_first, busy_read, kept_read, nobody}
 use Rattle.fam_world.proofs.find.may_begin.Goals as goal
 
@@ -24,7 +24,7 @@ returns-then-lines-lt-LEAST_LINES-clause-placed c = λ cmd journal same.
     let small : nat_lt c.args.lines least_lines ≡ true = grind (arith, nat_tests, c.if-lines-lt-LEAST_LINES.true) in
     record {
       first = begins_first (views items) journal c.args.name.now c.args.lines _ (sym c.number.ensures.is ∙ c.in-Some.is) cmd
-          ∙ ap (λ (b : Bool). begins_by b (is_busy_host (slice_get (shown items) at)) (is_mount cmd) (is_kept_host (slice_get (shown items) at)) c.args.lines at) small;
+          ∙ ap (λ (b : Bool). begins_by b (is_busy_host (slice_get (shown_hosts items) at)) (is_mount cmd) (is_kept_host (slice_get (shown_hosts items) at)) c.args.lines at) small;
       plain = tt;
       named = tt;
       faultless = refl;
@@ -36,11 +36,11 @@ returns-then-is_busy-clause-placed c = λ cmd journal same.
     let at = c.in-Some.at in
     let at_is = slice_get_read items (length items) at c.index-host.result.now refl (omega (arith, c.in-Some.ensures.within)) c.index-host.ensures in
     let wide : nat_lt c.args.lines least_lines ≡ false = grind (arith, nat_tests, c.if-lines-lt-LEAST_LINES.false) in
-    let busy : is_busy_host (slice_get (shown items) at) ≡ true = busy_read items at c.index-host.result.now at_is ∙ sym c.is_busy.ensures.busy ∙ c.if-is_busy.true in
+    let busy : is_busy_host (slice_get (shown_hosts items) at) ≡ true = busy_read items at c.index-host.result.now at_is ∙ sym c.is_busy.ensures.busy ∙ c.if-is_busy.true in
     record {
       first = begins_first (views items) journal c.args.name.now c.args.lines _ (sym c.number.ensures.is ∙ c.in-Some.is) cmd
-          ∙ ap (λ (b : Bool). begins_by b (is_busy_host (slice_get (shown items) at)) (is_mount cmd) (is_kept_host (slice_get (shown items) at)) c.args.lines at) wide
-          ∙ ap (λ (b : Bool). begins_by false b (is_mount cmd) (is_kept_host (slice_get (shown items) at)) c.args.lines at) busy;
+          ∙ ap (λ (b : Bool). begins_by b (is_busy_host (slice_get (shown_hosts items) at)) (is_mount cmd) (is_kept_host (slice_get (shown_hosts items) at)) c.args.lines at) wide
+          ∙ ap (λ (b : Bool). begins_by false b (is_mount cmd) (is_kept_host (slice_get (shown_hosts items) at)) c.args.lines at) busy;
       plain = tt;
       named = omega (arith, c.in-Some.ensures.within, length-map items host_view);
       faultless = refl;
@@ -52,12 +52,12 @@ returns-then-mounts_again-clause-placed c = λ cmd journal same.
     let at = c.in-Some.at in
     let at_is = slice_get_read items (length items) at c.index-host.result.now refl (omega (arith, c.in-Some.ensures.within)) c.index-host.ensures in
     let wide : nat_lt c.args.lines least_lines ≡ false = grind (arith, nat_tests, c.if-lines-lt-LEAST_LINES.false) in
-    let idle : is_busy_host (slice_get (shown items) at) ≡ false = busy_read items at c.index-host.result.now at_is ∙ sym c.is_busy.ensures.busy ∙ c.if-is_busy.false in
+    let idle : is_busy_host (slice_get (shown_hosts items) at) ≡ false = busy_read items at c.index-host.result.now at_is ∙ sym c.is_busy.ensures.busy ∙ c.if-is_busy.false in
     let kept = kept_read items at c.index-host.result.now at_is in
-    let again : (is_mount cmd && is_kept_host (slice_get (shown items) at)) ≡ true = ap₂ (λ (b d : Bool). b && d) same kept ∙ sym c.mounts_again.ensures ∙ c.if-mounts_again.true in
+    let again : (is_mount cmd && is_kept_host (slice_get (shown_hosts items) at)) ≡ true = ap₂ (λ (b d : Bool). b && d) same kept ∙ sym c.mounts_again.ensures ∙ c.if-mounts_again.true in
     record {
       first = begins_first (views items) journal c.args.name.now c.args.lines _ (sym c.number.ensures.is ∙ c.in-Some.is) cmd
-          ∙ ap₂ (λ (b d : Bool). begins_by b d (is_mount cmd) (is_kept_host (slice_get (shown items) at)) c.args.lines at) wide idle
+          ∙ ap₂ (λ (b d : Bool). begins_by b d (is_mount cmd) (is_kept_host (slice_get (shown_hosts items) at)) c.args.lines at) wide idle
           ∙ ap (λ (b : Bool). call.when b why.Mounted) again;
       plain = tt;
       named = tt;
@@ -70,14 +70,14 @@ returns-clause-placed c = λ cmd journal same.
     let at = c.in-Some.at in
     let at_is = slice_get_read items (length items) at c.index-host.result.now refl (omega (arith, c.in-Some.ensures.within)) c.index-host.ensures in
     let wide : nat_lt c.args.lines least_lines ≡ false = grind (arith, nat_tests, c.if-lines-lt-LEAST_LINES.false) in
-    let idle : is_busy_host (slice_get (shown items) at) ≡ false = busy_read items at c.index-host.result.now at_is ∙ sym c.is_busy.ensures.busy ∙ c.if-is_busy.false in
+    let idle : is_busy_host (slice_get (shown_hosts items) at) ≡ false = busy_read items at c.index-host.result.now at_is ∙ sym c.is_busy.ensures.busy ∙ c.if-is_busy.false in
     let kept = kept_read items at c.index-host.result.now at_is in
-    let first : (is_mount cmd && is_kept_host (slice_get (shown items) at)) ≡ false = ap₂ (λ (b d : Bool). b && d) same kept ∙ sym c.mounts_again.ensures ∙ c.if-mounts_again.false in
+    let first : (is_mount cmd && is_kept_host (slice_get (shown_hosts items) at)) ≡ false = ap₂ (λ (b d : Bool). b && d) same kept ∙ sym c.mounts_again.ensures ∙ c.if-mounts_again.false in
     let number = sym c.number.ensures.is ∙ c.in-Some.is in
     record {
       number = number;
       free = begins_first (views items) journal c.args.name.now c.args.lines _ number cmd
-          ∙ ap₂ (λ (b d : Bool). begins_by b d (is_mount cmd) (is_kept_host (slice_get (shown items) at)) c.args.lines at) wide idle
+          ∙ ap₂ (λ (b d : Bool). begins_by b d (is_mount cmd) (is_kept_host (slice_get (shown_hosts items) at)) c.args.lines at) wide idle
           ∙ ap (λ (b : Bool). call.when b why.Mounted) first;
       within = omega (arith, c.in-Some.ensures.within, length-map items host_view);
     }

@@ -5,7 +5,7 @@ use Rattle.std.proofs.lemmas.Option.{same_Some, slice_get_read}
 use Rattle.fam_journal.specs.Calls as call
 use Rattle.fam_journal.specs.Calls.{is_busy_host, is_kept_host}
 use Rattle.fam_journal.specs.View.{HostView}
-use Rattle.fam_world.specs.View.{host_view, shown, views}
+use Rattle.fam_world.specs.View.{host_view, shown_hosts, views}
 use Rattle.fam_world.proofs.Deciding.{busy_read, idle_none, kept_read, nobody, umounts_by, umounts_first}
 use Rattle.fam_world.proofs.Members.{map_at}
 use Rattle.fam_world.proofs.find.mounted.Goals as goal
@@ -20,10 +20,10 @@ returns-then-is_busy-clause-placed c = λ lines journal.
     let items = c.args.hosts.now.items in
     let at = c.in-Some.at in
     let at_is = slice_get_read items (length items) at c.index-host.result.now refl (omega (arith, c.in-Some.ensures.within)) c.index-host.ensures in
-    let busy : is_busy_host (slice_get (shown items) at) ≡ true = busy_read items at c.index-host.result.now at_is ∙ sym c.is_busy.ensures.busy ∙ c.if-is_busy.true in
+    let busy : is_busy_host (slice_get (shown_hosts items) at) ≡ true = busy_read items at c.index-host.result.now at_is ∙ sym c.is_busy.ensures.busy ∙ c.if-is_busy.true in
     record {
       first = umounts_first (views items) journal c.args.name.now lines _ (sym c.number.ensures.is ∙ c.in-Some.is)
-          ∙ ap (λ (b : Bool). umounts_by b (is_kept_host (slice_get (shown items) at)) at) busy;
+          ∙ ap (λ (b : Bool). umounts_by b (is_kept_host (slice_get (shown_hosts items) at)) at) busy;
       plain = tt;
       named = omega (arith, c.in-Some.ensures.within, length-map items host_view);
       faultless = refl;
@@ -34,8 +34,8 @@ returns-then-not-keeps-clause-placed c = λ lines journal.
     let items = c.args.hosts.now.items in
     let at = c.in-Some.at in
     let at_is = slice_get_read items (length items) at c.index-host.result.now refl (omega (arith, c.in-Some.ensures.within)) c.index-host.ensures in
-    let idle : is_busy_host (slice_get (shown items) at) ≡ false = busy_read items at c.index-host.result.now at_is ∙ sym c.is_busy.ensures.busy ∙ c.if-is_busy.false in
-    let bare : is_kept_host (slice_get (shown items) at) ≡ false = kept_read items at c.index-host.result.now at_is ∙ sym c.keeps.ensures ∙ c.if-not-keeps.true in
+    let idle : is_busy_host (slice_get (shown_hosts items) at) ≡ false = busy_read items at c.index-host.result.now at_is ∙ sym c.is_busy.ensures.busy ∙ c.if-is_busy.false in
+    let bare : is_kept_host (slice_get (shown_hosts items) at) ≡ false = kept_read items at c.index-host.result.now at_is ∙ sym c.keeps.ensures ∙ c.if-not-keeps.true in
     record {
       first = umounts_first (views items) journal c.args.name.now lines _ (sym c.number.ensures.is ∙ c.in-Some.is)
           ∙ ap₂ (λ (b d : Bool). umounts_by b d at) idle bare;
@@ -49,8 +49,8 @@ returns-clause-placed c = λ lines journal.
     let items = c.args.hosts.now.items in
     let at = c.in-Some.at in
     let at_is = slice_get_read items (length items) at c.index-host.result.now refl (omega (arith, c.in-Some.ensures.within)) c.index-host.ensures in
-    let idle : is_busy_host (slice_get (shown items) at) ≡ false = busy_read items at c.index-host.result.now at_is ∙ sym c.is_busy.ensures.busy ∙ c.if-is_busy.false in
-    let kept : is_kept_host (slice_get (shown items) at) ≡ true = kept_read items at c.index-host.result.now at_is ∙ sym c.keeps.ensures ∙ c.if-not-keeps.false in
+    let idle : is_busy_host (slice_get (shown_hosts items) at) ≡ false = busy_read items at c.index-host.result.now at_is ∙ sym c.is_busy.ensures.busy ∙ c.if-is_busy.false in
+    let kept : is_kept_host (slice_get (shown_hosts items) at) ≡ true = kept_read items at c.index-host.result.now at_is ∙ sym c.keeps.ensures ∙ c.if-not-keeps.false in
     let number = sym c.number.ensures.is ∙ c.in-Some.is in
     record {
       number = number;

@@ -6,7 +6,7 @@ use Rattle.fam_journal.specs.declared.refusal.Refusal.TheVariants as why
 use Rattle.fam_journal.specs.Calls as call
 use Rattle.fam_journal.specs.Calls.{is_busy_host}
 use Rattle.fam_journal.specs.View.{HostView}
-use Rattle.fam_world.specs.View.{host_view, shown, views}
+use Rattle.fam_world.specs.View.{host_view, shown_hosts, views}
 use Rattle.fam_world.proofs.Deciding.{busy_read, nobody, steps_first}
 use Rattle.fam_world.proofs.Members.{map_at}
 use Rattle.fam_world.proofs.find.running.Goals as goal
@@ -21,7 +21,7 @@ returns-then-not-is_busy-clause-placed c = λ lines journal.
     let items = c.args.hosts.now.items in
     let at = c.in-Some.at in
     let at_is = slice_get_read items (length items) at c.index.result.now refl (omega (arith, c.in-Some.ensures.within)) c.index.ensures in
-    let idle : is_busy_host (slice_get (shown items) at) ≡ false = busy_read items at c.index.result.now at_is ∙ sym c.is_busy.ensures.busy ∙ c.if-not-is_busy.true in
+    let idle : is_busy_host (slice_get (shown_hosts items) at) ≡ false = busy_read items at c.index.result.now at_is ∙ sym c.is_busy.ensures.busy ∙ c.if-not-is_busy.true in
     record {
       first = steps_first (views items) journal c.args.name.now lines _ (sym c.number.ensures.is ∙ c.in-Some.is) ∙ ap (λ (b : Bool). call.when (not b) why.Idle) idle;
       plain = tt;
@@ -34,7 +34,7 @@ returns-clause-placed c = λ lines journal.
     let items = c.args.hosts.now.items in
     let at = c.in-Some.at in
     let at_is = slice_get_read items (length items) at c.index.result.now refl (omega (arith, c.in-Some.ensures.within)) c.index.ensures in
-    let busy : is_busy_host (slice_get (shown items) at) ≡ true = busy_read items at c.index.result.now at_is ∙ sym c.is_busy.ensures.busy ∙ c.if-not-is_busy.false in
+    let busy : is_busy_host (slice_get (shown_hosts items) at) ≡ true = busy_read items at c.index.result.now at_is ∙ sym c.is_busy.ensures.busy ∙ c.if-not-is_busy.false in
     let number = sym c.number.ensures.is ∙ c.in-Some.is in
     record {
       number = number;

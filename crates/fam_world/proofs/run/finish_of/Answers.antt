@@ -3,7 +3,7 @@ use Rattle.std.proofs.lemmas.Result.{err_from_is_err_and}
 use Rattle.fam_commands.specs.Kept.{Kept}
 use Rattle.fam_commands.specs.Task.{Task}
 use Rattle.fam_journal.specs.View.{HostView}
-use Rattle.fam_world.specs.Counted.{Ends, Runs, task_standing}
+use Rattle.fam_world.specs.Counted.{Ends, SomeSteps, task_standing}
 use Rattle.fam_world.specs.View.{host_view, kept_in, notes_view}
 use Rattle.fam_world.proofs.Following.{own_up}
 use Rattle.fam_world.proofs.run.finish_of.Goals as goal
@@ -17,7 +17,7 @@ returns-in_err-run_up-clause-runs g c =
     let new = c.run_up.new in
     let p = err_from_is_err_and c.from_residual.result c.from_residual.ensures.1 in
     rw p.1
-    (subst (λ (o : Option Task). Runs c.args.at size (task_standing g.M.Media.state c.args.media.now view o (kept_in o h.kept) h.cache notes) (task_standing g.M.Media.state new.media view (Some new.task) new.task.kept new.cache (notes_view new.journal.items))) (sym c.in-Some.is)
+    (subst (λ (o : Option Task). SomeSteps c.args.at size (task_standing g.M.Media.state c.args.media.now view o (kept_in o h.kept) h.cache notes) (task_standing g.M.Media.state new.media view (Some new.task) new.task.kept new.cache (notes_view new.journal.items))) (sym c.in-Some.is)
     (own_up (c.in_err-run_up.ensures.runs view)))
 
 pub returns-clause-runs : goal.returns-clause-runs

@@ -18,7 +18,7 @@ use Rattle.fam_run.proofs.Running.{kept_on, lines_kept}
 use Rattle.fam_run.proofs.Shown.{over}
 use Rattle.fam_journal.specs.Notes.{Note}
 use Rattle.fam_journal.specs.View.{HostView}
-use Rattle.fam_world.specs.Counted.{HostStanding, HostStep, Iterated, Runs, none, task_standing}
+use Rattle.fam_world.specs.Counted.{HostStanding, HostStep, Iterated, SomeSteps, none, task_standing}
 use Rattle.fam_world.specs.Turns.{IsNoted}
 use Rattle.fam_world.specs.View.{notes_view}
 use Rattle.fam_world.proofs.Counting.{ends_behind, held_steps, runs_all, runs_both}
@@ -114,7 +114,7 @@ operations-preserved g c =
     let here : HostView → HostStanding = λ view. task_standing m.state c.operations.media view (Some task) task.kept shown notes in
     let mid : HostView → HostStanding = λ view. task_standing m.state next.media view (Some next.task) next.task.kept x.after notes_now in
     let end : HostView → HostStanding = λ view. task_standing m.state next.media view (Some z.task) z.task.kept y.after notes_now in
-    let all : (view : HostView) → Runs at size (here view) (mid view) = λ view.
+    let all : (view : HostView) → SomeSteps at size (here view) (mid view) = λ view.
     all_go at size view told r notes notes_now c.note_turn.result noted modelled inv.fits c.advance.ensures.steady.later x.advanced is in
     let held : (view : HostView) → Iterated (HostStep at size false) (mid view) (end view) c.operate_cached.result = λ view.
     held_steps at size view notes_now (m.state next.media) (g.met.M.Media.normal next.media) (λ i told_is. g.met.M.Media.modelled next.media i told_is ∙ same_size)
@@ -148,7 +148,7 @@ returns-then-is_err-clause-runs g c = λ view.
     record {
       up = record {
         shown = inv.over.shown;
-        runs = subst (λ (j : List Note). Runs c.args.host.0 (m.size c.args.media.now)
+        runs = subst (λ (j : List Note). SomeSteps c.args.host.0 (m.size c.args.media.now)
             (task_standing m.state c.args.media.now view (Some c.args.task.now) c.args.task.now.kept c.args.cache.now (notes_view c.args.journal.now.items))
             (task_standing m.state c.operations.media view (Some c.operations.task) c.operations.task.kept inv.over.shown j)) (sym (ap notes_view c.make_room.ensures.same)) (inv.over.far view);
       };

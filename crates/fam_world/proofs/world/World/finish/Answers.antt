@@ -14,7 +14,7 @@ use Rattle.fam_journal.specs.Notes.{Note, Refused}
 use Rattle.fam_journal.specs.View.{HostView, WorldView}
 use Rattle.fam_notes.specs.declared.note.Note.{Note as Kept}
 use Rattle.fam_world.specs.Answers.{IfAnswered, IsRefused}
-use Rattle.fam_world.specs.Counted.{Ends, Runs, RunsUp, host_standing, told_of}
+use Rattle.fam_world.specs.Counted.{Ends, SomeSteps, RunsUp, host_standing, told_of}
 use Rattle.fam_world.specs.View.{host_view, notes_view, world_view}
 use Rattle.fam_world.proofs.Counting.{far_ends, far_runs, told_full}
 use Rattle.fam_world.proofs.Finishing.{finish_done, finish_lacks, finish_nothing, finishes_as_steps, view_set}
@@ -82,7 +82,7 @@ returns-clause-answered g c =
     let far = far_ends c.args.name.now at size old (host_view x) free.number (map_at host_view items at x at_is) free.within (m.state media).image (m.state media_now).image (m.state media).faults (m.state media_now).faults new (host_view y)
     (map_set host_view (λ v. host_view y) items at y x at_is refl) ends in
     subst (λ (w : WorldView). MediaCall (call.Finishes c.args.name.now) size None (change m.state media media_now) w new) c.self.view_is
-    (finish_done c.args.name.now at size old (m.state media).image (m.state media).faults new (m.state media_now).image (m.state media_now).faults far free.number free.free free.within (g.met.M.Media.modelled media)
+    (finish_done c.args.name.now at size far free.number free.free free.within (g.met.M.Media.modelled media)
     (λ v there. subst (λ (u : HostView). u.task ≡ None) (same_Some (host_view y) v (sym (view_set items at x y at_is) ∙ there)) (ok_then c.finish_of.result is c.finish_of.ensures.over)))))
 
 pub returns-clause-want : goal.returns-clause-want
@@ -101,11 +101,11 @@ returns-clause-want g c = λ full.
     let free = c.in-Ok.ensures.placed size old.journal in
     let new : WorldView = world_view (set items at y) c.finish_of.new.journal.items in
     let is = told_full c.finish_of.result (subst (λ r. IsErrOf r fault.OutOfMemory) c.or_fault.ensures full) in
-    let runs = subst (λ (j : List Note). Runs at size (host_standing m.state media (host_view x) j) (host_standing m.state media_now (host_view y) new.journal)) (ap notes_view c.make_room.ensures.same) (subst (RunsUp at size (host_standing m.state media (host_view x) (notes_view c.make_room.new.journal.items)) (host_standing m.state media_now (host_view y) new.journal)) is c.finish_of.ensures.runs) in
+    let runs = subst (λ (j : List Note). SomeSteps at size (host_standing m.state media (host_view x) j) (host_standing m.state media_now (host_view y) new.journal)) (ap notes_view c.make_room.ensures.same) (subst (RunsUp at size (host_standing m.state media (host_view x) (notes_view c.make_room.new.journal.items)) (host_standing m.state media_now (host_view y) new.journal)) is c.finish_of.ensures.runs) in
     let far = far_runs c.args.name.now at size old (host_view x) free.number view_is free.within (m.state media).image (m.state media_now).image (m.state media).faults (m.state media_now).faults new (host_view y)
     (map_set host_view (λ v. host_view y) items at y x at_is refl) runs in
     subst (λ (w : WorldView). FinishOutOfMemory c.args.name.now size (change m.state media media_now) w new) c.self.view_is
-    (finish_lacks c.args.name.now at size old (m.state media).image (m.state media).faults new (m.state media_now).image (m.state media_now).faults far free.number free.free free.within (g.met.M.Media.modelled media)
+    (finish_lacks c.args.name.now at size far free.number free.free free.within (g.met.M.Media.modelled media)
     (λ v there. subst (λ (u : HostView). is_some u.task ≡ true) (same_Some (host_view y) v (sym (view_set items at x y at_is) ∙ there)) (err_then c.finish_of.result is c.finish_of.ensures.on))
     (λ unstored. unstored_then x.task x.cache.lines _ (c.in-Ok.ensures.runs (host_view x) view_is) (unstored (host_view x) view_is) (err_then c.finish_of.result is c.finish_of.ensures.same)))
 

@@ -8,7 +8,7 @@ use Rattle.fam_journal.specs.declared.refusal.Refusal.{Refusal}
 use Rattle.fam_journal.specs.Calls as call
 use Rattle.fam_journal.specs.Calls.{busy_refusal, cause_of, dirty_from, dirty_refusal, is_engaged}
 use Rattle.fam_journal.specs.Members.{index_of}
-use Rattle.fam_world.specs.View.{host_view, shown, views}
+use Rattle.fam_world.specs.View.{host_view, shown_hosts, views}
 use Rattle.fam_world.proofs.Deciding.{early_known, makes_first, nobody}
 use Rattle.fam_world.proofs.world.make.maker.Goals as goal
 
@@ -24,7 +24,7 @@ returns-in-Some-early_cause-clause-placed c = λ journal.
     let known = early_known (length (views items)) (early_refusal c.args.request.now.unit c.args.request.now.log (line_bytes * c.args.lines)) c.in-Some-early_cause.cause early in
     record {
       first = makes_first (views items) journal c.args.name.now c.args.lines _ (sym c.number.ensures.is ∙ c.in-Some.is) c.args.request.now
-          ∙ ap (λ (e : Option Refusal). or_else e (or_else (busy_refusal (index_of is_engaged (shown items))) (dirty_refusal (dirty_from c.in-Some.at 0 (shown items))))) early;
+          ∙ ap (λ (e : Option Refusal). or_else e (or_else (busy_refusal (index_of is_engaged (shown_hosts items))) (dirty_refusal (dirty_from c.in-Some.at 0 (shown_hosts items))))) early;
       plain = c.in-Some-early_cause.ensures.plain;
       named = known.0;
       faultless = known.1;
@@ -37,7 +37,7 @@ returns-in-Some-engaged_host-clause-placed c = λ journal.
     let busy = sym c.engaged_host.ensures.is ∙ c.in-Some-engaged_host.is in
     record {
       first = makes_first (views items) journal c.args.name.now c.args.lines _ (sym c.number.ensures.is ∙ c.in-Some.is) c.args.request.now
-          ∙ ap₂ (λ (e : Option Refusal) (b : Option ℕ). or_else e (or_else (busy_refusal b) (dirty_refusal (dirty_from c.in-Some.at 0 (shown items))))) early busy;
+          ∙ ap₂ (λ (e : Option Refusal) (b : Option ℕ). or_else e (or_else (busy_refusal b) (dirty_refusal (dirty_from c.in-Some.at 0 (shown_hosts items))))) early busy;
       plain = tt;
       named = omega (arith, c.in-Some-engaged_host.ensures.within, length-map items host_view);
       faultless = refl;
@@ -51,7 +51,7 @@ returns-in-Some-dirty_host-clause-placed c = λ journal.
     let dirty = sym c.dirty_host.ensures.is ∙ c.in-Some-dirty_host.is in
     record {
       first = makes_first (views items) journal c.args.name.now c.args.lines _ (sym c.number.ensures.is ∙ c.in-Some.is) c.args.request.now
-          ∙ ap₂ (λ (e : Option Refusal) (b : Option ℕ). or_else e (or_else (busy_refusal b) (dirty_refusal (dirty_from c.in-Some.at 0 (shown items))))) early busy
+          ∙ ap₂ (λ (e : Option Refusal) (b : Option ℕ). or_else e (or_else (busy_refusal b) (dirty_refusal (dirty_from c.in-Some.at 0 (shown_hosts items))))) early busy
           ∙ ap dirty_refusal dirty;
       plain = tt;
       named = omega (arith, c.in-Some-dirty_host.ensures.within, length-map items host_view);
@@ -68,7 +68,7 @@ returns-clause-placed c = λ journal.
     record {
       number = number;
       free = makes_first (views items) journal c.args.name.now c.args.lines _ number c.args.request.now
-          ∙ ap₂ (λ (e : Option Refusal) (b : Option ℕ). or_else e (or_else (busy_refusal b) (dirty_refusal (dirty_from c.in-Some.at 0 (shown items))))) early busy
+          ∙ ap₂ (λ (e : Option Refusal) (b : Option ℕ). or_else e (or_else (busy_refusal b) (dirty_refusal (dirty_from c.in-Some.at 0 (shown_hosts items))))) early busy
           ∙ ap dirty_refusal dirty;
       within = omega (arith, c.in-Some.ensures.within, length-map items host_view);
     }

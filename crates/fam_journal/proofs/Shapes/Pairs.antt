@@ -6,7 +6,7 @@ use Rattle.std.proofs.lemmas.Bool.Decides.{nat_tests}
 use Rattle.std.proofs.lemmas.Option.{same_Some}
 use Rattle.fam_journal.specs.Calls.{dirty_from}
 use Rattle.fam_machine.specs.Caches.{dirty_count}
-use Rattle.fam_journal.specs.Forms.{Pairs}
+use Rattle.fam_journal.specs.Shapes.{Pairs}
 use Rattle.fam_journal.specs.Machines.{HostState}
 use Rattle.fam_journal.specs.Members.{changed_at}
 

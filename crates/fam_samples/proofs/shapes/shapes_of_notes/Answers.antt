@@ -2,7 +2,7 @@ use Rattle.std.proofs.Common.{[], ◌∷◌, refl}
 use Rattle.fam_journal.specs.Notes.{Answered, Found, Mark, Replied, Writes}
 use Rattle.fam_rules.specs.Reply.{Appended}
 use Rattle.fam_samples.specs.Scene.{folder, mkdir, x}
-use Rattle.fam_samples.proofs.forms.forms_of_notes.Goals as goal
+use Rattle.fam_samples.proofs.shapes.shapes_of_notes.Goals as goal
 
 pub returns-clause-done : goal.returns-clause-done
 returns-clause-done c = λ lines. record {
