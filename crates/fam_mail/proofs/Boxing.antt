@@ -10,9 +10,9 @@ use Rattle.fam_machine.specs.OneLine.{IsDirty}
 use Rattle.fam_protocol.specs.SharedState.{SharedState}
 use Rattle.fam_protocol.proofs.Lines.Moves.{never}
 use Rattle.fam_mail.specs.declared.check.WrongBox.TheVariants.{BadBox}
-use Rattle.fam_mail.specs.Boxes.{IsOneToOne, box_by, box_of, gate_in, record_at, record_before, records_from}
-use Rattle.fam_mail.specs.Mail.{Mail, listed, whole}
-use Rattle.fam_mail.specs.Protocol.{Box, Core, Invariant, gate_at}
+use Rattle.fam_mail.specs.Boxes.{IsOneToOne, box_by, box_of, box_gate, record_at, record_before, records_from}
+use Rattle.fam_mail.specs.Mail.{Mail, pending_list, whole}
+use Rattle.fam_mail.specs.Protocol.{Box, BoxCore, BoxInvariant, gate_at}
 use Rattle.fam_mail.proofs.Lists.{front_member}
 use Rattle.fam_mail.proofs.Settling.{few_pending}
 
@@ -32,7 +32,8 @@ module _ (each : ℕ → Result (List ℕ) ℕ) where
       member zero own is = ap each (omega arith) ∙ here ∙ ap (λ (ns : List ℕ). Ok ns) (same_Some numbers own is)
       member (suc k) own is = ap each (omega arith) ∙ read.member k own is
 
-  read_before : (i n : ℕ) (first : Result (List ℕ) ℕ) (rest : Result (List (List ℕ)) ℕ) (records : List (List ℕ)) → each i ≡ first → ((own : List (List ℕ)) → rest ≡ Ok own → AreRead each (suc i) n own)
+  read_before : (i n : ℕ) (first : Result (List ℕ) ℕ) (rest : Result (List (List ℕ)) ℕ) (records : List (List ℕ)) → each i ≡ first
+      → ((own : List (List ℕ)) → rest ≡ Ok own → AreRead each (suc i) n own)
       → record_before i first rest ≡ Ok records → AreRead each i (suc n) records
   read_before i n (Err word) rest records here behind is = absurd cc
   read_before i n (Ok numbers) (Err k) records here behind is = absurd cc
@@ -53,35 +54,40 @@ module _ (each : ℕ → Result (List ℕ) ℕ) where
 
 -- A box that is read as a list: its gate is the list's length.
 pub record IsBoxOf (place : ℕ → ℕ) (capacity : ℕ) (memory : ℕ → List ℕ) (records : List (List ℕ)) : Type 0 where
-  pub within : gate_in place memory ≤ capacity
-  pub read : AreRead (record_at place memory) 0 (gate_in place memory) records
+  pub within : box_gate place memory ≤ capacity
+  pub read : AreRead (record_at place memory) 0 (box_gate place memory) records
 
 module _ (place : ℕ → ℕ) (capacity : ℕ) (memory : ℕ → List ℕ) where
   all_read : (r : Result (List (List ℕ)) ℕ) (records : List (List ℕ)) → box_by r ≡ Ok records → r ≡ Ok records
   all_read (Ok own) records is = ap (λ (rs : List (List ℕ)). Ok rs) cc
   all_read (Err i) records is = absurd cc
 
+  -- a box that is read as a list is one of these records
   pub is_box : (records : List (List ℕ)) → box_of place capacity memory ≡ Ok records → IsBoxOf place capacity memory records
-  is_box records is = go (nat_lt capacity (gate_in place memory)) refl is
+  is_box records is = go (nat_lt capacity (box_gate place memory)) refl is
     where
-      go : (t : Bool) → nat_lt capacity (gate_in place memory) ≡ t
-          → cond t (Err (BadBox (gate_in place memory) capacity)) (box_by (records_from (record_at place memory) 0 (gate_in place memory))) ≡ Ok records → IsBoxOf place capacity memory records
+      go : (t : Bool) → nat_lt capacity (box_gate place memory) ≡ t
+          → cond t (Err (BadBox (box_gate place memory) capacity)) (box_by (records_from (record_at place memory) 0 (box_gate place memory))) ≡ Ok records → IsBoxOf place capacity memory records
       go true above e = absurd cc
       go false above e =
-          record { within = grind (arith, nat_tests); read = are_read (record_at place memory) 0 (gate_in place memory) records (all_read (records_from (record_at place memory) 0 (gate_in place memory)) records e) }
+          record {
+            within = grind (arith, nat_tests);
+            read = are_read (record_at place memory) 0 (box_gate place memory) records
+                (all_read (records_from (record_at place memory) 0 (box_gate place memory)) records e);
+          }
 
-  pub box_is : (records : List (List ℕ)) → gate_in place memory ≤ capacity → length records ≡ gate_in place memory
+  pub box_is : (records : List (List ℕ)) → box_gate place memory ≤ capacity → length records ≡ box_gate place memory
       → ((k : ℕ) (numbers : List ℕ) → slice_get records k ≡ Some numbers → record_at place memory k ≡ Ok numbers) → box_of place capacity memory ≡ Ok records
   box_is records le count member =
-      let below : nat_lt capacity (gate_in place memory) ≡ false = grind (arith, nat_tests) in
-      ap (λ (t : Bool). cond t (Err (BadBox (gate_in place memory) capacity)) (box_by (records_from (record_at place memory) 0 (gate_in place memory)))) below
+      let below : nat_lt capacity (box_gate place memory) ≡ false = grind (arith, nat_tests) in
+      ap (λ (t : Bool). cond t (Err (BadBox (box_gate place memory) capacity)) (box_by (records_from (record_at place memory) 0 (box_gate place memory)))) below
       ∙ ap (λ (n : ℕ). box_by (records_from (record_at place memory) 0 n)) (sym count)
       ∙ ap box_by (read_back (record_at place memory) 0 records (λ k numbers is. ap (record_at place memory) (omega arith) ∙ member k numbers is))
 
 -- It begins a run: before any host is declared and while every cache is empty.
 pub box_begins : (place : ℕ → ℕ) (capacity : ℕ) (s : SharedState) (records : List (List ℕ)) → IsOneToOne place capacity → ((l : ℕ) → length (s.memory l) ≡ 8) → ((h l : ℕ) → s.copy h l ≡ Absent)
     → box_of place capacity s.memory ≡ Ok records
-    → Invariant (record { place = place; capacity = capacity; writer = None; rest = s.memory }) (λ h. None) s (record { list = records; pending = None })
+    → BoxInvariant (record { place = place; capacity = capacity; writer = None; rest = s.memory }) (λ h. None) s (record { list = records; pending = None })
 box_begins place capacity s records apart wide empty is =
     let box = is_box place capacity s.memory records is in
     let all : records ++ [] ≡ records = append-nil records in
@@ -103,12 +109,12 @@ box_begins place capacity s records apart wide empty is =
     }
 
 -- Whatever happened, the box reads as what is settled, or with the pending record.
-pub box_reads : (b : Box) (s : SharedState) (m : Mail) → Core b s m → (box_of b.place b.capacity s.memory ≡ Ok m.list) ⊎ (box_of b.place b.capacity s.memory ≡ Ok (whole m))
+pub box_reads : (b : Box) (s : SharedState) (m : Mail) → BoxCore b s m → (box_of b.place b.capacity s.memory ≡ Ok m.list) ⊎ (box_of b.place b.capacity s.memory ≡ Ok (whole m))
 box_reads b s m core =
     elim (cases_eq (gate_at b s) (length m.list)) [
       | inl e ↦
           inl (box_is b.place b.capacity s.memory m.list (omega (arith, core.order, core.high, core.room)) (sym e)
-          (λ k numbers is. core.stands k numbers (front_member m.list (listed m.pending) k (within m.list k numbers is) ∙ is) (omega (arith, within m.list k numbers is, e, core.order))))
+          (λ k numbers is. core.stands k numbers (front_member m.list (pending_list m.pending) k (within m.list k numbers is) ∙ is) (omega (arith, within m.list k numbers is, e, core.order))))
       | inr ne ↦
           let few = few_pending m in
           let counted : length (whole m) ≡ gate_at b s = omega (arith, ne, few.0, few.1, core.low, core.order, core.high) in

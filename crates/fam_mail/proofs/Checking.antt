@@ -5,7 +5,7 @@ use Rattle.std.proofs.lemmas.Bool.Decides.{nat_tests}
 use Rattle.fam_base.specs.Image.{Image, line_at}
 use Rattle.fam_media.specs.Outside.{IfModelled}
 use Rattle.fam_mail.specs.Checks.{IsReadLine}
-use Rattle.fam_mail.specs.Boxes.{IsBox, box_by, box_of, first_wrong, gate_in, record_at, record_before, records_from, wrong_before}
+use Rattle.fam_mail.specs.Boxes.{IsBox, box_by, box_of, first_wrong, box_gate, record_at, record_before, records_from, wrong_before}
 use Rattle.fam_mail.specs.Records.{numbers_in, numbers_or, record_in, wrong_word}
 use Rattle.fam_mail.specs.declared.check.WrongBox.TheVariants.{BadBox, BadRecord}
 
@@ -57,25 +57,25 @@ pub wrong_record : (words : List ℕ) (word : ℕ) → wrong_word words ≡ Some
 wrong_record words word is = ap (numbers_or (numbers_in words)) is
 
 module _ (place : ℕ → ℕ) (capacity : ℕ) (memory : ℕ → List ℕ) where
-  pub bad_box : capacity < gate_in place memory → box_of place capacity memory ≡ Err (BadBox (gate_in place memory) capacity)
+  pub bad_box : capacity < box_gate place memory → box_of place capacity memory ≡ Err (BadBox (box_gate place memory) capacity)
   bad_box above =
-      let t : nat_lt capacity (gate_in place memory) ≡ true = grind (arith, nat_tests) in
-      ap (λ (b : Bool). cond b (Err (BadBox (gate_in place memory) capacity)) (box_by (records_from (record_at place memory) 0 (gate_in place memory)))) t
+      let t : nat_lt capacity (box_gate place memory) ≡ true = grind (arith, nat_tests) in
+      ap (λ (b : Bool). cond b (Err (BadBox (box_gate place memory) capacity)) (box_by (records_from (record_at place memory) 0 (box_gate place memory)))) t
 
-  module _ (below : gate_in place memory ≤ capacity) where
-    opened : box_of place capacity memory ≡ box_by (records_from (record_at place memory) 0 (gate_in place memory))
+  module _ (below : box_gate place memory ≤ capacity) where
+    opened : box_of place capacity memory ≡ box_by (records_from (record_at place memory) 0 (box_gate place memory))
     opened =
-        let t : nat_lt capacity (gate_in place memory) ≡ false = grind (arith, nat_tests) in
-        ap (λ (b : Bool). cond b (Err (BadBox (gate_in place memory) capacity)) (box_by (records_from (record_at place memory) 0 (gate_in place memory)))) t
+        let t : nat_lt capacity (box_gate place memory) ≡ false = grind (arith, nat_tests) in
+        ap (λ (b : Bool). cond b (Err (BadBox (box_gate place memory) capacity)) (box_by (records_from (record_at place memory) 0 (box_gate place memory)))) t
 
-    pub bad_record : (i : ℕ) → first_wrong (record_at place memory) 0 (gate_in place memory) ≡ Some i → box_of place capacity memory ≡ Err (BadRecord i)
+    pub bad_record : (i : ℕ) → first_wrong (record_at place memory) 0 (box_gate place memory) ≡ Some i → box_of place capacity memory ≡ Err (BadRecord i)
     bad_record i is =
-        let reads = subst (ReadsAs (records_from (record_at place memory) 0 (gate_in place memory))) is (reads_as (record_at place memory) 0 (gate_in place memory)) in
+        let reads = subst (ReadsAs (records_from (record_at place memory) 0 (box_gate place memory))) is (reads_as (record_at place memory) 0 (box_gate place memory)) in
         opened ∙ ap box_by reads
 
-    pub right_box : first_wrong (record_at place memory) 0 (gate_in place memory) ≡ None → IsBox place capacity memory
+    pub right_box : first_wrong (record_at place memory) 0 (box_gate place memory) ≡ None → IsBox place capacity memory
     right_box is =
-        let reads = subst (ReadsAs (records_from (record_at place memory) 0 (gate_in place memory))) is (reads_as (record_at place memory) 0 (gate_in place memory)) in
+        let reads = subst (ReadsAs (records_from (record_at place memory) 0 (box_gate place memory))) is (reads_as (record_at place memory) 0 (box_gate place memory)) in
         (reads.0, opened ∙ ap box_by reads.1)
 
 -- a word that makes a line no record, or none
@@ -83,33 +83,40 @@ pub some_word : (o : Option ℕ) → is_some o ≡ true → (k : ℕ) × (o ≡ 
 some_word None is = absurd cc
 some_word (Some k) is = (k, refl)
 
+-- a test that finds no word has found none
 pub no_word : (o : Option ℕ) → is_some o ≡ false → o ≡ None
 no_word None is = refl
 no_word (Some k) is = absurd cc
 
 -- A record is looked at, in a memory whose gate was read.
-module _ (place : ℕ → ℕ) (capacity : ℕ) (memory : ℕ → List ℕ) (gate i : ℕ) (lt : i < gate) (room : gate ≤ capacity) (gate_is : gate ≡ gate_in place memory) (words : List ℕ) (line_is : words ≡ memory (place (1 + i)))
+module _ (place : ℕ → ℕ) (capacity : ℕ) (memory : ℕ → List ℕ) (gate i : ℕ) (lt : i < gate) (room : gate ≤ capacity) (gate_is : gate ≡ box_gate place memory) (words : List ℕ)
+    (line_is : words ≡ memory (place (1 + i)))
     (front : first_wrong (record_at place memory) 0 gate ≡ first_wrong (record_at place memory) i (gate - i)) where
+  -- a record that is one is left out of the search for the first that is none
   pub one_right : wrong_word words ≡ None → first_wrong (record_at place memory) 0 gate ≡ first_wrong (record_at place memory) (i + 1) (gate - (i + 1))
   one_right none = front ∙ next_right (record_at place memory) i gate (numbers_in words) lt (ap record_in (sym line_is) ∙ right_record words none)
 
+  -- and those up to it are records
   pub one_more : wrong_word words ≡ None → first_wrong (record_at place memory) 0 i ≡ None → first_wrong (record_at place memory) 0 (i + 1) ≡ None
   one_more none right =
       ap (λ (n : ℕ). first_wrong (record_at place memory) 0 n) (add-one i)
       ∙ still_right (record_at place memory) 0 i i (numbers_in words) (omega arith) (ap record_in (sym line_is) ∙ right_record words none) right
 
+  -- one that is none is the first of them
   pub one_wrong : (word : ℕ) → wrong_word words ≡ Some word → box_of place capacity memory ≡ Err (BadRecord i)
   one_wrong word is =
       let here : first_wrong (record_at place memory) 0 gate ≡ Some i = front ∙ here_wrong (record_at place memory) i gate word lt (ap record_in (sym line_is) ∙ wrong_record words word is) in
       bad_record place capacity memory (omega (arith, room, gate_is)) i (subst (λ (n : ℕ). first_wrong (record_at place memory) 0 n ≡ Some i) gate_is here)
 
 -- the media failed at its line
-pub failed_record : (place : ℕ → ℕ) (capacity : ℕ) (told : Option Image) (gate i line : ℕ) → i < gate → gate ≤ capacity → line ≡ place (1 + i) → IfModelled told (λ image. gate ≡ gate_in place (line_at image))
+pub failed_record : (place : ℕ → ℕ) (capacity : ℕ) (told : Option Image) (gate i line : ℕ) → i < gate → gate ≤ capacity → line ≡ place (1 + i)
+    → IfModelled told (λ image. gate ≡ box_gate place (line_at image))
     → IfModelled told (λ image. first_wrong (record_at place (line_at image)) 0 i ≡ None) → IsReadLine place capacity told line
-failed_record place capacity told gate i line below room line_is gate_is front = inr (record { number = i; gate = gate; below = below; room = room; line_is = line_is; gate_is = gate_is; front = front })
+failed_record place capacity told gate i line below room line_is gate_is front =
+    inr (record { number = i; gate = gate; below = below; room = room; line_is = line_is; gate_is = gate_is; front = front })
 
 -- all were looked at
-pub all_right : (place : ℕ → ℕ) (capacity : ℕ) (memory : ℕ → List ℕ) (gate i : ℕ) → gate ≤ i → gate ≤ capacity → gate ≡ gate_in place memory
+pub all_right : (place : ℕ → ℕ) (capacity : ℕ) (memory : ℕ → List ℕ) (gate i : ℕ) → gate ≤ i → gate ≤ capacity → gate ≡ box_gate place memory
     → first_wrong (record_at place memory) 0 gate ≡ first_wrong (record_at place memory) i (gate - i) → IsBox place capacity memory
 all_right place capacity memory gate i past room gate_is front =
     let none : gate - i ≡ 0 = omega arith in

@@ -15,16 +15,16 @@ use Rattle.fam_protocol.proofs.Lines.Moves.{never}
 use Rattle.fam_mail.specs.declared.ask.Ask.{Ask}
 use Rattle.fam_mail.specs.declared.phase.Phase.{Phase}
 use Rattle.fam_mail.specs.declared.phase.Phase.TheVariants as at
-use Rattle.fam_mail.specs.Mail.{Mail, Run}
-use Rattle.fam_mail.specs.Protocol.{AtPhase, Box, Core, Invariant, IsWriters, Runs, TaskHolds, gate_at, top_at}
+use Rattle.fam_mail.specs.Mail.{Mail, TaskRun}
+use Rattle.fam_mail.specs.Protocol.{AtMailPhase, Box, BoxCore, BoxInvariant, IsWriters, TaskRuns, RunHolds, gate_at, top_at}
 use Rattle.fam_mail.specs.Records.{record_in}
-use Rattle.fam_mail.specs.Tasks.{IsPost, Task, starting}
+use Rattle.fam_mail.specs.Tasks.{IsPost, MailTask, new_task}
 use Rattle.fam_mail.proofs.Keeping.{Keeps, task_kept}
 use Rattle.fam_mail.proofs.Moving.{core_moved, keeps_moved, sends_keep}
 
-module _ (b : Box) (runs : Runs) (s s' : SharedState) (m : Mail) (inv : Invariant b runs s m) where
+module _ (b : Box) (runs : TaskRuns) (s s' : SharedState) (m : Mail) (inv : BoxInvariant b runs s m) where
   -- a cache moves by itself at a line
-  pub moves_hold : (host line : ℕ) → TransfersAt host line s s' → Invariant b runs s' m
+  pub moves_hold : (host line : ℕ) → TransfersAt host line s s' → BoxInvariant b runs s' m
   moves_hold host line moves = record {
     core = core_moved b s s' m inv.core host line moves;
     tasks = λ h r is. task_kept b s s' m inv.core h (keeps_moved b s s' m inv.core host line moves h) r (inv.tasks h r is);
@@ -65,7 +65,7 @@ module _ (b : Box) (runs : Runs) (s s' : SharedState) (m : Mail) (inv : Invarian
                   )
             ]
 
-    core_lost : Core b s' m
+    core_lost : BoxCore b s' m
     core_lost =
         let t = top_lost in
         let m0 = ap gate_of (loses.memory (b.place 0)) in
@@ -100,7 +100,8 @@ module _ (b : Box) (runs : Runs) (s s' : SharedState) (m : Mail) (inv : Invarian
       };
     }
 
-    pub loses_hold : Invariant b runs s' m
+    -- what holds, holds when a host loses its cache
+    pub loses_hold : BoxInvariant b runs s' m
     loses_hold = record {
       core = core_lost;
       tasks = λ h r is.
@@ -110,40 +111,41 @@ module _ (b : Box) (runs : Runs) (s s' : SharedState) (m : Mail) (inv : Invarian
           ];
     }
       where
-        none_run : (h : ℕ) → h ≡ host → (r : Run) → runs h ≡ Some r → ⊥
+        none_run : (h : ℕ) → h ≡ host → (r : TaskRun) → runs h ≡ Some r → ⊥
         none_run h e r is = absurd (cc (idle, ap runs e, is))
 
 -- the media failed in an operation
-pub breaks_hold : (b : Box) (runs : Runs) (s s' : SharedState) (m : Mail) → Invariant b runs s m → (host line : ℕ) → Breaks host line s s' → Invariant b runs s' m
+pub breaks_hold : (b : Box) (runs : TaskRuns) (s s' : SharedState) (m : Mail) → BoxInvariant b runs s m → (host line : ℕ) → Breaks host line s s' → BoxInvariant b runs s' m
 breaks_hold b runs s s' m inv host line breaks =
     let kept = sends_keep b m host breaks.lines s breaks.between breaks.sends inv.core in
     moves_hold b runs breaks.between s' m
     (record { core = kept.core; tasks = λ h r is. task_kept b s breaks.between m inv.core h (kept.keeps h) r (inv.tasks h r is) }) host line breaks.moves
 
 -- fewer tasks run
-pub fewer_hold : (b : Box) (runs runs' : Runs) (s : SharedState) (m : Mail) → Invariant b runs s m → ((h : ℕ) (r : Run) → runs' h ≡ Some r → runs h ≡ Some r) → Invariant b runs' s m
+pub fewer_hold : (b : Box) (runs runs' : TaskRuns) (s : SharedState) (m : Mail) → BoxInvariant b runs s m → ((h : ℕ) (r : TaskRun) → runs' h ≡ Some r → runs h ≡ Some r) → BoxInvariant b runs' s m
 fewer_hold b runs runs' s m inv fewer = record { core = inv.core; tasks = λ h r is. inv.tasks h r (fewer h r is) }
 
 -- a task begins
-pub begins_hold : (b : Box) (runs runs' : Runs) (s : SharedState) (m : Mail) (host : ℕ) (ask : Ask) (floor : Option ℕ) → Invariant b runs s m → (IsPost ask → IsWriters b host ask)
-    → runs' host ≡ Some (record { task = starting ask b.capacity; floor = floor }) → ((h : ℕ) → h ≢ host → runs' h ≡ runs h) → Invariant b runs' s m
+pub begins_hold : (b : Box) (runs runs' : TaskRuns) (s : SharedState) (m : Mail) (host : ℕ) (ask : Ask) (floor : Option ℕ) → BoxInvariant b runs s m → (IsPost ask → IsWriters b host ask)
+    → runs' host ≡ Some (record { task = new_task ask b.capacity; floor = floor }) → ((h : ℕ) → h ≢ host → runs' h ≡ runs h) → BoxInvariant b runs' s m
 begins_hold b runs runs' s m host ask floor inv post mine others = record {
   core = inv.core;
   tasks = λ h r is.
       elim (cases_eq h host) [
         | inl e ↦
-            subst (λ (k : ℕ). TaskHolds b k r s m) (sym e)
-            (subst (λ (x : Run). TaskHolds b host x s m) (same_Some _ r (sym mine ∙ ap runs' (sym e) ∙ is)) (record { capacity = refl; long = refl; post = post; phase = refl }))
+            subst (λ (k : ℕ). RunHolds b k r s m) (sym e)
+            (subst (λ (x : TaskRun). RunHolds b host x s m) (same_Some _ r (sym mine ∙ ap runs' (sym e) ∙ is)) (record { capacity = refl; long = refl; post = post; phase = refl }))
         | inr ne ↦ inv.tasks h r (sym (others h ne) ∙ is)
       ];
 }
 
 -- The writer is declared: a host of which the cache is empty, and which has no task.
-module _ (b : Box) (runs : Runs) (s : SharedState) (m : Mail) (inv : Invariant b runs s m) (none : b.writer ≡ None) (host : ℕ) (empty : (l : ℕ) → s.copy host l ≡ Absent) (idle : runs host ≡ None) where
+module _ (b : Box) (runs : TaskRuns) (s : SharedState) (m : Mail) (inv : BoxInvariant b runs s m) (none : b.writer ≡ None) (host : ℕ) (empty : (l : ℕ) → s.copy host l ≡ Absent)
+    (idle : runs host ≡ None) where
   top_declared : top (s.memory (b.place 0)) (s.copy host (b.place 0)) ≡ top_at b s
   top_declared = ap (λ (c : Cell). top (s.memory (b.place 0)) c) (empty (b.place 0)) ∙ ap (λ (o : Option ℕ). top (s.memory (b.place 0)) (masters_copy o s (b.place 0))) (sym none)
 
-  core_declared : Core (record b { writer = Some host }) s m
+  core_declared : BoxCore (record b { writer = Some host }) s m
   core_declared = record {
     apart = inv.core.apart;
     wide = inv.core.wide;
@@ -161,10 +163,10 @@ module _ (b : Box) (runs : Runs) (s : SharedState) (m : Mail) (inv : Invariant b
   no_writer : (h : ℕ) (ask : Ask) → IsWriters b h ask → ⊥
   no_writer h ask own = none_some (sym none ∙ own.writer)
 
-  not_host : (h : ℕ) (r : Run) → runs h ≡ Some r → h ≡ host → ⊥
+  not_host : (h : ℕ) (r : TaskRun) → runs h ≡ Some r → h ≡ host → ⊥
   not_host h r is e = absurd (cc (idle, ap runs e, is))
 
-  phase_declared : (h : ℕ) → (h ≡ host → ⊥) → (p : Phase) (floor : Option ℕ) (t : Task) → AtPhase p b h floor t s m → AtPhase p (record b { writer = Some host }) h floor t s m
+  phase_declared : (h : ℕ) → (h ≡ host → ⊥) → (p : Phase) (floor : Option ℕ) (t : MailTask) → AtMailPhase p b h floor t s m → AtMailPhase p (record b { writer = Some host }) h floor t s m
   phase_declared h not at.DropGate floor t known = known
   phase_declared h not at.LoadGate floor t known = (record { low = known.0.low; copy = known.0.copy; writers = λ is. absurd (not (same_Some h host (sym is))) }, known.1)
   phase_declared h not (at.StoreRecord k) floor t known = absurd (no_writer h t.ask known.1.own)
@@ -182,7 +184,8 @@ module _ (b : Box) (runs : Runs) (s : SharedState) (m : Mail) (inv : Invariant b
   )
   phase_declared h not other floor t known = absurd (no_writer h t.ask known.0.own)
 
-  pub declared_holds : Invariant (record b { writer = Some host }) runs s m
+  -- and when a host that may post is declared
+  pub declared_holds : BoxInvariant (record b { writer = Some host }) runs s m
   declared_holds = record {
     core = core_declared;
     tasks = λ h r is.

@@ -6,9 +6,9 @@ use Rattle.fam_protocol.specs.SharedState.{SharedState}
 use Rattle.fam_mail.specs.declared.ask.Ask.{Ask}
 use Rattle.fam_mail.specs.declared.phase.Phase.{Phase}
 use Rattle.fam_mail.specs.declared.phase.Phase.TheVariants as at
-use Rattle.fam_mail.specs.Mail.{Mail, Run}
-use Rattle.fam_mail.specs.Protocol.{AtPhase, Box, Core, HasGate, HasPublished, HasRead, IsWriting, TaskHolds, gate_at, top_at}
-use Rattle.fam_mail.specs.Tasks.{Task}
+use Rattle.fam_mail.specs.Mail.{Mail, TaskRun}
+use Rattle.fam_mail.specs.Protocol.{AtMailPhase, Box, BoxCore, HasGate, HasStoredGate, HasReadRecords, IsPosting, RunHolds, gate_at, top_at}
+use Rattle.fam_mail.specs.Tasks.{MailTask}
 
 -- what a writer's task rests on
 pub record WriterKeeps (b : Box) (h : ℕ) (s s' : SharedState) : Type 0 where
@@ -26,20 +26,21 @@ pub record Keeps (b : Box) (h : ℕ) (s s' : SharedState) (m : Mail) : Type 0 wh
   pub gate_copy : (floor : Option ℕ) → IsAtLeast floor (length m.list) → FreshGate floor (s.memory (b.place 0)) (s.copy h (b.place 0)) → FreshGate floor (s'.memory (b.place 0)) (s'.copy h (b.place 0))
   pub writing : b.writer ≡ Some h → WriterKeeps b h s s'
 
-module _ (b : Box) (s s' : SharedState) (m : Mail) (core : Core b s m) (h : ℕ) (keeps : Keeps b h s s' m) where
-  writing_kept : (ask : Ask) (gate : ℕ) → IsWriting b h ask gate s m → IsWriting b h ask gate s' m
+module _ (b : Box) (s s' : SharedState) (m : Mail) (core : BoxCore b s m) (h : ℕ) (keeps : Keeps b h s s' m) where
+  writing_kept : (ask : Ask) (gate : ℕ) → IsPosting b h ask gate s m → IsPosting b h ask gate s' m
   writing_kept ask gate w = record { own = w.own; settled = w.settled; pending = w.pending; unpublished = (keeps.writing w.own.writer).top ∙ w.unpublished; room = w.room }
 
-  published_kept : (ask : Ask) (gate : ℕ) → HasPublished b h ask gate s m → HasPublished b h ask gate s' m
+  published_kept : (ask : Ask) (gate : ℕ) → HasStoredGate b h ask gate s m → HasStoredGate b h ask gate s' m
   published_kept ask gate p = record { own = p.own; published = (keeps.writing p.own.writer).top ∙ p.published; count = p.count; last = p.last; settled = p.settled }
 
   gate_kept : (floor : Option ℕ) (gate : ℕ) → HasGate b floor gate s → HasGate b floor gate s'
   gate_kept floor gate g = record { low = g.low; high = omega (arith, g.high, keeps.gate) }
 
-  read_kept : (i : ℕ) (floor : Option ℕ) (gate : ℕ) (records : List (List ℕ)) → HasRead i b floor gate records s m → HasRead i b floor gate records s' m
+  read_kept : (i : ℕ) (floor : Option ℕ) (gate : ℕ) (records : List (List ℕ)) → HasReadRecords i b floor gate records s m → HasReadRecords i b floor gate records s' m
   read_kept i floor gate records r = record { has = gate_kept floor gate r.has; below = r.below; read = r.read }
 
-  pub phase_kept : (p : Phase) (floor : Option ℕ) (t : Task) → AtPhase p b h floor t s m → AtPhase p b h floor t s' m
+  -- what is known of a task by its phase stays
+  pub phase_kept : (p : Phase) (floor : Option ℕ) (t : MailTask) → AtMailPhase p b h floor t s m → AtMailPhase p b h floor t s' m
   phase_kept at.DropGate floor t at = at
   phase_kept at.LoadGate floor t at = (
     record { low = at.0.low; copy = keeps.gate_copy floor at.0.low at.0.copy; writers = λ is. (keeps.writing is).gate (at.0.writers is) },
@@ -66,5 +67,6 @@ module _ (b : Box) (s s' : SharedState) (m : Mail) (core : Core b s m) (h : ℕ)
         },
       )
 
-  pub task_kept : (r : Run) → TaskHolds b h r s m → TaskHolds b h r s' m
+  -- and so all that is known of it
+  pub task_kept : (r : TaskRun) → RunHolds b h r s m → RunHolds b h r s' m
   task_kept r holds = record { capacity = holds.capacity; long = holds.long; post = holds.post; phase = phase_kept r.task.phase r.floor r.task holds.phase }

@@ -2,7 +2,7 @@
 use Rattle.std.proofs.Common.{◌≡◌, ℕ, zero, suc, ◌<◌, ◌≤◌, ◌⊎◌, inl, inr, List, [], ◌∷◌, ◌++◌, length, take, refl, ap, arith}
 use Rattle.std.specs.Prelude.{◌==◌, cond, Bool, true, false, ◌≢◌, slice_get, Option, Some, None}
 use Rattle.std.proofs.lemmas.Bool.Decides.{eqb_tells}
-use Rattle.fam_mail.specs.Mail.{listed}
+use Rattle.fam_mail.specs.Mail.{pending_list}
 
 -- a member of the front of a list
 pub front_member : {X : Type 0} (xs ys : List X) (i : ℕ) → i < length xs → slice_get (xs ++ ys) i ≡ slice_get xs i
@@ -22,7 +22,7 @@ take_member {X} (y ∷ xs) zero x is = ap (λ (z : X). z ∷ []) (cc)
 take_member {X} (y ∷ xs) (suc i) x is = ap (λ (zs : List X). y ∷ zs) (take_member xs i x is)
 
 -- at most one record is pending
-pub few_listed : (p : Option (List ℕ)) → length (listed p) ≤ 1
+pub few_listed : (p : Option (List ℕ)) → length (pending_list p) ≤ 1
 few_listed None = omega arith
 few_listed (Some r) = omega arith
 

@@ -15,7 +15,7 @@ use Rattle.fam_protocol.proofs.Lines.Free.{Same, same, cell_kept, dirty_was, mem
 use Rattle.fam_protocol.proofs.Lines.Moves.{finished_kept, fresh_gate_kept, fresh_kept, gate_grows, handed_kept, holding_kept, same_top}
 use Rattle.fam_protocol.proofs.Lines.Transferring.{gate_grown}
 use Rattle.fam_mail.specs.Mail.{Mail}
-use Rattle.fam_mail.specs.Protocol.{Box, Core, gate_at, top_at}
+use Rattle.fam_mail.specs.Protocol.{Box, BoxCore, gate_at, top_at}
 use Rattle.fam_mail.specs.Records.{record_in}
 use Rattle.fam_mail.proofs.Keeping.{Keeps}
 
@@ -25,8 +25,9 @@ order_at floor m Absent f = omega arith
 order_at floor m (Clean w) f = omega arith
 order_at floor m (Dirty a w) f = absurd f
 
-module _ (b : Box) (s s' : SharedState) (m : Mail) (core : Core b s m) (host line : ℕ) (moves : TransfersAt host line s s') where
-  moved : (P : List ℕ → Cell → Type 0) → ((m m' : List ℕ) (c c' : Cell) → Transfer m c m' c' → length m ≡ 8 → P m c → P m' c') → (h l : ℕ) → (h ≢ host → IsDirty (s.copy host l) → ⊥) → P (s.memory l) (s.copy h l) → P (s'.memory l) (s'.copy h l)
+module _ (b : Box) (s s' : SharedState) (m : Mail) (core : BoxCore b s m) (host line : ℕ) (moves : TransfersAt host line s s') where
+  moved : (P : List ℕ → Cell → Type 0) → ((m m' : List ℕ) (c c' : Cell) → Transfer m c m' c' → length m ≡ 8 → P m c → P m' c') → (h l : ℕ) → (h ≢ host → IsDirty (s.copy host l) → ⊥)
+      → P (s.memory l) (s.copy h l) → P (s'.memory l) (s'.copy h l)
   moved = cell_kept host line s s' moves core.wide
 
   -- the gate's line and the writer's copy of it
@@ -37,6 +38,7 @@ module _ (b : Box) (s s' : SharedState) (m : Mail) (core : Core b s m) (host lin
   unfolding Gate
   gate_step m m' c c' v l q = let g = gate_grows v q.1 in (omega (arith, g.0, q.0), g.1, same_top v ∙ q.2)
 
+  -- memory's gate may rise up to the one that the writer's cache holds
   pub gate_moved : (gate_at b s ≤ gate_at b s') × (gate_at b s' ≤ top_at b s') × (top_at b s' ≡ top_at b s)
   unfolding Gate
   gate_moved = go b.writer refl
@@ -47,14 +49,19 @@ module _ (b : Box) (s s' : SharedState) (m : Mail) (core : Core b s m) (host lin
           let t : gate_at b s ≡ top_at b s = ap (λ (o : Option ℕ). top (s.memory (b.place 0)) (masters_copy o s (b.place 0))) (sym is) in
           (omega (arith, ap gate_of m), omega arith, ap gate_of m ∙ t)
       go (Some h) is =
-          moved Gate gate_step h (b.place 0) (λ ne d. ne (same_Some _ _ (sym is ∙ core.only_writer host (b.place 0) d)))
-          (omega arith, subst (λ (o : Option ℕ). gate_at b s ≤ top (s.memory (b.place 0)) (masters_copy o s (b.place 0))) is core.order, ap (λ (o : Option ℕ). top (s.memory (b.place 0)) (masters_copy o s (b.place 0))) (sym is))
+          moved Gate gate_step h (b.place 0) (λ ne d. ne (same_Some _ _ (sym is ∙ core.only_writer host (b.place 0) d))) (
+            omega arith,
+            subst (λ (o : Option ℕ). gate_at b s ≤ top (s.memory (b.place 0)) (masters_copy o s (b.place 0))) is core.order,
+            ap
+                (λ (o : Option ℕ). top (s.memory (b.place 0)) (masters_copy o s (b.place 0))) (sym is),
+          )
 
   -- a record below the top stays
   record_still : (i : ℕ) → i < top_at b s → s'.memory (b.place (1 + i)) ≡ s.memory (b.place (1 + i))
   record_still i lt = memory_still host line s s' moves core.wide (b.place (1 + i)) (core.clean i host lt)
 
-  pub core_moved : Core b s' m
+  -- what holds of the box stays
+  pub core_moved : BoxCore b s' m
   core_moved =
       let g = gate_moved in
       record {
@@ -72,7 +79,8 @@ module _ (b : Box) (s s' : SharedState) (m : Mail) (core : Core b s m) (host lin
       }
 
   -- any host's copy of the gate's line
-  gate_copy : (h : ℕ) (floor : Option ℕ) → IsAtLeast floor (length m.list) → FreshGate floor (s.memory (b.place 0)) (s.copy h (b.place 0)) → FreshGate floor (s'.memory (b.place 0)) (s'.copy h (b.place 0))
+  gate_copy : (h : ℕ) (floor : Option ℕ) → IsAtLeast floor (length m.list) → FreshGate floor (s.memory (b.place 0)) (s.copy h (b.place 0))
+      → FreshGate floor (s'.memory (b.place 0)) (s'.copy h (b.place 0))
   gate_copy h floor low f = go (same h host)
     where
       P : List ℕ → Cell → Type 0
@@ -84,13 +92,15 @@ module _ (b : Box) (s s' : SharedState) (m : Mail) (core : Core b s m) (host lin
       go : Same h host → FreshGate floor (s'.memory (b.place 0)) (s'.copy h (b.place 0))
       go (inl e) = subst (λ x. FreshGate floor (s'.memory (b.place 0)) (s'.copy x (b.place 0))) (sym e)
           (own host line s s' moves core.wide P step (b.place 0)
-          (subst (λ x. P (s.memory (b.place 0)) (s.copy x (b.place 0))) e (at_least_more floor (length m.list) (gate_at b s) core.low low, order_at floor (s.memory (b.place 0)) (s.copy h (b.place 0)) f, f))).2
+          (subst (λ x. P (s.memory (b.place 0)) (s.copy x (b.place 0))) e
+          (at_least_more floor (length m.list) (gate_at b s) core.low low, order_at floor (s.memory (b.place 0)) (s.copy h (b.place 0)) f, f))).2
       go (inr ne) = gate_grown floor (s.memory (b.place 0)) (s'.memory (b.place 0)) (s'.copy h (b.place 0)) gate_moved.0
           (subst (λ (c : Cell). FreshGate floor (s.memory (b.place 0)) c) (sym (moves.only.hosts h (b.place 0) ne)) f)
 
   not_other : (h : ℕ) → b.writer ≡ Some h → (l : ℕ) → h ≢ host → IsDirty (s.copy host l) → ⊥
   not_other h is l ne d = ne (same_Some _ _ (sym is ∙ core.only_writer host l d))
 
+  -- and what each host's task rests on
   pub keeps_moved : (h : ℕ) → Keeps b h s s' m
   keeps_moved h = record {
     memory = record_still;
@@ -137,10 +147,11 @@ keeps_then b h s next s' m grows first second = record {
 
 -- What lines that are sent leave.
 pub record Sent (b : Box) (s s' : SharedState) (m : Mail) : Type 0 where
-  pub core : Core b s' m
+  pub core : BoxCore b s' m
   pub keeps : (h : ℕ) → Keeps b h s s' m
 
-pub sends_keep : (b : Box) (m : Mail) (host : ℕ) (lines : List ℕ) (s s' : SharedState) → Sends host lines s s' → Core b s m → Sent b s s' m
+-- so it does over some lines that are sent
+pub sends_keep : (b : Box) (m : Mail) (host : ℕ) (lines : List ℕ) (s s' : SharedState) → Sends host lines s s' → BoxCore b s m → Sent b s s' m
 sends_keep b m host [] s _ all_sent core = record { core = core; keeps = λ h. keeps_same b h s m }
 sends_keep b m host (line ∷ lines) s s' (sends_one {next = next} left rest) core =
     let moves = sends_at host line s next left in

@@ -11,6 +11,7 @@ use Rattle.fam_rules.specs.Written.{file_line}
 use Rattle.fam_rules.proofs.FilePlaces.{place_once}
 use Rattle.fam_mail.specs.Boxes.{IsOneToOne, capacity_of}
 
+-- no two lines of a file are one line of the image
 pub no_line_twice : (p : Params) (e : Entry) → SoundParams p → Proper p e → IsOnce (units_in p.unit e.extents) → 128 ≤ e.size → IsOneToOne (file_line e) (capacity_of e.size)
 no_line_twice p e sound proper once big i j i_le j_le same =
     let i_below : line_bytes * i < e.size = omega arith in

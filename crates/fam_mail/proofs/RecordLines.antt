@@ -7,7 +7,8 @@ use Rattle.std.proofs.lemmas.Bool.Decides.{nat_tests, eqb_tells}
 use Rattle.fam_mail.specs.Records.{IsRecord, IsRecordLine, first_set, is_count, numbers_in, numbers_or, record_in, record_line, wrong_word}
 
 -- a zero before zeros
-zero_before : (w : ℕ) (words : List ℕ) (k : ℕ) → (first_set words (k + 1) ≡ None → words ≡ replicate (length words) 0) → cond (w == 0) (first_set words (k + 1)) (Some k) ≡ None → w ∷ words ≡ replicate (length (w ∷ words)) 0
+zero_before : (w : ℕ) (words : List ℕ) (k : ℕ) → (first_set words (k + 1) ≡ None → words ≡ replicate (length words) 0) → cond (w == 0) (first_set words (k + 1)) (Some k) ≡ None
+    → w ∷ words ≡ replicate (length (w ∷ words)) 0
 zero_before w words k rest = go (w == 0) (eqb_tells w 0)
   where
     go : (t : Bool) → ((t ≡ true) × (w ≡ 0)) ⊎ ((t ≡ false) × (w ≡ 0 → ⊥)) → cond t (first_set words (k + 1)) (Some k) ≡ None → w ∷ words ≡ replicate (length (w ∷ words)) 0
@@ -45,10 +46,11 @@ right_line (count ∷ rest) long right = go (is_count count) refl right
         let unset : first_set (drop count rest) (count + 1) ≡ None = subst (λ (k : ℕ). first_set (drop k (count ∷ rest)) (count + 1) ≡ None) (add-one count) n in
         let zeros : drop count rest ≡ replicate (length (drop count rest)) 0 = none_set (drop count rest) (count + 1) unset in
         let many : length (drop count rest) ≡ 7 - length (take count rest) = omega (arith, length-drop count rest, whole, taken) in
+        let tail : drop count rest ≡ replicate (7 - length (take count rest)) 0 = zeros ∙ ap (λ (n : ℕ). replicate n 0) many in
         record {
           right = right;
           numbers = record { some = omega (arith, taken, fits.0); few = omega (arith, taken, fits.1) };
-          line = ap (λ (ws : List ℕ). count ∷ ws) (sym (take-append-drop count rest) ∙ ap (λ (ws : List ℕ). take count rest ++ ws) (zeros ∙ ap (λ (n : ℕ). replicate n 0) many))
+          line = ap (λ (ws : List ℕ). count ∷ ws) (sym (take-append-drop count rest) ∙ ap (λ (ws : List ℕ). take count rest ++ ws) tail)
               ∙ ap (λ (n : ℕ). (n ∷ take count rest) ++ replicate (7 - length (take count rest)) 0) (sym taken);
         }
 

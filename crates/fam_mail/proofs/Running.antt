@@ -11,14 +11,15 @@ use Rattle.fam_machine.specs.OneLine.{IsHeld}
 use Rattle.fam_machine.specs.Operations.{IsWithin}
 use Rattle.fam_cache.specs.Operations.{LeavesCache, LeavesFailed}
 use Rattle.fam_cache.proofs.Performed.{cleaned_held, left_held, others_left}
-use Rattle.fam_mail.specs.Running.{CacheFits}
-use Rattle.fam_mail.specs.Tasks.{PhaseFits, Task, op_at}
+use Rattle.fam_mail.specs.Running.{LinesFit}
+use Rattle.fam_mail.specs.Tasks.{PhaseFits, MailTask, phase_op}
 use Rattle.fam_mail.specs.declared.phase.Phase.{Phase}
 use Rattle.fam_mail.specs.declared.phase.Phase.TheVariants as at
 
 -- a task asks for lines of the file
-module _ (place : ℕ → ℕ) (lines : ℕ) (t : Task) (inside : (j : ℕ) → j ≤ t.capacity → place j < lines) where
-  pub op_within : (p : Phase) → PhaseFits p t → IsWithin lines (op_at p place t)
+module _ (place : ℕ → ℕ) (lines : ℕ) (t : MailTask) (inside : (j : ℕ) → j ≤ t.capacity → place j < lines) where
+  -- the operation of a phase is on a line of the media
+  pub op_within : (p : Phase) → PhaseFits p t → IsWithin lines (phase_op p place t)
   op_within at.DropGate fits = inside 0 (omega arith)
   op_within at.LoadGate fits = (inside 0 (omega arith), omega arith)
   op_within (at.StoreRecord k) fits = (inside (1 + t.gate) (omega (arith, fits.1.1)), fits.0)
@@ -42,7 +43,7 @@ not_same : (line : LineNo) (l : ℕ) → l ≢ line.0 → Some line ≢ Some (re
 not_same line l ne e = ne (sym (ap (λ (o : Option LineNo). unwrap_or (option_map (λ (x : LineNo). x.0) o) 0) e))
 
 -- an operation brings its own line at most
-pub lines_fit : (op : Op) (lines : ℕ) (told : Option Image) (old new : Cache) → IsWithin lines op → LeavesCache op told old new → CacheFits lines old → CacheFits lines new
+pub lines_fit : (op : Op) (lines : ℕ) (told : Option Image) (old new : Cache) → IsWithin lines op → LeavesCache op told old new → LinesFit lines old → LinesFit lines new
 lines_fit (Load line k) lines told old new within leaves fits l held =
     at_line line lines l within.0 (λ ne. fits l (subst IsHeld (others_left (Load line k) told old new leaves tt l (not_same line l ne)) held))
 lines_fit (Store line k value) lines told old new within leaves fits l held =
@@ -56,5 +57,5 @@ lines_fit (Invalidate line) lines told old new within leaves fits l held =
 lines_fit Digest lines told old new within leaves fits l held = fits l (subst (λ (c : Cache). IsHeld (cell_at c l)) leaves held)
 
 -- nor does one in which the media fails
-pub failed_fit : (op : Op) (lines : ℕ) (old new : Cache) → LeavesFailed op old new → CacheFits lines old → CacheFits lines new
+pub failed_fit : (op : Op) (lines : ℕ) (old new : Cache) → LeavesFailed op old new → LinesFit lines old → LinesFit lines new
 failed_fit op lines old new left fits l held = fits l (left_held op old new left l held)

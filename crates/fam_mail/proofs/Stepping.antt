@@ -24,10 +24,10 @@ use Rattle.fam_mail.specs.declared.phase.Phase.{Phase}
 use Rattle.fam_mail.specs.declared.phase.Phase.TheVariants as at
 use Rattle.fam_mail.specs.declared.turn.Turn.{Turn}
 use Rattle.fam_mail.specs.declared.turn.Turn.TheVariants.{Go, Mark, Found, Posted, Full, Taken, BadBox}
-use Rattle.fam_mail.specs.Mail.{IsFront, Mail, MayFind, MaySay, Run, floor_after, found, joined, listed, posted_by, settles, whole}
-use Rattle.fam_mail.specs.Protocol.{AtPhase, AtRecord, Box, Core, HasPublished, Invariant, IsReading, IsWriters, IsWriting, LoadsGate, Runs, StepHolds, Steps, TaskHolds, gate_at, top_at}
+use Rattle.fam_mail.specs.Mail.{IsFront, Mail, MayFind, TaskMaySay, TaskRun, floor_behind_turn, records_found, pending_joined, pending_list, posted_by, settles, whole}
+use Rattle.fam_mail.specs.Protocol.{AtMailPhase, AtRecord, Box, BoxCore, HasStoredGate, BoxInvariant, IsReading, IsWriters, IsPosting, LoadsGate, TaskRuns, TurnHolds, TakesTurn, RunHolds, gate_at, top_at}
 use Rattle.fam_mail.specs.Records.{IsRecord, numbers_in, numbers_or, record_in, wrong_word}
-use Rattle.fam_mail.specs.Tasks.{IsPost, Task, gate_turn, is_over, line_of, op_at, record_turn, records_with, task_at, task_of, turn_at, turn_of, words_with}
+use Rattle.fam_mail.specs.Tasks.{IsPost, MailTask, loaded_gate_turn, ends_task, posted_line, phase_op, record_turn, records_with, phase_task, next_task, phase_turn, task_turn, words_with}
 use Rattle.fam_mail.proofs.Keeping.{Keeps, phase_kept, task_kept}
 use Rattle.fam_mail.proofs.Lists.{by_equal, by_equal_both, few_listed, front_member, take_member}
 use Rattle.fam_mail.proofs.Moving.{core_moved, gate_moved, keeps_moved, keeps_same, sends_keep}
@@ -36,14 +36,14 @@ use Rattle.fam_mail.proofs.Settling.{core_found, core_joined, few_pending, found
 use Rattle.fam_mail.proofs.Storing.{gate_core, gate_keeps, has_published, word_core, word_keeps, writing_stored}
 
 -- what comes of an operation of a host's task
-pub record Acted (b : Box) (host : ℕ) (floor : Option ℕ) (m : Mail) (s s' : SharedState) (ask : Ask) (turn : Turn) (next : Task) : Type 0 where
-  pub says : MaySay turn ask floor m b.capacity
-  pub core : Core b s' (settles turn ask m)
-  pub others : (h : ℕ) → h ≢ host → (r : Run) → TaskHolds b h r s m → TaskHolds b h r s' (settles turn ask m)
-  pub mine : is_over turn ≡ false → AtPhase next.phase b host (floor_after turn (length m.list) floor) next s' (settles turn ask m)
+pub record Acted (b : Box) (host : ℕ) (floor : Option ℕ) (m : Mail) (s s' : SharedState) (ask : Ask) (turn : Turn) (next : MailTask) : Type 0 where
+  pub says : TaskMaySay turn ask floor m b.capacity
+  pub core : BoxCore b s' (settles turn ask m)
+  pub others : (h : ℕ) → h ≢ host → (r : TaskRun) → RunHolds b h r s m → RunHolds b h r s' (settles turn ask m)
+  pub mine : ends_task turn ≡ false → AtMailPhase next.phase b host (floor_behind_turn turn (length m.list) floor) next s' (settles turn ask m)
 
 -- the line that a post stores has eight words
-line_long : (ask : Ask) (numbers : List ℕ) → posted_by ask ≡ Some numbers → IsRecord numbers → length (line_of ask) ≡ 8
+line_long : (ask : Ask) (numbers : List ℕ) → posted_by ask ≡ Some numbers → IsRecord numbers → length (posted_line ask) ≡ 8
 line_long (Post own) numbers is proper = line_length own (subst IsRecord (sym (same_Some own numbers is)) proper)
 line_long Take numbers is proper = absurd cc
 
@@ -69,12 +69,13 @@ may_find n m low high = go (cases_eq n (length m.list))
     go (inl e) = inl e
     go (inr ne) = inr (
       omega (arith, ne, low, high, (few_pending m).1),
-      λ none. omega (arith, ne, low, high, length-append m.list (listed m.pending), ap (λ (p : Option (List ℕ)). length (listed p)) none),
+      λ none. omega (arith, ne, low, high, length-append m.list (pending_list m.pending), ap (λ (p : Option (List ℕ)). length (pending_list p)) none),
     )
 
-module _ (b : Box) (host : ℕ) (floor : Option ℕ) (m : Mail) (s : SharedState) (core : Core b s m) where
+module _ (b : Box) (host : ℕ) (floor : Option ℕ) (m : Mail) (s : SharedState) (core : BoxCore b s m) where
   -- a task that goes on, while nothing is settled
-  goes_on : (s' : SharedState) (ask : Ask) (next : Task) → Core b s' m → ((h : ℕ) → h ≢ host → Keeps b h s s' m) → AtPhase next.phase b host floor next s' m → Acted b host floor m s s' ask Go next
+  goes_on : (s' : SharedState) (ask : Ask) (next : MailTask) → BoxCore b s' m → ((h : ℕ) → h ≢ host → Keeps b h s s' m) → AtMailPhase next.phase b host floor next s' m
+      → Acted b host floor m s s' ask Go next
   goes_on s' ask next core' keeps mine = record {
     says = tt;
     core = core';
@@ -83,17 +84,17 @@ module _ (b : Box) (host : ℕ) (floor : Option ℕ) (m : Mail) (s : SharedState
   }
 
   module _ (s' : SharedState) (line : ℕ) (moves : TransfersAt host line s s') where
-    moved_core : Core b s' m
+    moved_core : BoxCore b s' m
     moved_core = core_moved b s s' m core host line moves
 
     moved_keeps : (h : ℕ) → Keeps b h s s' m
     moved_keeps = keeps_moved b s s' m core host line moves
 
-    moved_task : (h : ℕ) (r : Run) → TaskHolds b h r s m → TaskHolds b h r s' m
+    moved_task : (h : ℕ) (r : TaskRun) → RunHolds b h r s m → RunHolds b h r s' m
     moved_task h = task_kept b s s' m core h (moved_keeps h)
 
   -- The gate's line is dropped: the mark.
-  drop_gate : (s' : SharedState) (t : Task) → t.records ≡ [] → LeavesAt host (b.place 0) s s' (sent (s.memory (b.place 0)) (s.copy host (b.place 0))) Absent
+  drop_gate : (s' : SharedState) (t : MailTask) → t.records ≡ [] → LeavesAt host (b.place 0) s s' (sent (s.memory (b.place 0)) (s.copy host (b.place 0))) Absent
       → Acted b host floor m s s' t.ask Mark (record t { phase = at.LoadGate })
   drop_gate s' t none left =
       let moves = transfers_at host (b.place 0) s s' _ _ left (absent_transfers (s.memory (b.place 0)) (s.copy host (b.place 0))) in
@@ -112,8 +113,9 @@ module _ (b : Box) (host : ℕ) (floor : Option ℕ) (m : Mail) (s : SharedState
       }
 
   -- The gate is loaded.
-  module _ (s' : SharedState) (t : Task) (word : ℕ) (capacity : t.capacity ≡ b.capacity) (post : IsPost t.ask → IsWriters b host t.ask) (loads : LoadsGate b host floor s m) (none : t.records ≡ [])
-      (left : LeavesAt host (b.place 0) s s' (s.memory (b.place 0)) (brought (s.memory (b.place 0)) (s.copy host (b.place 0)))) (given : word ≡ slice_index (current (s.memory (b.place 0)) (s.copy host (b.place 0))) 0) where
+  module _ (s' : SharedState) (t : MailTask) (word : ℕ) (capacity : t.capacity ≡ b.capacity) (post : IsPost t.ask → IsWriters b host t.ask) (loads : LoadsGate b host floor s m) (none : t.records ≡ [])
+      (left : LeavesAt host (b.place 0) s s' (s.memory (b.place 0)) (brought (s.memory (b.place 0)) (s.copy host (b.place 0))))
+      (given : word ≡ slice_index (current (s.memory (b.place 0)) (s.copy host (b.place 0))) 0) where
     gate_moves : TransfersAt host (b.place 0) s s'
     gate_moves = transfers_at host (b.place 0) s s' _ _ left (brought_transfers (s.memory (b.place 0)) (s.copy host (b.place 0)))
 
@@ -152,26 +154,28 @@ module _ (b : Box) (host : ℕ) (floor : Option ℕ) (m : Mail) (s : SharedState
       high : word ≤ length (whole m)
       high = omega (arith, word_is.1, core.order, core.high)
 
-      others : (pending : Option (List ℕ)) → word + length (listed pending) ≤ b.capacity → (h : ℕ) → h ≢ host → (r : Run) → TaskHolds b h r s m → TaskHolds b h r s' (record (found word m) { pending = pending })
+      others : (pending : Option (List ℕ)) → word + length (pending_list pending) ≤ b.capacity → (h : ℕ) → h ≢ host → (r : TaskRun) → RunHolds b h r s m
+          → RunHolds b h r s' (record (records_found word m) { pending = pending })
       others pending room h ne r holds =
-          task_settled b h s' m (record (found word m) { pending = pending })
+          task_settled b h s' m (record (records_found word m) { pending = pending })
           (settles_found b s' m (moved_core s' (b.place 0) gate_moves) word top_is gate_is pending room h (λ is. ne (same_Some h host (sym is ∙ own.writer))))
           r (moved_task s' (b.place 0) gate_moves h r holds)
 
-      full_gate : word ≡ t.capacity → (next : Task) → Acted b host floor m s s' t.ask (Full word) next
+      full_gate : word ≡ t.capacity → (next : MailTask) → Acted b host floor m s s' t.ask (Full word) next
       full_gate is next =
-          let room : word + length (listed (found word m).pending) ≤ b.capacity = omega (arith, is, capacity, ap (λ (p : Option (List ℕ)). length (listed p)) (found_pending word m)) in
+          let room : word + length (pending_list (records_found word m).pending) ≤ b.capacity = omega
+          (arith, is, capacity, ap (λ (p : Option (List ℕ)). length (pending_list p)) (found_pending word m)) in
           record {
             says = (may_find word m low high, is ∙ capacity);
-            core = core_found b s' m (moved_core s' (b.place 0) gate_moves) word top_is gate_is (found word m).pending room;
-            others = others (found word m).pending room;
+            core = core_found b s' m (moved_core s' (b.place 0) gate_moves) word top_is gate_is (records_found word m).pending room;
+            others = others (records_found word m).pending room;
             mine = λ e. absurd cc;
           }
 
       found_gate : word ≢ t.capacity → Acted b host floor m s s' t.ask (Found word) (record t { phase = at.StoreRecord 0; gate = word })
       found_gate ne =
           let below : word < b.capacity = omega (arith, ne, capacity, word_is.1, core.order, core.high, core.room) in
-          let room : word + length (listed (posted_by t.ask)) ≤ b.capacity = omega (arith, below, few_listed (posted_by t.ask)) in
+          let room : word + length (pending_list (posted_by t.ask)) ≤ b.capacity = omega (arith, below, few_listed (posted_by t.ask)) in
           record {
             says = (may_find word m low high, below);
             core = core_found b s' m (moved_core s' (b.place 0) gate_moves) word top_is gate_is (posted_by t.ask) room;
@@ -183,36 +187,38 @@ module _ (b : Box) (host : ℕ) (floor : Option ℕ) (m : Mail) (s : SharedState
             );
           }
 
-    gate_by : (ask : Ask) → t.ask ≡ ask → Acted b host floor m s s' t.ask (gate_turn ask t.capacity word) (task_at at.LoadGate word (record t { ask = ask }))
+    gate_by : (ask : Ask) → t.ask ≡ ask → Acted b host floor m s s' t.ask (loaded_gate_turn ask t.capacity word) (phase_task at.LoadGate word (record t { ask = ask }))
     gate_by (Post numbers) is =
         let own : IsWriters b host t.ask = post (subst IsPost (sym is) tt) in
-        let next : Task = record t { ask = Post numbers; phase = at.StoreRecord 0; gate = word } in
+        let next : MailTask = record t { ask = Post numbers; phase = at.StoreRecord 0; gate = word } in
         let next_is : record t { phase = at.StoreRecord 0; gate = word } ≡ next = ap (λ (a : Ask). record t { ask = a; phase = at.StoreRecord 0; gate = word }) is in
         subst (λ (x : Bool). Acted b host floor m s s' t.ask (cond x (BadBox word t.capacity) (cond (word == t.capacity) (Full word) (Found word))) next) (sym in_box)
         (by_equal (λ (turn : Turn). Acted b host floor m s s' t.ask turn next) word t.capacity (Full word) (Found word) (λ e. full_gate own e next)
-        (λ ne. subst (λ (x : Task). Acted b host floor m s s' t.ask (Found word) x) next_is (found_gate own ne)))
+        (λ ne. subst (λ (x : MailTask). Acted b host floor m s s' t.ask (Found word) x) next_is (found_gate own ne)))
     gate_by Take is =
-        let next : Task = record t { ask = Take; phase = at.Count; gate = word } in
+        let next : MailTask = record t { ask = Take; phase = at.Count; gate = word } in
         let next_is : record t { phase = at.Count; gate = word } ≡ next = ap (λ (a : Ask). record t { ask = a; phase = at.Count; gate = word }) is in
         subst (λ (x : Bool). Acted b host floor m s s' t.ask (cond x (BadBox word t.capacity) Go) next) (sym in_box)
-        (subst (λ (x : Task). Acted b host floor m s s' t.ask Go x) next_is take_gate)
+        (subst (λ (x : MailTask). Acted b host floor m s s' t.ask Go x) next_is take_gate)
 
   -- A word of the record is stored.
-  store_word : (s' : SharedState) (t : Task) (k : ℕ) → k < 8 → (w : IsWriting b host t.ask t.gate s m) → AtRecord (Holding k) b host t.ask t.gate s
-      → LeavesAt host (b.place (1 + t.gate)) s s' (s.memory (b.place (1 + t.gate))) (stored k (slice_index (line_of t.ask) k) (s.memory (b.place (1 + t.gate))) (s.copy host (b.place (1 + t.gate))))
+  store_word : (s' : SharedState) (t : MailTask) (k : ℕ) → k < 8 → (w : IsPosting b host t.ask t.gate s m) → AtRecord (Holding k) b host t.ask t.gate s
+      → LeavesAt host (b.place (1 + t.gate)) s s' (s.memory (b.place (1 + t.gate))) (stored k (slice_index (posted_line t.ask) k) (s.memory (b.place (1 + t.gate))) (s.copy host (b.place (1 + t.gate))))
       → Acted b host floor m s s' t.ask Go (record t { phase = cond (k == 7) at.SendRecord (at.StoreRecord (k + 1)) })
   store_word s' t k lt w holding done =
-      let value = slice_index (line_of t.ask) k in
+      let value = slice_index (posted_line t.ask) k in
       let held : AtRecord (Holding (k + 1)) b host t.ask t.gate s' =
-      rw (done.memory_is, done.copy_is) (holding_more k (line_of t.ask) (s.memory (b.place (1 + t.gate))) (s.copy host (b.place (1 + t.gate))) lt (line_long t.ask w.own.numbers w.own.is w.own.proper) (core.wide.copies host (b.place (1 + t.gate))) holding) in
+      rw (done.memory_is, done.copy_is) (holding_more k (posted_line t.ask) (s.memory (b.place (1 + t.gate))) (s.copy host (b.place (1 + t.gate))) lt
+      (line_long t.ask w.own.numbers w.own.is w.own.proper) (core.wide.copies host (b.place (1 + t.gate))) holding) in
       let w' = writing_stored b s s' m core host t.ask t.gate w k value done in
-      goes_on s' t.ask (record t { phase = cond (k == 7) at.SendRecord (at.StoreRecord (k + 1)) }) (word_core b s s' m core host t.ask t.gate w k value done) (word_keeps b s s' m core host t.ask t.gate w k value done)
-      (by_equal (λ (p : Phase). AtPhase p b host floor (record t { phase = p }) s' m) k 7 at.SendRecord (at.StoreRecord (k + 1))
+      goes_on s' t.ask (record t { phase = cond (k == 7) at.SendRecord (at.StoreRecord (k + 1)) }) (word_core b s s' m core host t.ask t.gate w k value done)
+      (word_keeps b s s' m core host t.ask t.gate w k value done)
+      (by_equal (λ (p : Phase). AtMailPhase p b host floor (record t { phase = p }) s' m) k 7 at.SendRecord (at.StoreRecord (k + 1))
       (λ e. let eight : k + 1 ≡ 8 = omega (arith, e) in (w', subst (λ (n : ℕ). AtRecord (Holding n) b host t.ask t.gate s') eight held))
       (λ ne. (omega (arith, lt, ne), w', held)))
 
   -- The record's line is handed over.
-  send_record : (s' : SharedState) (t : Task) → AtPhase at.SendRecord b host floor t s m
+  send_record : (s' : SharedState) (t : MailTask) → AtMailPhase at.SendRecord b host floor t s m
       → LeavesAt host (b.place (1 + t.gate)) s s' (s.memory (b.place (1 + t.gate))) (asked_for (s.copy host (b.place (1 + t.gate))))
       → Acted b host floor m s s' t.ask Go (record t { phase = at.FenceRecord })
   send_record s' t known left =
@@ -222,19 +228,19 @@ module _ (b : Box) (host : ℕ) (floor : Option ℕ) (m : Mail) (s : SharedState
       (then.0, (then.1, subst IsHandedOver (sym left.copy_is) (asked_handed (s.copy host (b.place (1 + t.gate))))))
 
   -- It is sent, and finished.
-  fence_record : (s' : SharedState) (t : Task) → AtPhase at.FenceRecord b host floor t s m → Fences host s s' → Acted b host floor m s s' t.ask Go (record t { phase = at.StoreGate })
+  fence_record : (s' : SharedState) (t : MailTask) → AtMailPhase at.FenceRecord b host floor t s m → Fences host s s' → Acted b host floor m s s' t.ask Go (record t { phase = at.StoreGate })
   fence_record s' t known fences =
       let kept = sends_keep b m host fences.lines s s' fences.sends core in
       let then = phase_kept b s s' m core host (kept.keeps host) at.FenceRecord floor t known in
       let line : ℕ = b.place (1 + t.gate) in
       goes_on s' t.ask (record t { phase = at.StoreGate }) kept.core (λ h ne. kept.keeps h) (
         then.0,
-        finished_then (line_of t.ask) (s'.memory line) (s'.copy host line) (line_long t.ask then.0.own.numbers then.0.own.is then.0.own.proper) (kept.core.wide.memory line) then.1.0
+        finished_then (posted_line t.ask) (s'.memory line) (s'.copy host line) (line_long t.ask then.0.own.numbers then.0.own.is then.0.own.proper) (kept.core.wide.memory line) then.1.0
             (not_dirty_then (s'.copy host line) then.1.1 (fences.none_asked line)),
       )
 
   -- The gate is stored.
-  store_gate : (s' : SharedState) (t : Task) (w : IsWriting b host t.ask t.gate s m) → AtRecord Finished b host t.ask t.gate s
+  store_gate : (s' : SharedState) (t : MailTask) (w : IsPosting b host t.ask t.gate s m) → AtRecord Finished b host t.ask t.gate s
       → LeavesAt host (b.place 0) s s' (s.memory (b.place 0)) (stored 0 (t.gate + 1) (s.memory (b.place 0)) (s.copy host (b.place 0)))
       → Acted b host floor m s s' t.ask Go (record t { phase = at.SendGate })
   store_gate s' t w finished done =
@@ -242,7 +248,7 @@ module _ (b : Box) (host : ℕ) (floor : Option ℕ) (m : Mail) (s : SharedState
       (has_published b s s' m core host t.ask t.gate w finished done)
 
   -- The gate's line is handed over.
-  send_gate : (s' : SharedState) (t : Task) → AtPhase at.SendGate b host floor t s m → LeavesAt host (b.place 0) s s' (s.memory (b.place 0)) (asked_for (s.copy host (b.place 0)))
+  send_gate : (s' : SharedState) (t : MailTask) → AtMailPhase at.SendGate b host floor t s m → LeavesAt host (b.place 0) s s' (s.memory (b.place 0)) (asked_for (s.copy host (b.place 0)))
       → Acted b host floor m s s' t.ask Go (record t { phase = at.FenceGate })
   send_gate s' t known left =
       let moves = transfers_at host (b.place 0) s s' _ _ left (asked_for_transfers (s.memory (b.place 0)) (s.copy host (b.place 0))) in
@@ -251,45 +257,46 @@ module _ (b : Box) (host : ℕ) (floor : Option ℕ) (m : Mail) (s : SharedState
       (then, subst IsHandedOver (sym left.copy_is) (asked_handed (s.copy host (b.place 0))))
 
   -- It is sent: the record is posted.
-  fence_gate : (s' : SharedState) (t : Task) → AtPhase at.FenceGate b host floor t s m → Fences host s s' → Acted b host floor m s s' t.ask (Posted t.gate) t
+  fence_gate : (s' : SharedState) (t : MailTask) → AtMailPhase at.FenceGate b host floor t s m → Fences host s s' → Acted b host floor m s s' t.ask (Posted t.gate) t
   fence_gate s' t known fences =
       let kept = sends_keep b m host fences.lines s s' fences.sends core in
       let then = phase_kept b s s' m core host (kept.keeps host) at.FenceGate floor t known in
-      let p : HasPublished b host t.ask t.gate s' m = then.0 in
+      let p : HasStoredGate b host t.ask t.gate s' m = then.0 in
       let counted : gate_at b s' ≡ t.gate + 1 =
-      sym (ap (λ (o : Option ℕ). top (s'.memory (b.place 0)) (masters_copy o s' (b.place 0))) p.own.writer ∙ top_then (s'.memory (b.place 0)) (s'.copy host (b.place 0)) (not_dirty_then (s'.copy host (b.place 0)) then.1 (fences.none_asked (b.place 0)))) ∙ p.published in
+      sym (ap (λ (o : Option ℕ). top (s'.memory (b.place 0)) (masters_copy o s' (b.place 0))) p.own.writer
+      ∙ top_then (s'.memory (b.place 0)) (s'.copy host (b.place 0)) (not_dirty_then (s'.copy host (b.place 0)) then.1 (fences.none_asked (b.place 0)))) ∙ p.published in
       let few = few_pending m in
       record {
         says = record {
-          count = by_equal (λ (x : Mail). length x.list ≡ t.gate + 1) t.gate (length m.list) (joined m) m (λ e. p.count) (λ ne. omega (arith, ne, p.count, p.settled, few.0));
-          last = by_equal (λ (x : Mail). slice_get x.list t.gate ≡ posted_by t.ask) t.gate (length m.list) (joined m) m (λ e. p.last)
-              (λ ne. sym (front_member m.list (listed m.pending) t.gate (omega (arith, ne, p.settled))) ∙ p.last);
+          count = by_equal (λ (x : Mail). length x.list ≡ t.gate + 1) t.gate (length m.list) (pending_joined m) m (λ e. p.count) (λ ne. omega (arith, ne, p.count, p.settled, few.0));
+          last = by_equal (λ (x : Mail). slice_get x.list t.gate ≡ posted_by t.ask) t.gate (length m.list) (pending_joined m) m (λ e. p.last)
+              (λ ne. sym (front_member m.list (pending_list m.pending) t.gate (omega (arith, ne, p.settled))) ∙ p.last);
         };
-        core = by_equal (λ (x : Mail). Core b s' x) t.gate (length m.list) (joined m) m (λ e. core_joined b s' m kept.core (omega (arith, p.count, counted))) (λ ne. kept.core);
+        core = by_equal (λ (x : Mail). BoxCore b s' x) t.gate (length m.list) (pending_joined m) m (λ e. core_joined b s' m kept.core (omega (arith, p.count, counted))) (λ ne. kept.core);
         others = λ h not r holds.
-            let held : TaskHolds b h r s' m = task_kept b s s' m core h (kept.keeps h) r holds in
-            by_equal (λ (x : Mail). TaskHolds b h r s' x) t.gate (length m.list) (joined m) m
-            (λ e. task_settled b h s' m (joined m) (settles_joined b h s' m kept.core (omega (arith, e, counted))) r held) (λ ne. held);
+            let held : RunHolds b h r s' m = task_kept b s s' m core h (kept.keeps h) r holds in
+            by_equal (λ (x : Mail). RunHolds b h r s' x) t.gate (length m.list) (pending_joined m) m
+            (λ e. task_settled b h s' m (pending_joined m) (settles_joined b h s' m kept.core (omega (arith, e, counted))) r held) (λ ne. held);
         mine = λ e. absurd cc;
       }
 
   -- A take that has read all that it counted.
-  taken : (s' : SharedState) (ask : Ask) (records : List (List ℕ)) (next : Task) → Core b s' m → ((h : ℕ) → h ≢ host → Keeps b h s s' m)
+  taken : (s' : SharedState) (ask : Ask) (records : List (List ℕ)) (next : MailTask) → BoxCore b s' m → ((h : ℕ) → h ≢ host → Keeps b h s s' m)
       → IsFront records floor m → length records ≤ gate_at b s' → Acted b host floor m s s' ask (Taken records) next
   taken s' ask records next core' keeps front below = record {
     says = front;
-    core = by_equal (λ (x : Mail). Core b s' x) (length records) (length m.list + 1) (joined m) m
+    core = by_equal (λ (x : Mail). BoxCore b s' x) (length records) (length m.list + 1) (pending_joined m) m
         (λ e. core_joined b s' m core' (omega (arith, e, below, (few_pending m).1))) (λ ne. core');
     others = λ h not r holds.
-        let held : TaskHolds b h r s' m = task_kept b s s' m core h (keeps h not) r holds in
-        by_equal (λ (x : Mail). TaskHolds b h r s' x) (length records) (length m.list + 1) (joined m) m
-        (λ e. task_settled b h s' m (joined m)
+        let held : RunHolds b h r s' m = task_kept b s s' m core h (keeps h not) r holds in
+        by_equal (λ (x : Mail). RunHolds b h r s' x) (length records) (length m.list + 1) (pending_joined m) m
+        (λ e. task_settled b h s' m (pending_joined m)
         (settles_joined b h s' m core' (omega (arith, e, below, front.within, core'.order, core'.high, (few_pending m).1))) r held) (λ ne. held);
     mine = λ e. absurd cc;
   }
 
   -- A take counts the records: there are none, or it goes on.
-  count_records : (t : Task) → AtPhase at.Count b host floor t s m → Acted b host floor m s s t.ask (cond (t.gate == 0) (Taken []) Go) (record t { phase = at.DropRecord 0 })
+  count_records : (t : MailTask) → AtMailPhase at.Count b host floor t s m → Acted b host floor m s s t.ask (cond (t.gate == 0) (Taken []) Go) (record t { phase = at.DropRecord 0 })
   count_records t known =
       by_equal (λ (turn : Turn). Acted b host floor m s s t.ask turn (record t { phase = at.DropRecord 0 })) t.gate 0 (Taken []) Go
       (λ e. taken s t.ask [] (record t { phase = at.DropRecord 0 }) core (λ h ne. keeps_same b h s m)
@@ -297,7 +304,7 @@ module _ (b : Box) (host : ℕ) (floor : Option ℕ) (m : Mail) (s : SharedState
       (λ ne. goes_on s t.ask (record t { phase = at.DropRecord 0 }) core (λ h not. keeps_same b h s m) (record { has = known.0; below = omega (arith, ne); read = known.1 }))
 
   -- A record's line is dropped.
-  drop_record : (s' : SharedState) (t : Task) (i : ℕ) → AtPhase (at.DropRecord i) b host floor t s m
+  drop_record : (s' : SharedState) (t : MailTask) (i : ℕ) → AtMailPhase (at.DropRecord i) b host floor t s m
       → LeavesAt host (b.place (1 + i)) s s' (sent (s.memory (b.place (1 + i))) (s.copy host (b.place (1 + i)))) Absent
       → Acted b host floor m s s' t.ask Go (record t { phase = at.LoadRecord i 0 })
   drop_record s' t i known left =
@@ -307,7 +314,7 @@ module _ (b : Box) (host : ℕ) (floor : Option ℕ) (m : Mail) (s : SharedState
       (omega arith, record { has = then; fresh = subst (λ (c : Cell). Fresh (s'.memory (b.place (1 + i))) c) (sym left.copy_is) tt; words = refl })
 
   -- A word of a record is loaded.
-  module _ (s' : SharedState) (t : Task) (i k word : ℕ) (lt : k < 8) (long : length t.words ≡ 8) (reading : IsReading i k b host floor t.gate t.words t.records s m)
+  module _ (s' : SharedState) (t : MailTask) (i k word : ℕ) (lt : k < 8) (long : length t.words ≡ 8) (reading : IsReading i k b host floor t.gate t.words t.records s m)
       (left : LeavesAt host (b.place (1 + i)) s s' (s.memory (b.place (1 + i))) (brought (s.memory (b.place (1 + i))) (s.copy host (b.place (1 + i)))))
       (given : word ≡ slice_index (current (s.memory (b.place (1 + i))) (s.copy host (b.place (1 + i)))) k) where
     line_moves : TransfersAt host (b.place (1 + i)) s s'
@@ -335,7 +342,9 @@ module _ (b : Box) (host : ℕ) (floor : Option ℕ) (m : Mail) (s : SharedState
 
     -- a word that isn't the last one
     next_word : k ≢ 7 → Acted b host floor m s s' t.ask Go (record t { phase = at.LoadRecord i (k + 1); words = words_with k word t })
-    next_word ne = goes_on s' t.ask (record t { phase = at.LoadRecord i (k + 1); words = words_with k word t }) (moved_core s' (b.place (1 + i)) line_moves) (λ h not. moved_keeps s' (b.place (1 + i)) line_moves h)
+    next_word ne =
+        goes_on s' t.ask (record t { phase = at.LoadRecord i (k + 1); words = words_with k word t }) (moved_core s' (b.place (1 + i)) line_moves)
+        (λ h not. moved_keeps s' (b.place (1 + i)) line_moves h)
         (omega (arith, lt, ne), record { has = then.has; fresh = then.fresh; words = more_words })
 
     module _ (last : k ≡ 7) where
@@ -365,23 +374,26 @@ module _ (b : Box) (host : ℕ) (floor : Option ℕ) (m : Mail) (s : SharedState
           ∙ ap (λ (ns : List ℕ). take i (whole m) ++ ns ∷ []) (read_as (slice_set t.words 7 word) member.0 reads).1
           ∙ sym (take_member (whole m) i member.0 member.1)
 
-      next : Task
+      next : MailTask
       next = record t { phase = at.DropRecord (i + 1); words = words_with 7 word t; records = records_with word t }
 
       whole_record : Acted b host floor m s s' t.ask (record_turn (wrong_word (words_with 7 word t)) i word t) (record t { phase = at.DropRecord (i + 1); words = words_with 7 word t; records = records_with word t })
       whole_record =
           subst (λ (o : Option ℕ). Acted b host floor m s s' t.ask (record_turn o i word t) (record t { phase = at.DropRecord (i + 1); words = words_with 7 word t; records = records_with word t }))
           (sym (read_as (slice_set t.words 7 word) member.0 reads).0)
-          (by_equal (λ (turn : Turn). Acted b host floor m s s' t.ask turn (record t { phase = at.DropRecord (i + 1); words = words_with 7 word t; records = records_with word t })) (i + 1) t.gate (Taken (records_with word t)) Go end more)
+          (by_equal (λ (turn : Turn). Acted b host floor m s s' t.ask turn (record t { phase = at.DropRecord (i + 1); words = words_with 7 word t; records = records_with word t })) (i + 1) t.gate
+          (Taken (records_with word t)) Go end more)
         where
-          core' : Core b s' m
+          core' : BoxCore b s' m
           core' = moved_core s' (b.place (1 + i)) line_moves
 
           count : length (records_with word t) ≡ i + 1
           count = ap (λ (r : List (List ℕ)). length r) read_more ∙ length-take-le (suc i) (whole m) (omega (arith, below, core.high)) ∙ sym (add-one i)
 
           end : i + 1 ≡ t.gate → Acted b host floor m s s' t.ask (Taken (records_with word t)) (record t { phase = at.DropRecord (i + 1); words = words_with 7 word t; records = records_with word t })
-          end e = taken s' t.ask (records_with word t) (record t { phase = at.DropRecord (i + 1); words = words_with 7 word t; records = records_with word t }) core' (λ h not. moved_keeps s' (b.place (1 + i)) line_moves h)
+          end e =
+              taken s' t.ask (records_with word t) (record t { phase = at.DropRecord (i + 1); words = words_with 7 word t; records = records_with word t }) core'
+              (λ h not. moved_keeps s' (b.place (1 + i)) line_moves h)
               (record {
                 front = read_more ∙ ap (λ (n : ℕ). take n (whole m)) (sym (count ∙ add-one i));
                 within = omega (arith, count, below, core.high);
@@ -390,18 +402,19 @@ module _ (b : Box) (host : ℕ) (floor : Option ℕ) (m : Mail) (s : SharedState
               (omega (arith, count, e, then.has.has.high))
 
           more : i + 1 ≢ t.gate → Acted b host floor m s s' t.ask Go (record t { phase = at.DropRecord (i + 1); words = words_with 7 word t; records = records_with word t })
-          more ne = goes_on s' t.ask (record t { phase = at.DropRecord (i + 1); words = words_with 7 word t; records = records_with word t }) core' (λ h not. moved_keeps s' (b.place (1 + i)) line_moves h)
+          more ne =
+              goes_on s' t.ask (record t { phase = at.DropRecord (i + 1); words = words_with 7 word t; records = records_with word t }) core' (λ h not. moved_keeps s' (b.place (1 + i)) line_moves h)
               (record { has = then.has.has; below = omega (arith, ne, then.has.below); read = read_more ∙ ap (λ (n : ℕ). take n (whole m)) (sym (add-one i)) })
 
-    load_word : Acted b host floor m s s' t.ask (turn_at (at.LoadRecord i k) word t) (task_at (at.LoadRecord i k) word t)
-    load_word = by_equal_both (λ (turn : Turn) (x : Task). Acted b host floor m s s' t.ask turn x) k 7
+    load_word : Acted b host floor m s s' t.ask (phase_turn (at.LoadRecord i k) word t) (phase_task (at.LoadRecord i k) word t)
+    load_word = by_equal_both (λ (turn : Turn) (x : MailTask). Acted b host floor m s s' t.ask turn x) k 7
         (record_turn (wrong_word (words_with 7 word t)) i word t) Go
         (record t { phase = at.DropRecord (i + 1); words = words_with 7 word t; records = records_with word t }) (record t { phase = at.LoadRecord i (k + 1); words = words_with k word t })
         whole_record next_word
 
   -- By the phase.
-  module _ (s' : SharedState) (t : Task) (word : ℕ) (capacity : t.capacity ≡ b.capacity) (long : length t.words ≡ 8) (post : IsPost t.ask → IsWriters b host t.ask) where
-    act : (p : Phase) → AtPhase p b host floor t s m → Operates (op_at p b.place t) host s s' word → Acted b host floor m s s' t.ask (turn_at p word t) (task_at p word t)
+  module _ (s' : SharedState) (t : MailTask) (word : ℕ) (capacity : t.capacity ≡ b.capacity) (long : length t.words ≡ 8) (post : IsPost t.ask → IsWriters b host t.ask) where
+    act : (p : Phase) → AtMailPhase p b host floor t s m → Operates (phase_op p b.place t) host s s' word → Acted b host floor m s s' t.ask (phase_turn p word t) (phase_task p word t)
     act at.DropGate known done = drop_gate s' t known done
     act at.LoadGate known done = gate_by s' t word capacity post known.0 known.1 done.0 done.1 t.ask refl
     act (at.StoreRecord k) known done = store_word s' t k known.0 known.1 known.2 done
@@ -410,51 +423,57 @@ module _ (b : Box) (host : ℕ) (floor : Option ℕ) (m : Mail) (s : SharedState
     act at.StoreGate known done = store_gate s' t known.0 known.1 done
     act at.SendGate known done = send_gate s' t known done
     act at.FenceGate known done = fence_gate s' t known done
-    act at.Count known done = subst (λ (x : SharedState). Acted b host floor m s x t.ask (turn_at at.Count word t) (task_at at.Count word t)) (sym done) (count_records t known)
+    act at.Count known done = subst (λ (x : SharedState). Acted b host floor m s x t.ask (phase_turn at.Count word t) (phase_task at.Count word t)) (sym done) (count_records t known)
     act (at.DropRecord i) known done = drop_record s' t i known done
     act (at.LoadRecord i k) known done = load_word s' t i k word known.0 long known.1 done.0 done.1
 
 -- a task goes on with what it was asked, on the same box, and with eight words
-same_ask : (p : Phase) (word : ℕ) (t : Task) → (task_at p word t).ask ≡ t.ask
-same_ask (at.LoadRecord i k) word t = by_equal (λ (x : Task). x.ask ≡ t.ask) k 7
-    (record t { phase = at.DropRecord (i + 1); words = words_with 7 word t; records = records_with word t }) (record t { phase = at.LoadRecord i (k + 1); words = words_with k word t }) (λ e. refl) (λ ne. refl)
+same_ask : (p : Phase) (word : ℕ) (t : MailTask) → (phase_task p word t).ask ≡ t.ask
+same_ask (at.LoadRecord i k) word t = by_equal (λ (x : MailTask). x.ask ≡ t.ask) k 7
+    (record t { phase = at.DropRecord (i + 1); words = words_with 7 word t; records = records_with word t }) (record t { phase = at.LoadRecord i (k + 1); words = words_with k word t }) (λ e. refl)
+    (λ ne. refl)
 same_ask other word t = refl
 
-same_capacity : (p : Phase) (word : ℕ) (t : Task) → (task_at p word t).capacity ≡ t.capacity
-same_capacity (at.LoadRecord i k) word t = by_equal (λ (x : Task). x.capacity ≡ t.capacity) k 7
-    (record t { phase = at.DropRecord (i + 1); words = words_with 7 word t; records = records_with word t }) (record t { phase = at.LoadRecord i (k + 1); words = words_with k word t }) (λ e. refl) (λ ne. refl)
+same_capacity : (p : Phase) (word : ℕ) (t : MailTask) → (phase_task p word t).capacity ≡ t.capacity
+same_capacity (at.LoadRecord i k) word t = by_equal (λ (x : MailTask). x.capacity ≡ t.capacity) k 7
+    (record t { phase = at.DropRecord (i + 1); words = words_with 7 word t; records = records_with word t }) (record t { phase = at.LoadRecord i (k + 1); words = words_with k word t }) (λ e. refl)
+    (λ ne. refl)
 same_capacity other word t = refl
 
-still_long : (p : Phase) (word : ℕ) (t : Task) → length (task_at p word t).words ≡ length t.words
-still_long (at.LoadRecord i k) word t = by_equal (λ (x : Task). length x.words ≡ length t.words) k 7
-    (record t { phase = at.DropRecord (i + 1); words = words_with 7 word t; records = records_with word t }) (record t { phase = at.LoadRecord i (k + 1); words = words_with k word t }) (λ e. length-set t.words 7 word) (λ ne. length-set t.words k word)
+still_long : (p : Phase) (word : ℕ) (t : MailTask) → length (phase_task p word t).words ≡ length t.words
+still_long (at.LoadRecord i k) word t = by_equal (λ (x : MailTask). length x.words ≡ length t.words) k 7
+    (record t { phase = at.DropRecord (i + 1); words = words_with 7 word t; records = records_with word t }) (record t { phase = at.LoadRecord i (k + 1); words = words_with k word t })
+    (λ e. length-set t.words 7 word) (λ ne. length-set t.words k word)
 still_long other word t = refl
 
 -- A step of a run.
-pub step_holds : (b : Box) (host word : ℕ) (m : Mail) (r : Run) (old new : Runs) (s s' : SharedState) → Invariant b old s m → Steps b host word m r old new s s' → StepHolds b word m r new s'
+pub step_holds : (b : Box) (host word : ℕ) (m : Mail) (r : TaskRun) (old new : TaskRuns) (s s' : SharedState) → BoxInvariant b old s m → TakesTurn b host word m r old new s s'
+    → TurnHolds b word m r new s'
 step_holds b host word m r old new s s' inv step =
-    let t : Task = r.task in
-    let holds : TaskHolds b host r s m = inv.tasks host r step.is in
-    let acted : Acted b host r.floor m s s' t.ask (turn_of word t) (task_of word t) = act b host r.floor m s inv.core s' t word holds.capacity holds.long holds.post t.phase holds.phase step.operates in
+    let t : MailTask = r.task in
+    let holds : RunHolds b host r s m = inv.tasks host r step.is in
+    let acted : Acted b host r.floor m s s' t.ask (task_turn word t) (next_task word t) = act b host r.floor m s inv.core s' t word holds.capacity holds.long holds.post t.phase holds.phase
+    step.operates in
     record {
       says = acted.says;
       invariant = record { core = acted.core; tasks = λ h x is. tasks acted holds h x is (cases_eq h host) };
     }
   where
-    own : Acted b host r.floor m s s' r.task.ask (turn_of word r.task) (task_of word r.task) → TaskHolds b host r s m → (over : Bool) → is_over (turn_of word r.task) ≡ over → (x : Run)
-        → cond over None (Some (record { task = task_of word r.task; floor = floor_after (turn_of word r.task) (length m.list) r.floor })) ≡ Some x → TaskHolds b host x s' (settles (turn_of word r.task) r.task.ask m)
+    own : Acted b host r.floor m s s' r.task.ask (task_turn word r.task) (next_task word r.task) → RunHolds b host r s m → (over : Bool) → ends_task (task_turn word r.task) ≡ over → (x : TaskRun)
+        → cond over None (Some (record { task = next_task word r.task; floor = floor_behind_turn (task_turn word r.task) (length m.list) r.floor })) ≡ Some x
+        → RunHolds b host x s' (settles (task_turn word r.task) r.task.ask m)
     own acted holds true is x same = absurd cc
     own acted holds false is x same =
-        subst (λ (y : Run). TaskHolds b host y s' (settles (turn_of word r.task) r.task.ask m)) (same_Some _ x same) (record {
+        subst (λ (y : TaskRun). RunHolds b host y s' (settles (task_turn word r.task) r.task.ask m)) (same_Some _ x same) (record {
           capacity = same_capacity r.task.phase word r.task ∙ holds.capacity;
           long = still_long r.task.phase word r.task ∙ holds.long;
           post = subst (λ (a : Ask). IsPost a → IsWriters b host a) (sym (same_ask r.task.phase word r.task)) holds.post;
           phase = acted.mine is;
         })
 
-    tasks : Acted b host r.floor m s s' r.task.ask (turn_of word r.task) (task_of word r.task) → TaskHolds b host r s m → (h : ℕ) (x : Run) → new h ≡ Some x → (h ≡ host) ⊎ (h ≢ host)
-        → TaskHolds b h x s' (settles (turn_of word r.task) r.task.ask m)
+    tasks : Acted b host r.floor m s s' r.task.ask (task_turn word r.task) (next_task word r.task) → RunHolds b host r s m → (h : ℕ) (x : TaskRun) → new h ≡ Some x → (h ≡ host) ⊎ (h ≢ host)
+        → RunHolds b h x s' (settles (task_turn word r.task) r.task.ask m)
     tasks acted holds h x is (inl e) =
-        subst (λ (k : ℕ). TaskHolds b k x s' (settles (turn_of word r.task) r.task.ask m)) (sym e)
-        (own acted holds (is_over (turn_of word r.task)) refl x (sym step.mine ∙ ap new (sym e) ∙ is))
+        subst (λ (k : ℕ). RunHolds b k x s' (settles (task_turn word r.task) r.task.ask m)) (sym e)
+        (own acted holds (ends_task (task_turn word r.task)) refl x (sym step.mine ∙ ap new (sym e) ∙ is))
     tasks acted holds h x is (inr ne) = acted.others h ne x (inv.tasks h x (sym (step.others h ne) ∙ is))

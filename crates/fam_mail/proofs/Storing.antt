@@ -12,10 +12,10 @@ use Rattle.fam_protocol.proofs.Lines.Free.{Same, same}
 use Rattle.fam_protocol.proofs.Lines.Moves.{fresh_clean}
 use Rattle.fam_protocol.proofs.Lines.Stored.{store_copies, store_dirties, store_memory, store_wide}
 use Rattle.fam_mail.specs.Boxes.{record_at}
-use Rattle.fam_mail.specs.Mail.{Mail, listed, posted_by, whole}
-use Rattle.fam_mail.specs.Protocol.{AtRecord, Box, Core, HasPublished, IsBoxLine, IsWriting, gate_at, top_at}
+use Rattle.fam_mail.specs.Mail.{Mail, pending_list, posted_by, whole}
+use Rattle.fam_mail.specs.Protocol.{AtRecord, Box, BoxCore, HasStoredGate, IsLineOfBox, IsPosting, gate_at, top_at}
 use Rattle.fam_mail.specs.Records.{record_in}
-use Rattle.fam_mail.specs.Tasks.{line_of}
+use Rattle.fam_mail.specs.Tasks.{posted_line}
 use Rattle.fam_mail.specs.declared.ask.Ask.{Ask}
 use Rattle.fam_mail.specs.declared.ask.Ask.TheVariants.{Post, Take}
 use Rattle.fam_mail.proofs.Keeping.{Keeps}
@@ -23,7 +23,7 @@ use Rattle.fam_mail.proofs.Lists.{member_behind}
 use Rattle.fam_mail.proofs.RecordLines.{record_back}
 
 -- a writer's store into a line, as another host sees it: nothing of memory or of its own copies changes
-module _ (b : Box) (s s' : SharedState) (m : Mail) (core : Core b s m) (host line word value : ℕ) (writer : b.writer ≡ Some host)
+module _ (b : Box) (s s' : SharedState) (m : Mail) (core : BoxCore b s m) (host line word value : ℕ) (writer : b.writer ≡ Some host)
     (done : LeavesAt host line s s' (s.memory line) (stored word value (s.memory line) (s.copy host line))) where
   memory_same : (l : ℕ) → s'.memory l ≡ s.memory l
   memory_same = store_memory host line word value s s' core.wide done
@@ -47,14 +47,14 @@ module _ (b : Box) (s s' : SharedState) (m : Mail) (core : Core b s m) (host lin
   writers h l (inl d) = core.only_writer h l d
   writers h l (inr e) = writer ∙ ap (λ (x : ℕ). Some x) (sym e.0)
 
-  box_line : IsBoxLine b.place b.capacity line → (h l : ℕ) → IsDirty (s.copy h l) ⊎ ((h ≡ host) × (l ≡ line)) → IsBoxLine b.place b.capacity l
+  box_line : IsLineOfBox b.place b.capacity line → (h l : ℕ) → IsDirty (s.copy h l) ⊎ ((h ≡ host) × (l ≡ line)) → IsLineOfBox b.place b.capacity l
   box_line of h l (inl d) = core.inside h l d
   box_line of h l (inr e) = record { number = of.number; below = of.below; is = e.1 ∙ of.is }
 
   -- a store into a line of the file: what the gate counts then stands in memory, and nothing is dirty over it
-  core_stored : IsBoxLine b.place b.capacity line → gate_at b s ≤ top_at b s' → top_at b s' ≤ length (whole m)
+  core_stored : IsLineOfBox b.place b.capacity line → gate_at b s ≤ top_at b s' → top_at b s' ≤ length (whole m)
       → ((i : ℕ) (numbers : List ℕ) → slice_get (whole m) i ≡ Some numbers → i < top_at b s' → record_at b.place s.memory i ≡ Ok numbers)
-      → ((i h : ℕ) → i < top_at b s' → IsDirty (s.copy h (b.place (1 + i))) ⊎ ((h ≡ host) × (b.place (1 + i) ≡ line)) → ⊥) → Core b s' m
+      → ((i h : ℕ) → i < top_at b s' → IsDirty (s.copy h (b.place (1 + i))) ⊎ ((h ≡ host) × (b.place (1 + i) ≡ line)) → ⊥) → BoxCore b s' m
   core_stored of order high stands clean =
       let m0 = ap gate_of (memory_same (b.place 0)) in
       record {
@@ -72,7 +72,7 @@ module _ (b : Box) (s s' : SharedState) (m : Mail) (core : Core b s m) (host lin
       }
 
 -- a word of the record's line
-module _ (b : Box) (s s' : SharedState) (m : Mail) (core : Core b s m) (host : ℕ) (ask : Ask) (gate : ℕ) (w : IsWriting b host ask gate s m) (word value : ℕ)
+module _ (b : Box) (s s' : SharedState) (m : Mail) (core : BoxCore b s m) (host : ℕ) (ask : Ask) (gate : ℕ) (w : IsPosting b host ask gate s m) (word value : ℕ)
     (done : LeavesAt host (b.place (1 + gate)) s s' (s.memory (b.place (1 + gate))) (stored word value (s.memory (b.place (1 + gate))) (s.copy host (b.place (1 + gate))))) where
   line : ℕ
   line = b.place (1 + gate)
@@ -86,9 +86,15 @@ module _ (b : Box) (s s' : SharedState) (m : Mail) (core : Core b s m) (host : �
     where
       go : (o : Option ℕ) → top (s'.memory (b.place 0)) (masters_copy o s' (b.place 0)) ≡ top (s.memory (b.place 0)) (masters_copy o s (b.place 0))
       go None = ap gate_of (memory_same b s s' m core host (b.place (1 + gate)) word value w.own.writer done (b.place 0))
-      go (Some h) = rw (memory_same b s s' m core host (b.place (1 + gate)) word value w.own.writer done (b.place 0), copy_same b s s' m core host (b.place (1 + gate)) word value w.own.writer done h (b.place 0) (inr not_gate)) refl
+      go (Some h) =
+          rw (
+            memory_same b s s' m core host (b.place (1 + gate)) word value w.own.writer done (b.place 0),
+            copy_same b s s' m core host (b.place (1 + gate)) word value w.own.writer done h
+                (b.place 0) (inr not_gate),
+          ) refl
 
-  pub word_core : Core b s' m
+  -- what holds of the box stays when a word of a record is stored
+  pub word_core : BoxCore b s' m
   word_core = core_stored b s s' m core host (b.place (1 + gate)) word value w.own.writer done
       (record { number = 1 + gate; below = omega (arith, w.room); is = refl })
       (omega (arith, top_same, core.order)) (omega (arith, top_same, core.high))
@@ -100,19 +106,21 @@ module _ (b : Box) (s s' : SharedState) (m : Mail) (core : Core b s m) (host : �
           let below : i < gate = omega (arith, lt, top_same, w.unpublished) in
           omega (arith, below, core.apart (1 + i) (1 + gate) (omega (arith, below, w.room)) (omega (arith, w.room)) e.1)
 
+  -- and what other tasks rest on
   pub word_keeps : (h : ℕ) → h ≢ host → Keeps b h s s' m
   word_keeps h ne = stored_keeps b s s' m core host (b.place (1 + gate)) word value w.own.writer done h ne
 
-  pub writing_stored : IsWriting b host ask gate s' m
+  -- and the post is still one that writes its record
+  pub writing_stored : IsPosting b host ask gate s' m
   writing_stored = record { own = w.own; settled = w.settled; pending = w.pending; unpublished = top_same ∙ w.unpublished; room = w.room }
 
 -- the line of a post is its record's
-line_reads : (ask : Ask) (numbers : List ℕ) → posted_by ask ≡ Some numbers → record_in (line_of (Post numbers)) ≡ Ok numbers → record_in (line_of ask) ≡ Ok numbers
-line_reads (Post own) numbers is reads = ap (λ (ns : List ℕ). record_in (line_of (Post ns))) (same_Some own numbers is) ∙ reads
+line_reads : (ask : Ask) (numbers : List ℕ) → posted_by ask ≡ Some numbers → record_in (posted_line (Post numbers)) ≡ Ok numbers → record_in (posted_line ask) ≡ Ok numbers
+line_reads (Post own) numbers is reads = ap (λ (ns : List ℕ). record_in (posted_line (Post ns))) (same_Some own numbers is) ∙ reads
 line_reads Take numbers is reads = absurd cc
 
 -- the gate
-module _ (b : Box) (s s' : SharedState) (m : Mail) (core : Core b s m) (host : ℕ) (ask : Ask) (gate : ℕ) (w : IsWriting b host ask gate s m) (finished : AtRecord Finished b host ask gate s)
+module _ (b : Box) (s s' : SharedState) (m : Mail) (core : BoxCore b s m) (host : ℕ) (ask : Ask) (gate : ℕ) (w : IsPosting b host ask gate s m) (finished : AtRecord Finished b host ask gate s)
     (done : LeavesAt host (b.place 0) s s' (s.memory (b.place 0)) (stored 0 (gate + 1) (s.memory (b.place 0)) (s.copy host (b.place 0)))) where
   -- the writer's gate is one higher
   pub top_now : top_at b s' ≡ gate + 1
@@ -125,12 +133,14 @@ module _ (b : Box) (s s' : SharedState) (m : Mail) (core : Core b s m) (host : �
   pending_is : m.pending ≡ Some w.own.numbers
   pending_is = w.pending ∙ w.own.is
 
+  -- the list ends in the pending record
   pub whole_is : whole m ≡ m.list ++ w.own.numbers ∷ []
-  whole_is = ap (λ (p : Option (List ℕ)). m.list ++ listed p) pending_is
+  whole_is = ap (λ (p : Option (List ℕ)). m.list ++ pending_list p) pending_is
 
   pub last_is : slice_get (whole m) gate ≡ Some w.own.numbers
   last_is = ap (λ (xs : List (List ℕ)). slice_get xs gate) whole_is ∙ ap (λ (n : ℕ). slice_get (m.list ++ w.own.numbers ∷ []) n) w.settled ∙ member_behind m.list w.own.numbers
 
+  -- so it has one record more than the gate counts
   pub count_is : length (whole m) ≡ gate + 1
   count_is = ap (λ (xs : List (List ℕ)). length xs) whole_is ∙ omega (arith, length-append m.list (w.own.numbers ∷ []), w.settled)
 
@@ -138,7 +148,8 @@ module _ (b : Box) (s s' : SharedState) (m : Mail) (core : Core b s m) (host : �
   reads : record_at b.place s.memory gate ≡ Ok w.own.numbers
   reads = ap record_in finished.0 ∙ line_reads ask w.own.numbers w.own.is (record_back w.own.numbers w.own.proper)
 
-  pub gate_core : Core b s' m
+  -- what holds of the box stays when the gate is stored
+  pub gate_core : BoxCore b s' m
   gate_core = core_stored b s s' m core host (b.place 0) 0 (gate + 1) w.own.writer done
       (record { number = 0; below = omega arith; is = refl })
       (omega (arith, core.order, w.unpublished, top_now)) (omega (arith, top_now, count_is))
@@ -157,8 +168,10 @@ module _ (b : Box) (s s' : SharedState) (m : Mail) (core : Core b s m) (host : �
           let own : h ≡ host = same_Some _ _ (sym (core.only_writer h (b.place (1 + i)) d) ∙ w.own.writer) in
           fresh_clean _ _ finished.1 (subst (λ (x : ℕ). IsDirty (s.copy host (b.place (1 + x)))) e (subst (λ (x : ℕ). IsDirty (s.copy x (b.place (1 + i)))) own d))
 
+  -- and what other tasks rest on
   pub gate_keeps : (h : ℕ) → h ≢ host → Keeps b h s s' m
   gate_keeps h ne = stored_keeps b s s' m core host (b.place 0) 0 (gate + 1) w.own.writer done h ne
 
-  pub has_published : HasPublished b host ask gate s' m
+  -- and the post has stored its gate
+  pub has_published : HasStoredGate b host ask gate s' m
   has_published = record { own = w.own; published = top_now; count = count_is; last = last_is ∙ sym w.own.is; settled = omega (arith, w.settled) }

@@ -12,8 +12,8 @@ capacity_of size = size / line_bytes - 1
 -- A box lies in a file, line by line: line j of the file is line `at j` of the image.
 
 -- the gate: word 0 of the file's line 0. Its other words aren't looked at
-abbrev pub gate_in : (ℕ → ℕ) → (ℕ → List ℕ) → ℕ
-gate_in at memory = slice_index (memory (at 0)) 0
+abbrev pub box_gate : (ℕ → ℕ) → (ℕ → List ℕ) → ℕ
+box_gate at memory = slice_index (memory (at 0)) 0
 
 -- record i is line 1 + i
 abbrev pub record_at : (ℕ → ℕ) → (ℕ → List ℕ) → ℕ → Result (List ℕ) ℕ
@@ -38,7 +38,7 @@ box_by (Err i) = Err (BadRecord i)
 -- the list of the records below the gate; or that the gate is above the capacity, or that a record below it is none
 abbrev pub box_of : (ℕ → ℕ) → ℕ → (ℕ → List ℕ) → Result (List (List ℕ)) WrongBox
 box_of at capacity memory =
-    if nat_lt capacity (gate_in at memory) then Err (BadBox (gate_in at memory) capacity) else box_by (records_from (record_at at memory) 0 (gate_in at memory))
+    if nat_lt capacity (box_gate at memory) then Err (BadBox (box_gate at memory) capacity) else box_by (records_from (record_at at memory) 0 (box_gate at memory))
 
 -- no two lines of the file, the gate's and those of the records, are one line of the image
 abbrev pub IsOneToOne : (ℕ → ℕ) → ℕ → Type 0

@@ -4,7 +4,7 @@ use Rattle.fam_base.specs.Image.{Image, line_at}
 use Rattle.fam_base.specs.declared.line.LineNo.{LineNo}
 use Rattle.fam_media.specs.Outside.{IfModelled}
 use Rattle.fam_media.specs.States.{MediaState}
-use Rattle.fam_mail.specs.Boxes.{first_wrong, gate_in, record_at}
+use Rattle.fam_mail.specs.Boxes.{first_wrong, box_gate, record_at}
 use Rattle.fam_mail.specs.declared.check.BoxFault.{BoxFault}
 use Rattle.fam_mail.specs.declared.check.BoxFault.TheVariants.{Wrong, MediaFault}
 use Rattle.fam_mail.specs.declared.check.WrongBox.{WrongBox}
@@ -27,7 +27,7 @@ pub record IsRecordRead (place : ℕ → ℕ) (capacity : ℕ) (told : Option Im
   pub below : number < gate
   pub room : gate ≤ capacity
   pub line_is : line ≡ place (1 + number)
-  pub gate_is : IfModelled told (λ image. gate ≡ gate_in place (line_at image))
+  pub gate_is : IfModelled told (λ image. gate ≡ box_gate place (line_at image))
   pub front : IfModelled told (λ image. first_wrong (record_at place (line_at image)) 0 number ≡ None)
 
 -- a test of a box reads this line: the gate's, or that of a record
@@ -40,6 +40,6 @@ pub record IsCheckedTo {M : Type 0} (size : M → ℕ) (state : M → MediaState
   pub same : (state now).image ≡ (state old).image
   pub later : (state old).faults ≤ (state now).faults
   pub room : gate ≤ capacity
-  pub gate_is : IfModelled (state old).image (λ image. gate ≡ gate_in place (line_at image))
+  pub gate_is : IfModelled (state old).image (λ image. gate ≡ box_gate place (line_at image))
   pub right : IfModelled (state old).image (λ image. first_wrong (record_at place (line_at image)) 0 i ≡ None)
   pub front : IfModelled (state old).image (λ image. first_wrong (record_at place (line_at image)) 0 gate ≡ first_wrong (record_at place (line_at image)) i (gate - i))

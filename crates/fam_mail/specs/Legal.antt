@@ -5,21 +5,21 @@ use Rattle.fam_base.specs.PathOrder.{path_eq}
 use Rattle.fam_mail.specs.declared.ask.Ask.{Ask}
 use Rattle.fam_mail.specs.declared.note.MailNote.{MailNote}
 use Rattle.fam_mail.specs.declared.note.MailNote.TheVariants.{Writer, Reader, Start, Mark, Found, Posted, Full, Taken, BadBox, BadRecord, Stop, Halt, MediaFault, Refused}
-use Rattle.fam_mail.specs.Mail.{IsFront, IsPosted, Mail, MayFind, acknowledged, found, posted_by, shown}
+use Rattle.fam_mail.specs.Mail.{IsFront, IsPosted, Mail, MayFind, record_posted, records_found, posted_by, records_taken}
 
 -- What is settled: a fold over the notes.
 
 -- what the notes so far tell: which records are settled and which one is pending; of the host of each name, what it was asked last,
 -- and how many records were settled just after its last mark; and which host has found the box full, and has yet to say so
-pub record State : Type 0 where
+pub record MailState : Type 0 where
   pub mail : Mail
   pub asked : List ℕ → Option Ask
   pub floor : List ℕ → Option ℕ
   pub due : Option (List ℕ)
 
 -- before the first note: the start image's box reads as this list, and nothing is pending
-abbrev pub first_state : List (List ℕ) → State
-first_state records = record { mail = record { list = records; pending = None }; asked = λ name. None; floor = λ name. None; due = None }
+abbrev pub first_mail_state : List (List ℕ) → MailState
+first_mail_state records = record { mail = record { list = records; pending = None }; asked = λ name. None; floor = λ name. None; due = None }
 
 -- of the host of this name this is known now, and of the others what was
 abbrev pub known_of : {A : Type 0} → List ℕ → A → (List ℕ → Option A) → List ℕ → Option A
@@ -33,27 +33,27 @@ own_record (Some ask) = posted_by ask
 -- a post finds n records in a box with room for so many: the pending one joins the list where it is among them, and is dropped
 -- otherwise; then the post's own is pending, where there is room
 abbrev pub found_by : ℕ → ℕ → Option (List ℕ) → Mail → Mail
-found_by capacity n own m = if nat_lt n capacity then record (found n m) { pending = own } else found n m
+found_by capacity n own m = if nat_lt n capacity then record (records_found n m) { pending = own } else records_found n m
 
 -- records and pending one behind a note
-abbrev pub mail_behind : ℕ → State → MailNote → Mail
-mail_behind capacity s (Writer name) = s.mail
-mail_behind capacity s (Reader name) = s.mail
-mail_behind capacity s (Start name ask) = s.mail
-mail_behind capacity s (Mark name) = s.mail
-mail_behind capacity s (Found name n) = found_by capacity n (own_record (s.asked name)) s.mail
-mail_behind capacity s (Posted name n) = acknowledged n s.mail
-mail_behind capacity s (Full name n) = s.mail
-mail_behind capacity s (Taken name count records) = shown count s.mail
-mail_behind capacity s (BadBox name gate most) = s.mail
-mail_behind capacity s (BadRecord name i word) = s.mail
-mail_behind capacity s (Stop name) = s.mail
-mail_behind capacity s (Halt name) = s.mail
-mail_behind capacity s (MediaFault name line) = s.mail
-mail_behind capacity s (Refused name cause) = s.mail
+abbrev pub mail_settled_behind : ℕ → MailState → MailNote → Mail
+mail_settled_behind capacity s (Writer name) = s.mail
+mail_settled_behind capacity s (Reader name) = s.mail
+mail_settled_behind capacity s (Start name ask) = s.mail
+mail_settled_behind capacity s (Mark name) = s.mail
+mail_settled_behind capacity s (Found name n) = found_by capacity n (own_record (s.asked name)) s.mail
+mail_settled_behind capacity s (Posted name n) = record_posted n s.mail
+mail_settled_behind capacity s (Full name n) = s.mail
+mail_settled_behind capacity s (Taken name count records) = records_taken count s.mail
+mail_settled_behind capacity s (BadBox name gate most) = s.mail
+mail_settled_behind capacity s (BadRecord name i word) = s.mail
+mail_settled_behind capacity s (Stop name) = s.mail
+mail_settled_behind capacity s (Halt name) = s.mail
+mail_settled_behind capacity s (MediaFault name line) = s.mail
+mail_settled_behind capacity s (Refused name cause) = s.mail
 
 -- what hosts were asked last
-abbrev pub asked_behind : State → MailNote → List ℕ → Option Ask
+abbrev pub asked_behind : MailState → MailNote → List ℕ → Option Ask
 asked_behind s (Writer name) = s.asked
 asked_behind s (Reader name) = s.asked
 asked_behind s (Start name ask) = known_of name ask s.asked
@@ -70,7 +70,7 @@ asked_behind s (MediaFault name line) = s.asked
 asked_behind s (Refused name cause) = s.asked
 
 -- how many records were settled at their last marks. A mark itself settles nothing
-abbrev pub floor_behind : State → MailNote → List ℕ → Option ℕ
+abbrev pub floor_behind : MailState → MailNote → List ℕ → Option ℕ
 floor_behind s (Writer name) = s.floor
 floor_behind s (Reader name) = s.floor
 floor_behind s (Start name ask) = s.floor
@@ -104,30 +104,30 @@ due_behind capacity (MediaFault name line) = None
 due_behind capacity (Refused name cause) = None
 
 -- the state behind a note
-abbrev pub state_behind : ℕ → State → MailNote → State
-state_behind capacity s note =
-    record { mail = mail_behind capacity s note; asked = asked_behind s note; floor = floor_behind s note; due = due_behind capacity note }
+abbrev pub mail_state_behind : ℕ → MailState → MailNote → MailState
+mail_state_behind capacity s note =
+    record { mail = mail_settled_behind capacity s note; asked = asked_behind s note; floor = floor_behind s note; due = due_behind capacity note }
 
 -- behind some notes more
-abbrev pub state_along : ℕ → State → List MailNote → State
-state_along capacity s [] = s
-state_along capacity s (note ∷ notes) = state_along capacity (state_behind capacity s note) notes
+abbrev pub mail_state_along : ℕ → MailState → List MailNote → MailState
+mail_state_along capacity s [] = s
+mail_state_along capacity s (note ∷ notes) = mail_state_along capacity (mail_state_behind capacity s note) notes
 
 -- behind a journal, of a box with room for so many records that read as this list at first
-abbrev pub state_of : ℕ → List (List ℕ) → List MailNote → State
-state_of capacity records journal = state_along capacity (first_state records) journal
+abbrev pub mail_state : ℕ → List (List ℕ) → List MailNote → MailState
+mail_state capacity records journal = mail_state_along capacity (first_mail_state records) journal
 
 -- What is legal.
 
 -- a list that is taken has as many records as its note says. It is a front of the settled ones followed by the pending one, and
 -- holds all that were settled just after its task's mark
-pub record MayTake (count : ℕ) (records : List (List ℕ)) (floor : Option ℕ) (m : Mail) : Type 0 where
+pub record MayTakeList (count : ℕ) (records : List (List ℕ)) (floor : Option ℕ) (m : Mail) : Type 0 where
   pub count_is : count ≡ length records
   pub front : IsFront records floor m
 
 -- the row of a note: a box that was one at first is never found to be none. A fault of the media has its cause, a count that
 -- rose, beside the journal, and any other note is told by the machine alone
-abbrev pub Allows : ℕ → State → MailNote → Type 0
+abbrev pub Allows : ℕ → MailState → MailNote → Type 0
 Allows capacity s (Writer name) = ⊤
 Allows capacity s (Reader name) = ⊤
 Allows capacity s (Start name ask) = ⊤
@@ -135,7 +135,7 @@ Allows capacity s (Mark name) = ⊤
 Allows capacity s (Found name n) = MayFind n s.mail
 Allows capacity s (Posted name n) = IsPosted n (own_record (s.asked name)) s.mail
 Allows capacity s (Full name n) = n ≡ capacity
-Allows capacity s (Taken name count records) = MayTake count records (s.floor name) s.mail
+Allows capacity s (Taken name count records) = MayTakeList count records (s.floor name) s.mail
 Allows capacity s (BadBox name gate most) = ⊥
 Allows capacity s (BadRecord name i word) = ⊥
 Allows capacity s (Stop name) = ⊤
@@ -161,15 +161,15 @@ says_full (MediaFault name line) = None
 says_full (Refused name cause) = None
 
 -- a note may come next: its row allows it, and Full comes where it is due, and nowhere else
-pub record MayCome (capacity : ℕ) (s : State) (note : MailNote) : Type 0 where
+pub record MayCome (capacity : ℕ) (s : MailState) (note : MailNote) : Type 0 where
   pub full : says_full note ≡ s.due
   pub row : Allows capacity s note
 
 -- so may each of these, and at the end nothing is due
-abbrev pub LegalBehind : ℕ → State → List MailNote → Type 0
-LegalBehind capacity s [] = s.due ≡ None
-LegalBehind capacity s (note ∷ notes) = MayCome capacity s note × LegalBehind capacity (state_behind capacity s note) notes
+abbrev pub LegalMailBehind : ℕ → MailState → List MailNote → Type 0
+LegalMailBehind capacity s [] = s.due ≡ None
+LegalMailBehind capacity s (note ∷ notes) = MayCome capacity s note × LegalMailBehind capacity (mail_state_behind capacity s note) notes
 
 -- a journal of a box with room for so many records that read as this list at first
-abbrev pub Legal : ℕ → List (List ℕ) → List MailNote → Type 0
-Legal capacity records journal = LegalBehind capacity (first_state records) journal
+abbrev pub LegalMail : ℕ → List (List ℕ) → List MailNote → Type 0
+LegalMail capacity records journal = LegalMailBehind capacity (first_mail_state records) journal

@@ -12,35 +12,35 @@ use Rattle.fam_machine.specs.Operations.{Machine, given, machine, operated}
 use Rattle.fam_rules.specs.Written.{file_line}
 use Rattle.fam_mail.specs.declared.note.MailNote.{MailNote}
 use Rattle.fam_mail.specs.declared.note.MailNote.TheVariants as note
-use Rattle.fam_mail.specs.Calls.{kept_task, turn_notes}
-use Rattle.fam_mail.specs.Tasks.{Task, op_of, task_of, turn_of}
-use Rattle.fam_mail.specs.World.{HostView, changed_at}
+use Rattle.fam_mail.specs.Calls.{kept_task, notes_of_turn}
+use Rattle.fam_mail.specs.Tasks.{MailTask, task_op, next_task, task_turn}
+use Rattle.fam_mail.specs.World.{MailHost, changed_member}
 
 -- memory, and the declared hosts in their order
-pub record Machines : Type 0 where
+pub record MailMachines : Type 0 where
   pub memory : Image
-  pub hosts : List HostView
+  pub hosts : List MailHost
 
 -- before the first event
-abbrev pub unused : Image → Machines
-unused image = record { memory = image; hosts = [] }
+abbrev pub unused_machines : Image → MailMachines
+unused_machines image = record { memory = image; hosts = [] }
 
 -- memory and the cache of one host
-abbrev pub machine_of : Machines → HostView → Machine
-machine_of m host = machine m.memory host.cache
+abbrev pub host_machine : MailMachines → MailHost → Machine
+host_machine m host = machine m.memory host.cache
 
 -- another host in a host's place, over this memory
-abbrev pub with_host_at : ℕ → HostView → Image → Machines → Machines
-with_host_at at host memory m = record { memory = memory; hosts = changed_at at (λ h. host) m.hosts }
+abbrev pub with_host_at : ℕ → MailHost → Image → MailMachines → MailMachines
+with_host_at at host memory m = record { memory = memory; hosts = changed_member at (λ h. host) m.hosts }
 
 -- a host has a task
-abbrev pub is_busy : Option HostView → Bool
-is_busy None = false
-is_busy (Some host) = is_some host.task
+abbrev pub has_own_task : Option MailHost → Bool
+has_own_task None = false
+has_own_task (Some host) = is_some host.task
 
 -- so has the one of this number
-abbrev pub busy_at : ℕ → Machines → Bool
-busy_at at m = is_busy (slice_get m.hosts at)
+abbrev pub has_task_at : ℕ → MailMachines → Bool
+has_task_at at m = has_own_task (slice_get m.hosts at)
 
 -- One operation.
 
@@ -49,33 +49,33 @@ abbrev pub word_given : Op → Machine → ℕ
 word_given op m = unwrap_or (given op m) 0
 
 -- a host behind an operation that left this cache: its task takes its turn with the word
-abbrev pub host_behind : HostView → Task → ℕ → Cache → HostView
-host_behind host t word cache = record host { cache = cache; task = kept_task (turn_of word t) (task_of word t) }
+abbrev pub host_behind : MailHost → MailTask → ℕ → Cache → MailHost
+host_behind host t word cache = record host { cache = cache; task = kept_task (task_turn word t) (next_task word t) }
 
 -- the media serves the operation that the task's table has next: the notes are those of the task's turn
-pub record IsServed (entry : Entry) (name : List ℕ) (at : ℕ) (host : HostView) (t : Task) (old : Machines) (notes : List MailNote) (new : Machines) : Type 0 where
-  pub notes_are : notes ≡ turn_notes name (turn_of (word_given (op_of (file_line entry) t) (machine_of old host)) t)
-  pub left : new ≡ with_host_at at (host_behind host t (word_given (op_of (file_line entry) t) (machine_of old host)) (operated (op_of (file_line entry) t) (machine_of old host)).cache)
-      (operated (op_of (file_line entry) t) (machine_of old host)).image old
+pub record IsTaskServed (entry : Entry) (name : List ℕ) (at : ℕ) (host : MailHost) (t : MailTask) (old : MailMachines) (notes : List MailNote) (new : MailMachines) : Type 0 where
+  pub notes_are : notes ≡ notes_of_turn name (task_turn (word_given (task_op (file_line entry) t) (host_machine old host)) t)
+  pub left : new ≡ with_host_at at (host_behind host t (word_given (task_op (file_line entry) t) (host_machine old host)) (operated (task_op (file_line entry) t) (host_machine old host)).cache)
+      (operated (task_op (file_line entry) t) (host_machine old host)).image old
 
 -- the media fails in it, and leaves a machine that it may leave: the task is gone
-pub record IsCut (entry : Entry) (name : List ℕ) (at : ℕ) (host : HostView) (t : Task) (old : Machines) (notes : List MailNote) (new : Machines) : Type 0 where
+pub record IsTaskCut (entry : Entry) (name : List ℕ) (at : ℕ) (host : MailHost) (t : MailTask) (old : MailMachines) (notes : List MailNote) (new : MailMachines) : Type 0 where
   pub line : LineNo
   pub rest : Machine
-  pub fails : Fails (op_of (file_line entry) t) (machine_of old host) line rest
+  pub fails : Fails (task_op (file_line entry) t) (host_machine old host) line rest
   pub notes_are : notes ≡ note.MediaFault name line ∷ []
   pub left : new ≡ with_host_at at (record host { cache = rest.cache; task = None }) rest.image old
 
 -- one operation of the task of a host, by its number: one or the other. The notes have this name
-pub record Operation (entry : Entry) (name : List ℕ) (at : ℕ) (old : Machines) (notes : List MailNote) (new : Machines) : Type 0 where
-  pub host : HostView
+pub record MailOperation (entry : Entry) (name : List ℕ) (at : ℕ) (old : MailMachines) (notes : List MailNote) (new : MailMachines) : Type 0 where
+  pub host : MailHost
   pub host_is : slice_get old.hosts at ≡ Some host
-  pub task : Task
+  pub task : MailTask
   pub task_is : host.task ≡ Some task
-  pub how : IsServed entry name at host task old notes new ⊎ IsCut entry name at host task old notes new
+  pub how : IsTaskServed entry name at host task old notes new ⊎ IsTaskCut entry name at host task old notes new
 
 -- so many of them, one behind another
-pub data Operations (entry : Entry) (name : List ℕ) (at : ℕ) (old : Machines) : ℕ → List MailNote → Machines → Type 0 where
-  none : Operations entry name at old 0 [] old
-  more : {count : ℕ} {notes last : List MailNote} {mid new : Machines} → Operations entry name at old count notes mid
-      → Operation entry name at mid last new → Operations entry name at old (suc count) (notes ++ last) new
+pub data MailOperations (entry : Entry) (name : List ℕ) (at : ℕ) (old : MailMachines) : ℕ → List MailNote → MailMachines → Type 0 where
+  none : MailOperations entry name at old 0 [] old
+  more : {count : ℕ} {notes last : List MailNote} {mid new : MailMachines} → MailOperations entry name at old count notes mid
+      → MailOperation entry name at mid last new → MailOperations entry name at old (suc count) (notes ++ last) new

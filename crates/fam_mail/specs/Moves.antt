@@ -8,12 +8,12 @@ use Rattle.fam_mail.specs.declared.world.moves.OwnMove.{OwnMove}
 use Rattle.fam_mail.specs.declared.world.moves.OwnMove.TheVariants as own
 
 -- the move that it is
-abbrev pub move_of : OwnMove → Move
-move_of own.Evict = Evict
-move_of (own.Leak mask) = Leak mask.0
-move_of (own.Fetch mask) = Fetch mask.0
+abbrev pub cache_move : OwnMove → Move
+cache_move own.Evict = Evict
+cache_move (own.Leak mask) = Leak mask.0
+cache_move (own.Fetch mask) = Fetch mask.0
 
 -- a failed send, as a fault of a cache
-abbrev pub fault_of : Result (Unit {0}) Failed → Result (Unit {0}) CacheFault
-fault_of (Ok x) = Ok x
-fault_of (Err failed) = Err cache_fault.Failed
+abbrev pub sent_fault : Result (Unit {0}) Failed → Result (Unit {0}) CacheFault
+sent_fault (Ok x) = Ok x
+sent_fault (Err failed) = Err cache_fault.Failed

@@ -9,9 +9,9 @@ use Rattle.fam_mail.specs.declared.ask.Ask.{Ask}
 use Rattle.fam_mail.specs.declared.phase.Phase.{Phase}
 use Rattle.fam_mail.specs.declared.phase.Phase.TheVariants as at
 use Rattle.fam_mail.specs.Boxes.{IsOneToOne, record_at}
-use Rattle.fam_mail.specs.Mail.{Mail, MaySay, Run, posted_by, run_after, settles, whole}
+use Rattle.fam_mail.specs.Mail.{Mail, TaskMaySay, TaskRun, posted_by, run_behind_turn, settles, whole}
 use Rattle.fam_mail.specs.Records.{IsRecord}
-use Rattle.fam_mail.specs.Tasks.{IsPost, Task, line_of, op_of, turn_of}
+use Rattle.fam_mail.specs.Tasks.{IsPost, MailTask, posted_line, task_op, task_turn}
 
 -- a box: line j of its file is line `place j` of the image; how many records it has room for; which host may post; and what
 -- memory's other lines hold from the first to the last
@@ -22,7 +22,7 @@ pub record Box : Type 0 where
   pub rest : ℕ → List ℕ
 
 -- a line of the image is one of the box's
-pub record IsBoxLine (place : ℕ → ℕ) (capacity line : ℕ) : Type 0 where
+pub record IsLineOfBox (place : ℕ → ℕ) (capacity line : ℕ) : Type 0 where
   pub number : ℕ
   pub below : number ≤ capacity
   pub is : line ≡ place number
@@ -36,14 +36,14 @@ abbrev pub top_at : Box → SharedState → ℕ
 top_at b s = top (s.memory (b.place 0)) (masters_copy b.writer s (b.place 0))
 
 -- what holds of a sound box at every moment, whatever the tasks are at
-pub record Core (b : Box) (s : SharedState) (m : Mail) : Type 0 where
+pub record BoxCore (b : Box) (s : SharedState) (m : Mail) : Type 0 where
   pub apart : IsOneToOne b.place b.capacity
   pub wide : IsWide s
   -- nobody but the writer holds a line that memory lacks, and it is one of the box's
   pub only_writer : (h l : ℕ) → IsDirty (s.copy h l) → b.writer ≡ Some h
-  pub inside : (h l : ℕ) → IsDirty (s.copy h l) → IsBoxLine b.place b.capacity l
+  pub inside : (h l : ℕ) → IsDirty (s.copy h l) → IsLineOfBox b.place b.capacity l
   -- the others are as at first
-  pub outside : (l : ℕ) → (IsBoxLine b.place b.capacity l → ⊥) → s.memory l ≡ b.rest l
+  pub outside : (l : ℕ) → (IsLineOfBox b.place b.capacity l → ⊥) → s.memory l ≡ b.rest l
   -- the gate counts the settled records, or one more with something pending
   pub low : length m.list ≤ gate_at b s
   pub order : gate_at b s ≤ top_at b s
@@ -61,7 +61,7 @@ pub record IsWriters (b : Box) (h : ℕ) (ask : Ask) : Type 0 where
   pub proper : IsRecord numbers
 
 -- a post has found the place of its record, which is pending, and has not stored the gate
-pub record IsWriting (b : Box) (h : ℕ) (ask : Ask) (gate : ℕ) (s : SharedState) (m : Mail) : Type 0 where
+pub record IsPosting (b : Box) (h : ℕ) (ask : Ask) (gate : ℕ) (s : SharedState) (m : Mail) : Type 0 where
   pub own : IsWriters b h ask
   pub settled : gate ≡ length m.list
   pub pending : m.pending ≡ posted_by ask
@@ -69,7 +69,7 @@ pub record IsWriting (b : Box) (h : ℕ) (ask : Ask) (gate : ℕ) (s : SharedSta
   pub room : gate < b.capacity
 
 -- it has stored the gate
-pub record HasPublished (b : Box) (h : ℕ) (ask : Ask) (gate : ℕ) (s : SharedState) (m : Mail) : Type 0 where
+pub record HasStoredGate (b : Box) (h : ℕ) (ask : Ask) (gate : ℕ) (s : SharedState) (m : Mail) : Type 0 where
   pub own : IsWriters b h ask
   pub published : top_at b s ≡ gate + 1
   pub count : length (whole m) ≡ gate + 1
@@ -88,59 +88,59 @@ pub record HasGate (b : Box) (floor : Option ℕ) (gate : ℕ) (s : SharedState)
   pub high : gate ≤ gate_at b s
 
 -- it has read the first i records
-pub record HasRead (i : ℕ) (b : Box) (floor : Option ℕ) (gate : ℕ) (records : List (List ℕ)) (s : SharedState) (m : Mail) : Type 0 where
+pub record HasReadRecords (i : ℕ) (b : Box) (floor : Option ℕ) (gate : ℕ) (records : List (List ℕ)) (s : SharedState) (m : Mail) : Type 0 where
   pub has : HasGate b floor gate s
   pub below : i < gate
   pub read : records ≡ take i (whole m)
 
 -- and the first k words of the next one, of which its copy can't be stale
 pub record IsReading (i k : ℕ) (b : Box) (h : ℕ) (floor : Option ℕ) (gate : ℕ) (loaded : List ℕ) (records : List (List ℕ)) (s : SharedState) (m : Mail) : Type 0 where
-  pub has : HasRead i b floor gate records s m
+  pub has : HasReadRecords i b floor gate records s m
   pub fresh : Fresh (s.memory (b.place (1 + i))) (s.copy h (b.place (1 + i)))
   pub words : take k loaded ≡ take k (s.memory (b.place (1 + i)))
 
 -- the line of a post's record, in memory and in its host's cache
 abbrev pub AtRecord : (List ℕ → List ℕ → Cell → Type 0) → Box → ℕ → Ask → ℕ → SharedState → Type 0
-AtRecord P b h ask gate s = P (line_of ask) (s.memory (b.place (1 + gate))) (s.copy h (b.place (1 + gate)))
+AtRecord P b h ask gate s = P (posted_line ask) (s.memory (b.place (1 + gate))) (s.copy h (b.place (1 + gate)))
 
 -- what is known of a task of a host, by its phase
-abbrev pub AtPhase : Phase → Box → ℕ → Option ℕ → Task → SharedState → Mail → Type 0
-AtPhase at.DropGate b h floor t s m = t.records ≡ []
-AtPhase at.LoadGate b h floor t s m = LoadsGate b h floor s m × (t.records ≡ [])
-AtPhase (at.StoreRecord k) b h floor t s m = (k < 8) × IsWriting b h t.ask t.gate s m × AtRecord (Holding k) b h t.ask t.gate s
-AtPhase at.SendRecord b h floor t s m = IsWriting b h t.ask t.gate s m × AtRecord (Holding 8) b h t.ask t.gate s
-AtPhase at.FenceRecord b h floor t s m = IsWriting b h t.ask t.gate s m × AtRecord Asked b h t.ask t.gate s
-AtPhase at.StoreGate b h floor t s m = IsWriting b h t.ask t.gate s m × AtRecord Finished b h t.ask t.gate s
-AtPhase at.SendGate b h floor t s m = HasPublished b h t.ask t.gate s m
-AtPhase at.FenceGate b h floor t s m = HasPublished b h t.ask t.gate s m × IsHandedOver (s.copy h (b.place 0))
-AtPhase at.Count b h floor t s m = HasGate b floor t.gate s × (t.records ≡ [])
-AtPhase (at.DropRecord i) b h floor t s m = HasRead i b floor t.gate t.records s m
-AtPhase (at.LoadRecord i k) b h floor t s m = (k < 8) × IsReading i k b h floor t.gate t.words t.records s m
+abbrev pub AtMailPhase : Phase → Box → ℕ → Option ℕ → MailTask → SharedState → Mail → Type 0
+AtMailPhase at.DropGate b h floor t s m = t.records ≡ []
+AtMailPhase at.LoadGate b h floor t s m = LoadsGate b h floor s m × (t.records ≡ [])
+AtMailPhase (at.StoreRecord k) b h floor t s m = (k < 8) × IsPosting b h t.ask t.gate s m × AtRecord (Holding k) b h t.ask t.gate s
+AtMailPhase at.SendRecord b h floor t s m = IsPosting b h t.ask t.gate s m × AtRecord (Holding 8) b h t.ask t.gate s
+AtMailPhase at.FenceRecord b h floor t s m = IsPosting b h t.ask t.gate s m × AtRecord Asked b h t.ask t.gate s
+AtMailPhase at.StoreGate b h floor t s m = IsPosting b h t.ask t.gate s m × AtRecord Finished b h t.ask t.gate s
+AtMailPhase at.SendGate b h floor t s m = HasStoredGate b h t.ask t.gate s m
+AtMailPhase at.FenceGate b h floor t s m = HasStoredGate b h t.ask t.gate s m × IsHandedOver (s.copy h (b.place 0))
+AtMailPhase at.Count b h floor t s m = HasGate b floor t.gate s × (t.records ≡ [])
+AtMailPhase (at.DropRecord i) b h floor t s m = HasReadRecords i b floor t.gate t.records s m
+AtMailPhase (at.LoadRecord i k) b h floor t s m = (k < 8) × IsReading i k b h floor t.gate t.words t.records s m
 
 -- a task of this box
-pub record TaskHolds (b : Box) (h : ℕ) (r : Run) (s : SharedState) (m : Mail) : Type 0 where
+pub record RunHolds (b : Box) (h : ℕ) (r : TaskRun) (s : SharedState) (m : Mail) : Type 0 where
   pub capacity : r.task.capacity ≡ b.capacity
   pub long : length r.task.words ≡ 8
   pub post : IsPost r.task.ask → IsWriters b h r.task.ask
-  pub phase : AtPhase r.task.phase b h r.floor r.task s m
+  pub phase : AtMailPhase r.task.phase b h r.floor r.task s m
 
 -- the tasks that run
-abbrev pub Runs : Type 0
-Runs = ℕ → Option Run
+abbrev pub TaskRuns : Type 0
+TaskRuns = ℕ → Option TaskRun
 
 -- the whole of what holds after every step
-pub record Invariant (b : Box) (runs : Runs) (s : SharedState) (m : Mail) : Type 0 where
-  pub core : Core b s m
-  pub tasks : (h : ℕ) (r : Run) → runs h ≡ Some r → TaskHolds b h r s m
+pub record BoxInvariant (b : Box) (runs : TaskRuns) (s : SharedState) (m : Mail) : Type 0 where
+  pub core : BoxCore b s m
+  pub tasks : (h : ℕ) (r : TaskRun) → runs h ≡ Some r → RunHolds b h r s m
 
 -- A host's task does its operation, which gave this word if it is a load, and takes its turn.
-pub record Steps (b : Box) (host word : ℕ) (m : Mail) (r : Run) (old new : Runs) (s s' : SharedState) : Type 0 where
+pub record TakesTurn (b : Box) (host word : ℕ) (m : Mail) (r : TaskRun) (old new : TaskRuns) (s s' : SharedState) : Type 0 where
   pub is : old host ≡ Some r
-  pub operates : Operates (op_of b.place r.task) host s s' word
-  pub mine : new host ≡ run_after (turn_of word r.task) (length m.list) word r
+  pub operates : Operates (task_op b.place r.task) host s s' word
+  pub mine : new host ≡ run_behind_turn (task_turn word r.task) (length m.list) word r
   pub others : (h : ℕ) → h ≢ host → new h ≡ old h
 
 -- it says what it may, and everything holds again
-pub record StepHolds (b : Box) (word : ℕ) (m : Mail) (r : Run) (new : Runs) (s' : SharedState) : Type 0 where
-  pub says : MaySay (turn_of word r.task) r.task.ask r.floor m b.capacity
-  pub invariant : Invariant b new s' (settles (turn_of word r.task) r.task.ask m)
+pub record TurnHolds (b : Box) (word : ℕ) (m : Mail) (r : TaskRun) (new : TaskRuns) (s' : SharedState) : Type 0 where
+  pub says : TaskMaySay (task_turn word r.task) r.task.ask r.floor m b.capacity
+  pub invariant : BoxInvariant b new s' (settles (task_turn word r.task) r.task.ask m)

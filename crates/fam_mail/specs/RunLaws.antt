@@ -7,9 +7,9 @@ use Rattle.fam_mail.specs.declared.note.MailNote.{MailNote}
 use Rattle.fam_mail.specs.declared.note.MailNote.TheVariants.{Writer, Reader, Start, Mark, Found, Posted, Full, Taken, BadBox, BadRecord, Stop, Halt, MediaFault, Refused}
 use Rattle.fam_mail.specs.declared.note.MailRefusal.{MailRefusal}
 use Rattle.fam_mail.specs.Boxes.{IsOneToOne, box_of, capacity_of}
-use Rattle.fam_mail.specs.Legal.{state_of}
+use Rattle.fam_mail.specs.Legal.{mail_state}
 use Rattle.fam_mail.specs.Mail.{Mail, whole}
-use Rattle.fam_mail.specs.Protocol.{IsBoxLine}
+use Rattle.fam_mail.specs.Protocol.{IsLineOfBox}
 
 -- where a run may begin: the file's lines are apart and among the image's, and the box is read as this list
 pub record IsBoxAtFirst (entry : Entry) (image : Image) (records : List (List ℕ)) : Type 0 where
@@ -20,9 +20,9 @@ pub record IsBoxAtFirst (entry : Entry) (image : Image) (records : List (List �
 
 -- an image is what a run has left: its box is read as the list, or as that followed by the pending record, and its other lines are as
 -- at first
-pub record IsLeft (entry : Entry) (start image : Image) (m : Mail) : Type 0 where
+pub record IsBoxLeft (entry : Entry) (start image : Image) (m : Mail) : Type 0 where
   pub reads : (box_of (file_line entry) (capacity_of entry.size) (line_at image) ≡ Ok m.list) ⊎ (box_of (file_line entry) (capacity_of entry.size) (line_at image) ≡ Ok (whole m))
-  pub others : (l : ℕ) → (IsBoxLine (file_line entry) (capacity_of entry.size) l → ⊥) → line_at image l ≡ line_at start l
+  pub others : (l : ℕ) → (IsLineOfBox (file_line entry) (capacity_of entry.size) l → ⊥) → line_at image l ≡ line_at start l
 
 -- a note isn't a mark of the host of this name
 abbrev pub IsNoMark : List ℕ → MailNote → Type 0
@@ -57,10 +57,10 @@ pub record LastMark (name : List ℕ) (journal : List MailNote) : Type 0 where
 -- take dropped the gate's line, at the host's last mark, stands first in it
 pub record IsTakenList (capacity : ℕ) (records : List (List ℕ)) (journal : List MailNote) (name : List ℕ) (count : ℕ) (taken : List (List ℕ)) : Type 0 where
   pub count_is : count ≡ length taken
-  pub within : count ≤ length (whole (state_of capacity records journal).mail)
-  pub front : taken ≡ take count (whole (state_of capacity records journal).mail)
+  pub within : count ≤ length (whole (mail_state capacity records journal).mail)
+  pub front : taken ≡ take count (whole (mail_state capacity records journal).mail)
   pub mark : LastMark name journal
-  pub holds : (state_of capacity records mark.front).mail.list ≡ take (length (state_of capacity records mark.front).mail.list) taken
+  pub holds : (mail_state capacity records mark.front).mail.list ≡ take (length (mail_state capacity records mark.front).mail.list) taken
 
 -- a note ends a task of the host of this name: its record is posted, the box is full, or a list is taken
 abbrev pub IsAnswer : List ℕ → MailNote → Type 0
@@ -80,13 +80,13 @@ IsAnswer name (MediaFault other line) = ⊥
 IsAnswer name (Refused other cause) = ⊥
 
 -- notes end so
-pub record EndsInAnswer (name : List ℕ) (notes : List MailNote) : Type 0 where
+pub record TaskAnswers (name : List ℕ) (notes : List MailNote) : Type 0 where
   pub before : List MailNote
   pub answer : MailNote
   pub is : notes ≡ before ++ answer ∷ []
   pub answers : IsAnswer name answer
 
 -- or nothing ran, since it is refused
-pub record IsRefused (name : List ℕ) (notes : List MailNote) : Type 0 where
+pub record IsMailRefused (name : List ℕ) (notes : List MailNote) : Type 0 where
   pub cause : MailRefusal
   pub is : notes ≡ Refused name cause ∷ []

@@ -2,11 +2,11 @@
 
 ghost use Rattle.std.specs.Prelude.{◌≡◌, ◌+◌, ◌<◌, ◌≤◌, ◌++◌, ◌∷◌, [], List, IfOk, IfSome, Some, None, OnOk, is_some, vec_capacity, vec_len};
 ghost use Rattle.std.specs.FinMap as map;
-ghost use Rattle.fam_mail.specs.Tasks.{most_records, starting};
-ghost use Rattle.fam_mail.specs.Calls.{IsPlaced, begin_refusal, declare_refusal, idle_refusal, line_refusal, no_refusal};
+ghost use Rattle.fam_mail.specs.Tasks.{most_records, new_task};
+ghost use Rattle.fam_mail.specs.Calls.{IsHostPlaced, begin_refusal, declare_refusal, no_task_refusal, file_line_refusal, no_refusal};
 ghost use Rattle.fam_mail.specs.declared.note.MailNote.{MailNote};
 ghost use Rattle.fam_base.specs.declared.entry.Entry.{Entry};
-ghost use Rattle.fam_mail.specs.World.{HostView, changed_at, host_view, index_of, is_named, is_writer, mail_view, views};
+ghost use Rattle.fam_mail.specs.World.{MailHost, changed_member, mail_host, member_place, is_named, is_writer, mail_view, mail_hosts};
 
 use crate::ask::Ask;
 use crate::note::MailRefusal;
@@ -29,21 +29,21 @@ pub(crate) struct Host {
 
 /// Whether a host has this name.
 fn is_named(host: &Host, name: &HostName) -> bool
-    ensures { result ≡ is_named name.now (host_view host.now) }
+    ensures { result ≡ is_named name.now (mail_host host.now) }
 {
     host.name == *name
 }
 
 /// Whether a host may post.
 fn is_writer(host: &Host) -> bool
-    ensures { result ≡ is_writer (host_view host.now) }
+    ensures { result ≡ is_writer (mail_host host.now) }
 {
     host.writer
 }
 
 /// The host of this name.
 pub(crate) fn number(hosts: &Vec<Host>, name: &HostName) -> Option<usize>
-    ensures is { result ≡ index_of (is_named name.now) (views hosts.now.items) }
+    ensures is { result ≡ member_place (is_named name.now) (mail_hosts hosts.now.items) }
     ensures within { IfSome result (λ at. at < vec_len hosts.now) }
 {
     for at in 0..hosts.len() {
@@ -56,7 +56,7 @@ pub(crate) fn number(hosts: &Vec<Host>, name: &HostName) -> Option<usize>
 
 /// The host that may post.
 pub(crate) fn writer(hosts: &Vec<Host>) -> Option<usize>
-    ensures is { result ≡ index_of is_writer (views hosts.now.items) }
+    ensures is { result ≡ member_place is_writer (mail_hosts hosts.now.items) }
     ensures within { IfSome result (λ at. at < vec_len hosts.now) }
 {
     for at in 0..hosts.len() {
@@ -93,7 +93,7 @@ pub(crate) fn declared_before(
 
 /// Why a host can't begin a task.
 fn begin_cause(host: &Host, ask: &Ask) -> Option<MailRefusal>
-    ensures { result ≡ begin_refusal ask.now (host_view host.now) }
+    ensures { result ≡ begin_refusal ask.now (mail_host host.now) }
 {
     if host.task.is_some() {
         return Some(MailRefusal::Busy);
@@ -106,7 +106,7 @@ fn begin_cause(host: &Host, ask: &Ask) -> Option<MailRefusal>
 
 /// Why a host does no operation.
 fn idle_cause(host: &Host) -> Option<MailRefusal>
-    ensures { result ≡ idle_refusal (host_view host.now) }
+    ensures { result ≡ no_task_refusal (mail_host host.now) }
 {
     if host.task.is_some() {
         None
@@ -119,7 +119,7 @@ fn idle_cause(host: &Host) -> Option<MailRefusal>
 pub(crate) fn may_begin(hosts: &Vec<Host>, name: &HostName, ask: &Ask) -> Result<usize, MailRefusal>
     ensures within { IfOk result (λ at. at < vec_len hosts.now) }
     ensures placed { (entry : Entry) (journal : List MailNote)
-        → IsPlaced name.now (begin_refusal ask.now) (mail_view entry hosts.now.items journal) result }
+        → IsHostPlaced name.now (begin_refusal ask.now) (mail_view entry hosts.now.items journal) result }
 {
     let Some(at) = number(hosts, name) else {
         return Err(MailRefusal::NoHost);
@@ -134,7 +134,7 @@ pub(crate) fn may_begin(hosts: &Vec<Host>, name: &HostName, ask: &Ask) -> Result
 pub(crate) fn running(hosts: &Vec<Host>, name: &HostName) -> Result<usize, MailRefusal>
     ensures within { IfOk result (λ at. at < vec_len hosts.now) }
     ensures placed { (entry : Entry) (journal : List MailNote)
-        → IsPlaced name.now idle_refusal (mail_view entry hosts.now.items journal) result }
+        → IsHostPlaced name.now no_task_refusal (mail_view entry hosts.now.items journal) result }
 {
     let Some(at) = number(hosts, name) else {
         return Err(MailRefusal::NoHost);
@@ -149,7 +149,7 @@ pub(crate) fn running(hosts: &Vec<Host>, name: &HostName) -> Result<usize, MailR
 pub(crate) fn declared(hosts: &Vec<Host>, name: &HostName) -> Result<usize, MailRefusal>
     ensures within { IfOk result (λ at. at < vec_len hosts.now) }
     ensures placed { (entry : Entry) (journal : List MailNote)
-        → IsPlaced name.now no_refusal (mail_view entry hosts.now.items journal) result }
+        → IsHostPlaced name.now no_refusal (mail_view entry hosts.now.items journal) result }
 {
     match number(hosts, name) {
         Some(at) => Ok(at),
@@ -160,7 +160,7 @@ pub(crate) fn declared(hosts: &Vec<Host>, name: &HostName) -> Result<usize, Mail
 /// Why a cache moves no line of this number, of a file with so many lines behind the first one.
 fn line_cause(line: u64, capacity: u64) -> Option<MailRefusal>
     requires few { capacity < most_records }
-    ensures cause { (host : HostView) → result ≡ line_refusal line capacity host }
+    ensures cause { (host : MailHost) → result ≡ file_line_refusal line capacity host }
     ensures below { result ≡ None → line ≤ capacity }
 {
     if line <= capacity {
@@ -182,7 +182,7 @@ pub(crate) fn holder(
     requires few { capacity < most_records }
     ensures within { IfOk result (λ at. at < vec_len hosts.now) }
     ensures placed { (entry : Entry) (journal : List MailNote)
-        → IsPlaced name.now (line_refusal line capacity) (mail_view entry hosts.now.items journal) result }
+        → IsHostPlaced name.now (file_line_refusal line capacity) (mail_view entry hosts.now.items journal) result }
     ensures below { OnOk result (line ≤ capacity) }
 {
     let at = declared(hosts, name)?;
@@ -206,7 +206,7 @@ pub(crate) fn host_room(hosts: &mut Vec<Host>) -> Result<(), OutOfMemory>
 /// Adds a host, for which there is room.
 pub(crate) fn add_host(hosts: &mut Vec<Host>, host: Host)
     requires room { vec_len hosts.old < vec_capacity hosts.old }
-    ensures views { views hosts.new.items ≡ views hosts.old.items ++ host_view host ∷ [] }
+    ensures views { mail_hosts hosts.new.items ≡ mail_hosts hosts.old.items ++ mail_host host ∷ [] }
 {
     let _ = hosts.push(host);
 }
@@ -215,8 +215,8 @@ pub(crate) fn add_host(hosts: &mut Vec<Host>, host: Host)
 pub(crate) fn begin_task(alloc: Global, hosts: &mut Vec<Host>, at: usize, ask: Ask, capacity: u64)
     requires within { at < vec_len hosts.old }
     requires few { capacity < most_records }
-    ensures views { views hosts.new.items
-        ≡ changed_at at (λ v. record v { task = Some (starting ask capacity) }) (views hosts.old.items) }
+    ensures views { mail_hosts hosts.new.items
+        ≡ changed_member at (λ v. record v { task = Some (new_task ask capacity) }) (mail_hosts hosts.old.items) }
 {
     hosts[at].task = Some(Task::new(alloc, ask, capacity));
 }
@@ -224,7 +224,7 @@ pub(crate) fn begin_task(alloc: Global, hosts: &mut Vec<Host>, at: usize, ask: A
 /// Ends a host's task. Its cache stays.
 pub(crate) fn end_task(hosts: &mut Vec<Host>, at: usize)
     requires within { at < vec_len hosts.old }
-    ensures views { views hosts.new.items ≡ changed_at at (λ v. record v { task = None }) (views hosts.old.items) }
+    ensures views { mail_hosts hosts.new.items ≡ changed_member at (λ v. record v { task = None }) (mail_hosts hosts.old.items) }
 {
     hosts[at].task = None;
 }
@@ -232,8 +232,8 @@ pub(crate) fn end_task(hosts: &mut Vec<Host>, at: usize)
 /// Ends a host's task and loses its cache: what memory lacks is lost.
 pub(crate) fn lose(hosts: &mut Vec<Host>, at: usize)
     requires within { at < vec_len hosts.old }
-    ensures views { views hosts.new.items
-        ≡ changed_at at (λ v. record v { cache = map.empty; task = None }) (views hosts.old.items) }
+    ensures views { mail_hosts hosts.new.items
+        ≡ changed_member at (λ v. record v { cache = map.empty; task = None }) (mail_hosts hosts.old.items) }
 {
     let host = &mut hosts[at];
     host.task = None;

@@ -1,7 +1,7 @@
 //! Notes that are added where there is room, and the room.
 
 ghost use Rattle.std.specs.Prelude.{◌≡◌, ◌++◌, ◌∷◌, ◌<◌, ◌≤◌, ◌+◌, [], OnOk, vec_capacity, vec_len};
-ghost use Rattle.fam_mail.specs.Calls.{told_of};
+ghost use Rattle.fam_mail.specs.Calls.{mail_told};
 ghost use Rattle.fam_mail.specs.declared.note.MailNote.TheVariants as notes;
 ghost use Rattle.fam_mail.specs.declared.note.MailFault.TheVariants as fault;
 
@@ -80,7 +80,7 @@ pub(crate) fn refused(journal: &mut Vec<MailNote>, name: &HostName, cause: MailR
 
 /// What was done, or that there was no memory for it.
 pub(crate) fn or_fault<T>(done: Result<T, OutOfMemory>) -> Result<T, MailFault>
-    ensures { result ≡ told_of done }
+    ensures { result ≡ mail_told done }
 {
     match done {
         Ok(done) => Ok(done),

@@ -4,8 +4,8 @@ ghost use Rattle.std.specs.Prelude.{ℕ, ◌≡◌, ◌*◌, ◌<◌, ◌≤◌,
 ghost use Rattle.fam_media.specs.Causes.{IsSteady};
 ghost use Rattle.fam_rules.specs.Place.{IsProperEntry, line_bytes};
 ghost use Rattle.fam_rules.specs.Written.{file_line};
-ghost use Rattle.fam_mail.specs.Running.{CacheFits, Operated, around};
-ghost use Rattle.fam_mail.specs.Tasks.{is_over, left_of};
+ghost use Rattle.fam_mail.specs.Running.{LinesFit, TaskOperated, around};
+ghost use Rattle.fam_mail.specs.Tasks.{ends_task, left_of};
 
 use crate::task::Task;
 use crate::turn::Turn;
@@ -27,15 +27,15 @@ pub(crate) fn operate<M: Media>(
     requires file { IsProperEntry entry.now }
     requires room { line_bytes * task.old.capacity < entry.now.size }
     requires within { (j : ℕ) → j ≤ task.old.capacity → file_line entry.now j < M.size media.old }
-    requires fits { CacheFits (M.size media.old) cache.old.lines }
+    requires fits { LinesFit (M.size media.old) cache.old.lines }
 
-    ensures operated { Operated (around M.state (file_line entry.now) task.old task.new cache.old cache.new media.old media.new) result }
+    ensures operated { TaskOperated (around M.state (file_line entry.now) task.old task.new cache.old cache.new media.old media.new) result }
     ensures undone { IsErrOf result OperationFault.OutOfMemory → media.new ≡ media.old }
     ensures unchanged { IsErrOf result OperationFault.OutOfMemory → cache.new ≡ cache.old }
     ensures kept { OnErr result (task.new ≡ task.old) }
-    ensures goes_on { IfOk result (λ turn. is_over turn ≡ false → task.new.capacity ≡ task.old.capacity) }
-    ensures falls { IfOk result (λ turn. is_over turn ≡ false → left_of task.new < left_of task.old) }
-    ensures fits { CacheFits (M.size media.new) cache.new.lines }
+    ensures goes_on { IfOk result (λ turn. ends_task turn ≡ false → task.new.capacity ≡ task.old.capacity) }
+    ensures falls { IfOk result (λ turn. ends_task turn ≡ false → left_of task.new < left_of task.old) }
+    ensures fits { LinesFit (M.size media.new) cache.new.lines }
     ensures steady { IsSteady M.size M.state media.old media.new }
 {
     task.is_sound();

@@ -7,7 +7,7 @@ ghost use Rattle.fam_rules.specs.Place.{IsProperEntry, line_bytes};
 ghost use Rattle.fam_rules.specs.Written.{file_line};
 ghost use Rattle.fam_mail.specs.declared.phase.Phase.TheVariants as at;
 ghost use Rattle.fam_mail.specs.Tasks as spec;
-ghost use Rattle.fam_mail.specs.Tasks.{IsSound, is_over, most_records, op_of, starting, task_of, turn_of};
+ghost use Rattle.fam_mail.specs.Tasks.{IsSoundTask, ends_task, most_records, task_op, new_task, next_task, task_turn};
 
 use crate::ask::Ask;
 use crate::phase::Phase;
@@ -40,20 +40,20 @@ pub struct Task {
 impl Model for Task {
     ghost use Rattle.fam_mail.specs.Tasks as spec;
 
-    ghost Value = { spec.Task };
+    ghost Value = { spec.MailTask };
 
-    ghost use Rattle.fam_mail.specs.TaskModel.{IsTask, task_view};
+    ghost use Rattle.fam_mail.specs.TaskModel.{IsMailTask, task_view};
 
     ghost view = { task_view };
 
-    ghost invariant = { IsTask };
+    ghost invariant = { IsMailTask };
 }
 
 impl Task {
     /// A post or a take before its first operation, on a box of so many records. It takes no memory.
     pub fn new(alloc: Global, ask: Ask, capacity: u64) -> Task
         requires few { capacity < most_records }
-        ensures { result ≡ starting ask capacity }
+        ensures { result ≡ new_task ask capacity }
     {
         Task {
             alloc,
@@ -68,7 +68,7 @@ impl Task {
 
     /// What is known of every task: its numbers fit its phase. A call does nothing.
     pub fn is_sound(&self)
-        ensures { IsSound self.now }
+        ensures { IsSoundTask self.now }
     {
         let _ = &self.phase;
     }
@@ -83,7 +83,7 @@ impl Task {
     /// A word of the line that a post stores.
     fn stored_word(&self, k: u8) -> u64
         requires { k < 8 }
-        ensures { result ≡ slice_index (spec.line_of self.now.ask) k }
+        ensures { result ≡ slice_index (spec.posted_line self.now.ask) k }
     {
         match &self.ask {
             Ask::Post(record) => record.word(k),
@@ -95,7 +95,7 @@ impl Task {
     pub fn next(&self, entry: &Entry) -> Op
         requires file { IsProperEntry entry.now }
         requires room { line_bytes * self.now.capacity < entry.now.size }
-        ensures { result ≡ op_of (file_line entry.now) self.now }
+        ensures { result ≡ task_op (file_line entry.now) self.now }
     {
         match self.phase {
             Phase::DropGate => Op::Invalidate(file_line(entry, 0)),
@@ -116,8 +116,8 @@ impl Task {
     /// Takes the gate that was loaded.
     fn load_gate(&mut self, gate: u64) -> Turn
         requires { self.old.phase ≡ at.LoadGate }
-        ensures turn { result ≡ turn_of gate self.old }
-        ensures goes { is_over result ≡ false → self.new ≡ task_of gate self.old }
+        ensures turn { result ≡ task_turn gate self.old }
+        ensures goes { ends_task result ≡ false → self.new ≡ next_task gate self.old }
     {
         let capacity = self.capacity;
         if capacity < gate {
@@ -144,8 +144,8 @@ impl Task {
     fn store_word(&mut self, k: u8) -> Turn
         requires phase { self.old.phase ≡ at.StoreRecord k }
         requires word { k < 8 }
-        ensures turn { (word : ℕ) → result ≡ turn_of word self.old }
-        ensures goes { (word : ℕ) → self.new ≡ task_of word self.old }
+        ensures turn { (word : ℕ) → result ≡ task_turn word self.old }
+        ensures goes { (word : ℕ) → self.new ≡ next_task word self.old }
     {
         self.phase = if k == LAST {
             Phase::SendRecord
@@ -178,8 +178,8 @@ impl Task {
     fn load_word(&mut self, i: u64, k: u8, word: u64) -> Turn
         requires phase { self.old.phase ≡ at.LoadRecord i k }
         requires word { k < 8 }
-        ensures turn { result ≡ turn_of word self.old }
-        ensures goes { is_over result ≡ false → self.new ≡ task_of word self.old }
+        ensures turn { result ≡ task_turn word self.old }
+        ensures goes { ends_task result ≡ false → self.new ≡ next_task word self.old }
     {
         self.words[k as usize] = word;
         if k < LAST {
@@ -195,7 +195,7 @@ impl Task {
     /// Goes on to a phase for which there is nothing to do.
     fn go_to(&mut self, phase: Phase) -> Turn
         requires fits { spec.PhaseFits phase self.old }
-        requires room { spec.IsPlain phase }
+        requires room { spec.IsBehindRecord phase }
         ensures turn { result ≡ Turn.Go }
         ensures goes { self.new ≡ record self.old { phase = phase } }
     {
@@ -206,8 +206,8 @@ impl Task {
     /// Tells that the operation was done, with the word of a load and None otherwise. The operation isn't Digest.
     pub fn feed(&mut self, word: Option<u64>) -> Turn
         requires { self.old.phase ≢ at.Count }
-        ensures turn { result ≡ turn_of (unwrap_or word 0) self.old }
-        ensures goes { is_over result ≡ false → self.new ≡ task_of (unwrap_or word 0) self.old }
+        ensures turn { result ≡ task_turn (unwrap_or word 0) self.old }
+        ensures goes { ends_task result ≡ false → self.new ≡ next_task (unwrap_or word 0) self.old }
     {
         let word = word.unwrap_or(0);
         match self.phase {
@@ -235,8 +235,8 @@ impl Task {
     /// task is as it was.
     pub fn digest(&mut self) -> Result<Turn, OutOfMemory>
         requires { self.old.phase ≡ at.Count }
-        ensures turn { IfOk result (λ turn. turn ≡ turn_of 0 self.old) }
-        ensures goes { IfOk result (λ turn. is_over turn ≡ false → self.new ≡ task_of 0 self.old) }
+        ensures turn { IfOk result (λ turn. turn ≡ task_turn 0 self.old) }
+        ensures goes { IfOk result (λ turn. ends_task turn ≡ false → self.new ≡ next_task 0 self.old) }
         ensures err { OnErr result (self.new ≡ self.old) }
     {
         let gate = self.gate;

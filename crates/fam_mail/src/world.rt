@@ -3,7 +3,7 @@
 ghost use Rattle.std.specs.Prelude.{◌≡◌, ◌≤◌, [], IsErrOf};
 ghost use Rattle.fam_rules.specs.Place.{IsProperEntry};
 ghost use Rattle.fam_mail.specs.Boxes.{capacity_of};
-ghost use Rattle.fam_mail.specs.Calls.{Begins, Declares, Halts, IfAnswered, Stops};
+ghost use Rattle.fam_mail.specs.Calls.{MailBegins, MailDeclares, MailHalts, IfMailAnswered, MailStops};
 
 mod events;
 mod moves;
@@ -86,7 +86,7 @@ impl MailWorld {
     /// refuses it: `SameHost`, where a host has the name; `TooManyHosts`, where 64 are declared; `SecondWriter`, which names
     /// the one that may post.
     pub fn host(&mut self, name: &HostName, writer: bool) -> Result<(), MailFault>
-        ensures answered { IfAnswered result (λ answered. Declares name.now writer answered self.old self.new) }
+        ensures answered { IfMailAnswered result (λ answered. MailDeclares name.now writer answered self.old self.new) }
         ensures err { IsErrOf result MailFault.OutOfMemory → self.new ≡ self.old }
     {
         if make_room(&mut self.journal).is_err() || host_room(&mut self.hosts).is_err() {
@@ -116,7 +116,7 @@ impl MailWorld {
     /// Begins a post or a take on a host. The first of these refuses it: `NoHost`; `Busy`, where the host has a task;
     /// `NotWriter`, where a reader is to post.
     pub fn begin(&mut self, name: &HostName, ask: &Ask) -> Result<(), MailFault>
-        ensures answered { IfAnswered result (λ answered. Begins name.now ask.now answered self.old self.new) }
+        ensures answered { IfMailAnswered result (λ answered. MailBegins name.now ask.now answered self.old self.new) }
         ensures err { IsErrOf result MailFault.OutOfMemory → self.new ≡ self.old }
     {
         if make_room(&mut self.journal).is_err() {
@@ -135,7 +135,7 @@ impl MailWorld {
 
     /// Ends a host's task; its cache stays. `NoHost`, or else `Idle` where it has none.
     pub fn stop(&mut self, name: &HostName) -> Result<(), MailFault>
-        ensures answered { IfAnswered result (λ answered. Stops name.now answered self.old self.new) }
+        ensures answered { IfMailAnswered result (λ answered. MailStops name.now answered self.old self.new) }
         ensures err { IsErrOf result MailFault.OutOfMemory → self.new ≡ self.old }
     {
         if make_room(&mut self.journal).is_err() {
@@ -153,7 +153,7 @@ impl MailWorld {
 
     /// Ends a host's task, if it has one, and loses its cache: no line is sent. `NoHost` alone is refused.
     pub fn halt(&mut self, name: &HostName) -> Result<(), MailFault>
-        ensures answered { IfAnswered result (λ answered. Halts name.now answered self.old self.new) }
+        ensures answered { IfMailAnswered result (λ answered. MailHalts name.now answered self.old self.new) }
         ensures err { IsErrOf result MailFault.OutOfMemory → self.new ≡ self.old }
     {
         if make_room(&mut self.journal).is_err() {

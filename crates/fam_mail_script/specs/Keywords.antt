@@ -7,8 +7,8 @@ use Rattle.fam_mail_script.specs.declared.keywords.AskWord.{AskWord}
 use Rattle.fam_mail_script.specs.declared.keywords.AskWord.TheVariants as ask
 
 -- the event that a word begins
-unfoldable pub event_word : List ℕ → Option EventWord
-event_word word =
+unfoldable pub mail_word : List ℕ → Option EventWord
+mail_word word =
     if bytes_eq word (codes "writer") then Some event.Writer
     else if bytes_eq word (codes "reader") then Some event.Reader
     else if bytes_eq word (codes "begin") then Some event.Begin
@@ -23,8 +23,8 @@ event_word word =
     else None
 
 -- what a word asks for
-unfoldable pub ask_word : List ℕ → Option AskWord
-ask_word word =
+unfoldable pub mail_ask_word : List ℕ → Option AskWord
+mail_ask_word word =
     if bytes_eq word (codes "take") then Some ask.Take
     else if bytes_eq word (codes "post") then Some ask.Post
     else None

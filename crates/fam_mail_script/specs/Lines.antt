@@ -13,7 +13,7 @@ use Rattle.fam_mail_script.specs.declared.keywords.AskWord.{AskWord}
 use Rattle.fam_mail_script.specs.declared.keywords.AskWord.TheVariants as asked
 use Rattle.fam_mail_script.specs.declared.keywords.EventWord.{EventWord}
 use Rattle.fam_mail_script.specs.declared.keywords.EventWord.TheVariants as word
-use Rattle.fam_mail_script.specs.Keywords.{ask_word, event_word}
+use Rattle.fam_mail_script.specs.Keywords.{mail_ask_word, mail_word}
 
 -- Asks.
 
@@ -35,76 +35,76 @@ abbrev pub numbers_line : ℕ → List Word → Reading (List ℕ)
 numbers_line end words = then_reads (word_of number_of_text end words) (λ n. numbers_behind (n ∷ []))
 
 -- the words behind an ask's name
-abbrev pub ask_behind : ℕ → AskWord → List Word → Reading Ask
-ask_behind end asked.Take words = ends_with ask.Take words
-ask_behind end asked.Post words = then_reads (numbers_line end words) (λ numbers rest. Reads (ask.Post numbers) rest)
+abbrev pub mail_ask_behind : ℕ → AskWord → List Word → Reading Ask
+mail_ask_behind end asked.Take words = ends_with ask.Take words
+mail_ask_behind end asked.Post words = then_reads (numbers_line end words) (λ numbers rest. Reads (ask.Post numbers) rest)
 
 -- an ask: `take`, or `post` and its numbers
-unfoldable pub ask_line : ℕ → List Word → Reading Ask
-ask_line end words = then_reads (word_of ask_word end words) (ask_behind end)
+unfoldable pub mail_ask_line : ℕ → List Word → Reading Ask
+mail_ask_line end words = then_reads (word_of mail_ask_word end words) (mail_ask_behind end)
 
 -- Events.
 
 -- writer, reader, finish, stop and halt: NAME
-abbrev pub name_line : (List ℕ → MailEvent) → ℕ → List Word → Reading MailEvent
-name_line made end words =
+abbrev pub mail_name_line : (List ℕ → MailEvent) → ℕ → List Word → Reading MailEvent
+mail_name_line made end words =
     then_reads (word_of name_of end words) (λ name rest.
     then_reads (ends_with name rest) (λ named none. Reads (made named) none))
 
 -- begin and run: NAME, and an ask
-abbrev pub asked_line : (List ℕ → Ask → MailEvent) → ℕ → List Word → Reading MailEvent
-asked_line made end words =
+abbrev pub mail_asked_line : (List ℕ → Ask → MailEvent) → ℕ → List Word → Reading MailEvent
+mail_asked_line made end words =
     then_reads (word_of name_of end words) (λ name rest.
-    then_reads (ask_line end rest) (λ what none. Reads (made name what) none))
+    then_reads (mail_ask_line end rest) (λ what none. Reads (made name what) none))
 
 -- the COUNT of step; 1 where it is missing
-abbrev pub steps_line : ℕ → List ℕ → List Word → Reading MailEvent
-steps_line end name [] = Reads (event.Step name 1) []
-steps_line end name (word ∷ words) =
+abbrev pub mail_steps_line : ℕ → List ℕ → List Word → Reading MailEvent
+mail_steps_line end name [] = Reads (event.Step name 1) []
+mail_steps_line end name (word ∷ words) =
     then_reads (word_of steps_of end (word ∷ words)) (λ count rest.
     then_reads (ends_with count rest) (λ most none. Reads (event.Step name most) none))
 
 -- step: NAME, and COUNT or nothing
-abbrev pub step_line : ℕ → List Word → Reading MailEvent
-step_line end words = then_reads (word_of name_of end words) (steps_line end)
+abbrev pub mail_step_line : ℕ → List Word → Reading MailEvent
+mail_step_line end words = then_reads (word_of name_of end words) (mail_steps_line end)
 
 -- evict: NAME, and a line of the file
-abbrev pub evict_line : ℕ → List Word → Reading MailEvent
-evict_line end words =
+abbrev pub mail_evict_line : ℕ → List Word → Reading MailEvent
+mail_evict_line end words =
     then_reads (word_of name_of end words) (λ name rest.
     then_reads (word_of number_of_text end rest) (λ at rest.
     then_reads (ends_with at rest) (λ line none. Reads (event.Evict name line) none)))
 
 -- leak: NAME, a line of the file, MASK
-abbrev pub leak_line : ℕ → List Word → Reading MailEvent
-leak_line end words =
+abbrev pub mail_leak_line : ℕ → List Word → Reading MailEvent
+mail_leak_line end words =
     then_reads (word_of name_of end words) (λ name rest.
     then_reads (word_of number_of_text end rest) (λ at rest.
     then_reads (word_of mask_of end rest) (λ mask rest.
     then_reads (ends_with mask rest) (λ words none. Reads (event.Leak name at (record { 0 = words })) none))))
 
 -- fetch: the same
-abbrev pub fetch_line : ℕ → List Word → Reading MailEvent
-fetch_line end words =
+abbrev pub mail_fetch_line : ℕ → List Word → Reading MailEvent
+mail_fetch_line end words =
     then_reads (word_of name_of end words) (λ name rest.
     then_reads (word_of number_of_text end rest) (λ at rest.
     then_reads (word_of mask_of end rest) (λ mask rest.
     then_reads (ends_with mask rest) (λ words none. Reads (event.Fetch name at (record { 0 = words })) none))))
 
 -- the words behind an event's name
-abbrev pub event_behind : ℕ → EventWord → List Word → Reading MailEvent
-event_behind end word.Writer words = name_line event.Writer end words
-event_behind end word.Reader words = name_line event.Reader end words
-event_behind end word.Begin words = asked_line event.Begin end words
-event_behind end word.Run words = asked_line event.Run end words
-event_behind end word.Step words = step_line end words
-event_behind end word.Finish words = name_line event.Finish end words
-event_behind end word.Stop words = name_line event.Stop end words
-event_behind end word.Halt words = name_line event.Halt end words
-event_behind end word.Evict words = evict_line end words
-event_behind end word.Leak words = leak_line end words
-event_behind end word.Fetch words = fetch_line end words
+abbrev pub mail_words_behind : ℕ → EventWord → List Word → Reading MailEvent
+mail_words_behind end word.Writer words = mail_name_line event.Writer end words
+mail_words_behind end word.Reader words = mail_name_line event.Reader end words
+mail_words_behind end word.Begin words = mail_asked_line event.Begin end words
+mail_words_behind end word.Run words = mail_asked_line event.Run end words
+mail_words_behind end word.Step words = mail_step_line end words
+mail_words_behind end word.Finish words = mail_name_line event.Finish end words
+mail_words_behind end word.Stop words = mail_name_line event.Stop end words
+mail_words_behind end word.Halt words = mail_name_line event.Halt end words
+mail_words_behind end word.Evict words = mail_evict_line end words
+mail_words_behind end word.Leak words = mail_leak_line end words
+mail_words_behind end word.Fetch words = mail_fetch_line end words
 
 -- an event: its name, and its words
 unfoldable pub mail_line : ℕ → List Word → Reading MailEvent
-mail_line end words = then_reads (word_of event_word end words) (event_behind end)
+mail_line end words = then_reads (word_of mail_word end words) (mail_words_behind end)

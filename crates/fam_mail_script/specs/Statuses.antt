@@ -9,35 +9,35 @@ use Rattle.fam_mail.specs.declared.note.MailRefusal.{MailRefusal}
 use Rattle.fam_mail.specs.declared.note.MailRefusal.TheVariants as why
 
 -- of a refusal alone
-abbrev pub cause_status : MailRefusal → Status
-cause_status why.NoHost = status.Refused
-cause_status (why.SameHost other) = status.Refused
-cause_status why.TooManyHosts = status.Refused
-cause_status (why.SecondWriter other) = status.Refused
-cause_status why.Busy = status.Refused
-cause_status why.NotWriter = status.Refused
-cause_status why.Idle = status.Refused
-cause_status (why.NoLine at lines) = status.Refused
-cause_status (why.MediaFault at) = status.MediaFault
+abbrev pub mail_cause_status : MailRefusal → Status
+mail_cause_status why.NoHost = status.Refused
+mail_cause_status (why.SameHost other) = status.Refused
+mail_cause_status why.TooManyHosts = status.Refused
+mail_cause_status (why.SecondWriter other) = status.Refused
+mail_cause_status why.Busy = status.Refused
+mail_cause_status why.NotWriter = status.Refused
+mail_cause_status why.Idle = status.Refused
+mail_cause_status (why.NoLine at lines) = status.Refused
+mail_cause_status (why.MediaFault at) = status.MediaFault
 
 -- of a note alone: a full box refuses a post, and a box or a record that is none is damage
-abbrev pub note_status : MailNote → Status
-note_status (Writer name) = status.Done
-note_status (Reader name) = status.Done
-note_status (Start name ask) = status.Done
-note_status (Mark name) = status.Done
-note_status (Found name n) = status.Done
-note_status (Posted name n) = status.Done
-note_status (Full name n) = status.Refused
-note_status (Taken name count records) = status.Done
-note_status (BadBox name gate capacity) = status.Damaged
-note_status (BadRecord name i word) = status.Damaged
-note_status (Stop name) = status.Done
-note_status (Halt name) = status.Done
-note_status (MediaFault name at) = status.MediaFault
-note_status (Refused name cause) = cause_status cause
+abbrev pub mail_note_status : MailNote → Status
+mail_note_status (Writer name) = status.Done
+mail_note_status (Reader name) = status.Done
+mail_note_status (Start name ask) = status.Done
+mail_note_status (Mark name) = status.Done
+mail_note_status (Found name n) = status.Done
+mail_note_status (Posted name n) = status.Done
+mail_note_status (Full name n) = status.Refused
+mail_note_status (Taken name count records) = status.Done
+mail_note_status (BadBox name gate capacity) = status.Damaged
+mail_note_status (BadRecord name i word) = status.Damaged
+mail_note_status (Stop name) = status.Done
+mail_note_status (Halt name) = status.Done
+mail_note_status (MediaFault name at) = status.MediaFault
+mail_note_status (Refused name cause) = mail_cause_status cause
 
 -- every note alone has the status Done
-abbrev pub is_good : List MailNote → Bool
-is_good [] = true
-is_good (note ∷ notes) = is_done (note_status note) && is_good notes
+abbrev pub is_good_mail : List MailNote → Bool
+is_good_mail [] = true
+is_good_mail (note ∷ notes) = is_done (mail_note_status note) && is_good_mail notes

@@ -3,7 +3,7 @@
 ghost use Rattle.std.specs.Prelude.{◌≡◌};
 ghost use Rattle.fam_grammar.specs.Cursor.{words_left, IsShort, Tells};
 ghost use Rattle.fam_mail.specs.declared.event.MailEvent.TheVariants as event;
-ghost use Rattle.fam_mail_script.specs.Lines.{ask_behind, ask_line, asked_line, event_behind, evict_line, fetch_line, leak_line, mail_line, name_line, step_line};
+ghost use Rattle.fam_mail_script.specs.Lines.{mail_ask_behind, mail_ask_line, mail_asked_line, mail_words_behind, mail_evict_line, mail_fetch_line, mail_leak_line, mail_line, mail_name_line, mail_step_line};
 
 use crate::keywords::{AskWord, EventWord, ask_word, event_word};
 use crate::numbers::record;
@@ -14,7 +14,7 @@ use fam_mail::{Ask, MailEvent};
 /// The words behind an ask's name.
 fn ask_behind(name: AskWord, words: &mut Words<'_>, line: Line) -> Result<Ask, LineFault>
     requires short { IsShort words.old }
-    ensures value { Tells line (words_left words.new) result (ask_behind line.end name (words_left words.old)) }
+    ensures value { Tells line (words_left words.new) result (mail_ask_behind line.end name (words_left words.old)) }
     ensures short { IsShort words.new }
 {
     match name {
@@ -24,10 +24,10 @@ fn ask_behind(name: AskWord, words: &mut Words<'_>, line: Line) -> Result<Ask, L
 }
 
 /// What a host is asked for: its name, and its words.
-#[tactic(auto, unfolding(crate::specs::Lines::ask_line))]
+#[tactic(auto, unfolding(crate::specs::Lines::mail_ask_line))]
 fn ask(words: &mut Words<'_>, line: Line) -> Result<Ask, LineFault>
     requires short { IsShort words.old }
-    ensures value { Tells line (words_left words.new) result (ask_line line.end (words_left words.old)) }
+    ensures value { Tells line (words_left words.new) result (mail_ask_line line.end (words_left words.old)) }
     ensures short { IsShort words.new }
 {
     let word = words.expected(line)?;
@@ -37,7 +37,7 @@ fn ask(words: &mut Words<'_>, line: Line) -> Result<Ask, LineFault>
 
 fn writer(words: &mut Words<'_>, line: Line) -> Result<MailEvent, LineFault>
     requires short { IsShort words.old }
-    ensures value { Tells line (words_left words.new) result (name_line event.Writer line.end (words_left words.old)) }
+    ensures value { Tells line (words_left words.new) result (mail_name_line event.Writer line.end (words_left words.old)) }
     ensures short { IsShort words.new }
 {
     let name = words.name(line)?;
@@ -47,7 +47,7 @@ fn writer(words: &mut Words<'_>, line: Line) -> Result<MailEvent, LineFault>
 
 fn reader(words: &mut Words<'_>, line: Line) -> Result<MailEvent, LineFault>
     requires short { IsShort words.old }
-    ensures value { Tells line (words_left words.new) result (name_line event.Reader line.end (words_left words.old)) }
+    ensures value { Tells line (words_left words.new) result (mail_name_line event.Reader line.end (words_left words.old)) }
     ensures short { IsShort words.new }
 {
     let name = words.name(line)?;
@@ -57,7 +57,7 @@ fn reader(words: &mut Words<'_>, line: Line) -> Result<MailEvent, LineFault>
 
 fn begin(words: &mut Words<'_>, line: Line) -> Result<MailEvent, LineFault>
     requires short { IsShort words.old }
-    ensures value { Tells line (words_left words.new) result (asked_line event.Begin line.end (words_left words.old)) }
+    ensures value { Tells line (words_left words.new) result (mail_asked_line event.Begin line.end (words_left words.old)) }
     ensures short { IsShort words.new }
 {
     let name = words.name(line)?;
@@ -67,7 +67,7 @@ fn begin(words: &mut Words<'_>, line: Line) -> Result<MailEvent, LineFault>
 
 fn run(words: &mut Words<'_>, line: Line) -> Result<MailEvent, LineFault>
     requires short { IsShort words.old }
-    ensures value { Tells line (words_left words.new) result (asked_line event.Run line.end (words_left words.old)) }
+    ensures value { Tells line (words_left words.new) result (mail_asked_line event.Run line.end (words_left words.old)) }
     ensures short { IsShort words.new }
 {
     let name = words.name(line)?;
@@ -77,7 +77,7 @@ fn run(words: &mut Words<'_>, line: Line) -> Result<MailEvent, LineFault>
 
 fn step(words: &mut Words<'_>, line: Line) -> Result<MailEvent, LineFault>
     requires short { IsShort words.old }
-    ensures value { Tells line (words_left words.new) result (step_line line.end (words_left words.old)) }
+    ensures value { Tells line (words_left words.new) result (mail_step_line line.end (words_left words.old)) }
     ensures short { IsShort words.new }
 {
     let name = words.name(line)?;
@@ -93,7 +93,7 @@ fn step(words: &mut Words<'_>, line: Line) -> Result<MailEvent, LineFault>
 
 fn finish(words: &mut Words<'_>, line: Line) -> Result<MailEvent, LineFault>
     requires short { IsShort words.old }
-    ensures value { Tells line (words_left words.new) result (name_line event.Finish line.end (words_left words.old)) }
+    ensures value { Tells line (words_left words.new) result (mail_name_line event.Finish line.end (words_left words.old)) }
     ensures short { IsShort words.new }
 {
     let name = words.name(line)?;
@@ -103,7 +103,7 @@ fn finish(words: &mut Words<'_>, line: Line) -> Result<MailEvent, LineFault>
 
 fn stop(words: &mut Words<'_>, line: Line) -> Result<MailEvent, LineFault>
     requires short { IsShort words.old }
-    ensures value { Tells line (words_left words.new) result (name_line event.Stop line.end (words_left words.old)) }
+    ensures value { Tells line (words_left words.new) result (mail_name_line event.Stop line.end (words_left words.old)) }
     ensures short { IsShort words.new }
 {
     let name = words.name(line)?;
@@ -113,7 +113,7 @@ fn stop(words: &mut Words<'_>, line: Line) -> Result<MailEvent, LineFault>
 
 fn halt(words: &mut Words<'_>, line: Line) -> Result<MailEvent, LineFault>
     requires short { IsShort words.old }
-    ensures value { Tells line (words_left words.new) result (name_line event.Halt line.end (words_left words.old)) }
+    ensures value { Tells line (words_left words.new) result (mail_name_line event.Halt line.end (words_left words.old)) }
     ensures short { IsShort words.new }
 {
     let name = words.name(line)?;
@@ -123,7 +123,7 @@ fn halt(words: &mut Words<'_>, line: Line) -> Result<MailEvent, LineFault>
 
 fn evict(words: &mut Words<'_>, line: Line) -> Result<MailEvent, LineFault>
     requires short { IsShort words.old }
-    ensures value { Tells line (words_left words.new) result (evict_line line.end (words_left words.old)) }
+    ensures value { Tells line (words_left words.new) result (mail_evict_line line.end (words_left words.old)) }
     ensures short { IsShort words.new }
 {
     let name = words.name(line)?;
@@ -134,7 +134,7 @@ fn evict(words: &mut Words<'_>, line: Line) -> Result<MailEvent, LineFault>
 
 fn leak(words: &mut Words<'_>, line: Line) -> Result<MailEvent, LineFault>
     requires short { IsShort words.old }
-    ensures value { Tells line (words_left words.new) result (leak_line line.end (words_left words.old)) }
+    ensures value { Tells line (words_left words.new) result (mail_leak_line line.end (words_left words.old)) }
     ensures short { IsShort words.new }
 {
     let name = words.name(line)?;
@@ -146,7 +146,7 @@ fn leak(words: &mut Words<'_>, line: Line) -> Result<MailEvent, LineFault>
 
 fn fetch(words: &mut Words<'_>, line: Line) -> Result<MailEvent, LineFault>
     requires short { IsShort words.old }
-    ensures value { Tells line (words_left words.new) result (fetch_line line.end (words_left words.old)) }
+    ensures value { Tells line (words_left words.new) result (mail_fetch_line line.end (words_left words.old)) }
     ensures short { IsShort words.new }
 {
     let name = words.name(line)?;
@@ -159,7 +159,7 @@ fn fetch(words: &mut Words<'_>, line: Line) -> Result<MailEvent, LineFault>
 /// The words behind an event's name.
 fn event_behind(name: EventWord, words: &mut Words<'_>, line: Line) -> Result<MailEvent, LineFault>
     requires short { IsShort words.old }
-    ensures value { Tells line (words_left words.new) result (event_behind line.end name (words_left words.old)) }
+    ensures value { Tells line (words_left words.new) result (mail_words_behind line.end name (words_left words.old)) }
     ensures short { IsShort words.new }
 {
     match name {

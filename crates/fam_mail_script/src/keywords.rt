@@ -2,7 +2,7 @@
 
 ghost use Rattle.std.specs.Prelude.{◌≡◌};
 ghost use Rattle.std.specs.Str.{bytes_eq};
-ghost use Rattle.fam_mail_script.specs.Keywords.{ask_word, event_word};
+ghost use Rattle.fam_mail_script.specs.Keywords.{mail_ask_word, mail_word};
 
 /// What an event does.
 #[derive(Clone, Copy, PartialEq, Eq)]
@@ -35,9 +35,9 @@ fn is(word: &[u8], wanted: &str) -> bool
 }
 
 /// The event of this name.
-#[tactic(auto, unfolding(crate::specs::Keywords::event_word))]
+#[tactic(auto, unfolding(crate::specs::Keywords::mail_word))]
 pub(crate) fn event_word(word: &[u8]) -> Option<EventWord>
-    ensures { result ≡ event_word word.now }
+    ensures { result ≡ mail_word word.now }
 {
     if is(word, "writer") {
         Some(EventWord::Writer)
@@ -67,9 +67,9 @@ pub(crate) fn event_word(word: &[u8]) -> Option<EventWord>
 }
 
 /// The ask of this name.
-#[tactic(auto, unfolding(crate::specs::Keywords::ask_word))]
+#[tactic(auto, unfolding(crate::specs::Keywords::mail_ask_word))]
 pub(crate) fn ask_word(word: &[u8]) -> Option<AskWord>
-    ensures { result ≡ ask_word word.now }
+    ensures { result ≡ mail_ask_word word.now }
 {
     if is(word, "take") {
         Some(AskWord::Take)

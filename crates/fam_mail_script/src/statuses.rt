@@ -9,7 +9,7 @@ use fam_script::is_done;
 
 /// The status of a refusal alone.
 fn cause_status(cause: &MailRefusal) -> Status
-    ensures { result ≡ spec.cause_status cause.now }
+    ensures { result ≡ spec.mail_cause_status cause.now }
 {
     match cause {
         MailRefusal::NoHost => Status::Refused,
@@ -26,7 +26,7 @@ fn cause_status(cause: &MailRefusal) -> Status
 
 /// The status of a note alone: a full box refuses a post, and a box or a record that is none is damage.
 pub fn note_status(note: &MailNote) -> Status
-    ensures { result ≡ spec.note_status note.now }
+    ensures { result ≡ spec.mail_note_status note.now }
 {
     match note {
         MailNote::Writer(_) => Status::Done,
@@ -48,7 +48,7 @@ pub fn note_status(note: &MailNote) -> Status
 
 /// Each note alone has the status `Done`.
 pub fn is_good(notes: &[MailNote]) -> bool
-    ensures { result ≡ spec.is_good notes.now }
+    ensures { result ≡ spec.is_good_mail notes.now }
 {
     'notes: for note in notes {
         if !is_done(note_status(note)) {

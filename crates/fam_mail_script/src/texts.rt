@@ -31,7 +31,7 @@ fn put_numbers(alloc: Global, numbers: &[u64], into: &mut Vec<u8>) -> Result<(),
 
 /// Adds the line of a record: its numbers, a space between two of them.
 fn put_record(alloc: Global, one: &Record, into: &mut Vec<u8>) -> Result<(), OutOfMemory>
-    ensures { OnOk result (into.new.items ≡ into.old.items ++ text.record_line one.now) }
+    ensures { OnOk result (into.new.items ≡ into.old.items ++ text.record_text_line one.now) }
 {
     if let [first, more @ ..] = one.numbers() {
         match format!(in alloc; "{first}") {
@@ -87,7 +87,7 @@ fn start_line(alloc: Global, ask: &Ask) -> Result<Vec<u8>, OutOfMemory>
 /// The line of a refusal of a call for the host of this name.
 fn refusal_line(alloc: Global, name: &[u8], cause: &MailRefusal) -> Result<Vec<u8>, OutOfMemory>
     ensures { IfOk result (λ bytes. bytes.items ≡
-        lines.line (codes "refused " ++ text.refusal_text name.now cause.now)) }
+        lines.line (codes "refused " ++ text.mail_refusal_text name.now cause.now)) }
 {
     match cause {
         MailRefusal::NoHost => line(alloc, "refused no host"),
@@ -113,7 +113,7 @@ fn refusal_line(alloc: Global, name: &[u8], cause: &MailRefusal) -> Result<Vec<u
 
 /// The text of a note without its host's name, with its line feeds.
 fn note_text(alloc: Global, note: &MailNote) -> Result<Vec<u8>, OutOfMemory>
-    ensures { IfOk result (λ bytes. bytes.items ≡ text.note_text note.now) }
+    ensures { IfOk result (λ bytes. bytes.items ≡ text.mail_note_text note.now) }
 {
     match note {
         MailNote::Writer(_) => line(alloc, "writer"),
@@ -140,7 +140,7 @@ fn note_text(alloc: Global, note: &MailNote) -> Result<Vec<u8>, OutOfMemory>
 
 /// The name of a note's host.
 fn note_name(note: &MailNote) -> &[u8]
-    ensures { result.now ≡ text.name_of_note note.now }
+    ensures { result.now ≡ text.mail_note_name note.now }
 {
     match note {
         MailNote::Writer(name) => name.bytes(),
@@ -163,7 +163,7 @@ fn note_name(note: &MailNote) -> &[u8]
 /// A note in print: the name of its host, its text, and the further lines of records that were taken, each with a line
 /// feed.
 pub fn note_line(alloc: Global, note: &MailNote) -> Result<Vec<u8>, OutOfMemory>
-    ensures { IfOk result (λ bytes. bytes.items ≡ text.note_line note.now) }
+    ensures { IfOk result (λ bytes. bytes.items ≡ text.mail_note_line note.now) }
 {
     let rest = note_text(alloc, note)?;
     let mut text = Vec::new(alloc);

@@ -21,7 +21,7 @@ use Rattle.fam_media.specs.States.{MediaChange}
 use Rattle.fam_rules.specs.Written.{file_line}
 use Rattle.fam_mailbox.specs.declared.fault.LookFault.{LookFault}
 use Rattle.fam_mailbox.specs.declared.fault.LookFault.TheVariants as fault
-use Rattle.fam_mailbox.specs.Lookups.{HasEntries, HasFile, IsLookCaused, IsNoFile, IsSo, look_of}
+use Rattle.fam_mailbox.specs.Lookups.{HasEntries, HasFile, IsLookCaused, IsNoFile, IsSo, box_look}
 
 -- a count that rose has risen from what it was before
 rose_later : (first before now : ℕ) → first ≤ before → Rose before now → Rose first now
@@ -30,20 +30,13 @@ rose_later first before now later (inr last) = inr last
 
 -- What stands at a path.
 
-pub no_file_so : (path : List ℕ) (image : Image) (params : Params) (entries : List Entry) (f : LookFault) → least_lines ≤ length image → reading image ≡ read.Sound params entries → IsNoFile entries path f → IsSo path image f
-no_file_so path image params entries (fault.ImageSmall n) enough reads none = absurd none
-no_file_so path image params entries (fault.NoSuper word) enough reads none = absurd none
-no_file_so path image params entries (fault.BadSuper field found wanted) enough reads none = absurd none
-no_file_so path image params entries (fault.BadLog field found wanted) enough reads none = absurd none
-no_file_so path image params entries (fault.BadEntry seq reason) enough reads none = absurd none
-no_file_so path image params entries (fault.NotFound m) enough reads none = record { params = params; entries = entries; has = record { enough = enough; reads = reads }; count = none.0; none = none.1 }
+pub no_file_so : (path : List ℕ) (image : Image) (params : Params) (entries : List Entry) (f : LookFault) → least_lines ≤ length image → reading image ≡ read.Sound params entries
+    → IsNoFile entries path f → IsSo path image f
+no_file_so path image params entries (fault.NotFound m) enough reads none =
+    record { params = params; entries = entries; has = record { enough = enough; reads = reads }; count = none.0; none = none.1 }
 no_file_so path image params entries (fault.IsDirectory m) enough reads (count, entry, there, directory) =
     record { params = params; entries = entries; has = record { enough = enough; reads = reads }; count = count; entry = entry; there = there; directory = directory }
-no_file_so path image params entries (fault.BoxSmall size) enough reads none = absurd none
-no_file_so path image params entries (fault.BadBox gate capacity) enough reads none = absurd none
-no_file_so path image params entries (fault.BadRecord i) enough reads none = absurd none
-no_file_so path image params entries (fault.MediaFault at) enough reads none = absurd none
-no_file_so path image params entries fault.OutOfMemory enough reads none = absurd none
+no_file_so path image params entries e enough reads none = absurd none
 
 -- where the image is modelled
 pub files_found : (path : List ℕ) (told : Option Image) (params : Params) (entries : List Entry) (r : Result Entry LookFault) → IfModelled told (λ image. HasEntries image params entries)
@@ -51,6 +44,7 @@ pub files_found : (path : List ℕ) (told : Option Image) (params : Params) (ent
 files_found path told params entries (Ok e) has there file = λ image is. record { params = params; entries = entries; has = has image is; there = there; file = file }
 files_found path told params entries (Err f) has there file = tt
 
+-- what stands at a path, where no entry is told
 pub no_files : (path : List ℕ) (told : Option Image) (params : Params) (entries : List Entry) (r : Result Entry LookFault) → IfModelled told (λ image. HasEntries image params entries)
     → IfErr r (IsNoFile entries path) → IfErr r (λ f. IfModelled told (λ image. IsSo path image f))
 no_files path told params entries (Ok e) has none = tt
@@ -58,9 +52,10 @@ no_files path told params entries (Err f) has none = λ image is. let h = has im
 
 -- The box.
 
+-- a fault of a box is so of the image
 pub box_so : (path : List ℕ) (image : Image) (told : Option Image) (entry : Entry) (f : BoxFault) → told ≡ Some image → HasFile path image entry → 128 ≤ entry.size
     → IfWrong f (λ w. IfModelled told (λ i. box_of (file_line entry) (capacity_of entry.size) (line_at i) ≡ Err w))
-    → IfFailed f (λ line. IsReadLine (file_line entry) (capacity_of entry.size) told line.0) → IsSo path image (look_of f)
+    → IfFailed f (λ line. IsReadLine (file_line entry) (capacity_of entry.size) told line.0) → IsSo path image (box_look f)
 box_so path image told entry (check.Wrong (wrong.BadBox gate capacity)) is file room none read = record { entry = entry; file = file; room = room; wrong_is = none image is }
 box_so path image told entry (check.Wrong (wrong.BadRecord i)) is file room none read = record { entry = entry; file = file; room = room; wrong_is = none image is }
 box_so path image told entry (check.MediaFault line) is file room none read =
@@ -76,8 +71,10 @@ read_within place capacity line lines told within (inr r) =
     let is = r.line_is in
     omega (arith, is, below)
 
-pub box_caused : (lines : ℕ) (media : MediaChange) (before : ℕ) (place : ℕ → ℕ) (capacity : ℕ) (told : Option Image) (f : BoxFault) → media.old.faults ≤ before → ((j : ℕ) → j ≤ capacity → place j < lines)
-    → IfFailed f (λ line. Rose before media.new.faults) → IfFailed f (λ line. IsReadLine place capacity told line.0) → IsLookCaused lines media (look_of f)
+-- and has its cause
+pub box_caused : (lines : ℕ) (media : MediaChange) (before : ℕ) (place : ℕ → ℕ) (capacity : ℕ) (told : Option Image) (f : BoxFault) → media.old.faults ≤ before
+    → ((j : ℕ) → j ≤ capacity → place j < lines)
+    → IfFailed f (λ line. Rose before media.new.faults) → IfFailed f (λ line. IsReadLine place capacity told line.0) → IsLookCaused lines media (box_look f)
 box_caused lines media before place capacity told (check.Wrong (wrong.BadBox gate most)) later within rose read = tt
 box_caused lines media before place capacity told (check.Wrong (wrong.BadRecord i)) later within rose read = tt
 box_caused lines media before place capacity told (check.MediaFault line) later within rose read =

@@ -15,7 +15,7 @@ use Rattle.fam_plan.specs.State.{PlanState, IsHistory}
 use Rattle.fam_rules.specs.Place.{IsProperEntry, line_bytes}
 use Rattle.fam_rules.specs.Written.{file_line}
 use Rattle.fam_rules.proofs.LinesApart.{file_within}
-use Rattle.fam_mailbox.specs.Lookups.{IsPlaced, IsPlacedIn}
+use Rattle.fam_mailbox.specs.Lookups.{IsFilePlaced, IsFilePlacedIn}
 
 -- it is the last entry, or it stood there before
 last_or_before : (b : Bool) (x e : Entry) (before : Option Entry) → cond b (Some x) before ≡ Some e → (x ≡ e) ⊎ (before ≡ Some e)
@@ -37,7 +37,8 @@ found_in list path e (suc n) within is =
       | inr (past, none) ↦ absurd (omega arith)
     ]
 
-pub found_placed : (s : PlanState) (path : List ℕ) (e : Entry) → IsHistory s → finmap.get (replay s.entries) path ≡ Some e → IsPlacedIn s.params e
+-- an entry of a history is placed
+pub found_placed : (s : PlanState) (path : List ℕ) (e : Entry) → IsHistory s → finmap.get (replay s.entries) path ≡ Some e → IsFilePlacedIn s.params e
 found_placed s path e history is =
     let whole : take (length s.entries) s.entries ≡ s.entries = take_all (length s.entries) s.entries (omega arith) in
     let (i, at) = found_in s.entries path e (length s.entries) (omega arith) (ap (λ (l : List Entry). finmap.get (replay l) path) whole ∙ is) in
@@ -45,7 +46,8 @@ found_placed s path e history is =
     record { sound = history.params; proper = added.proper; once = (joins_from s.params (take i s.entries) e added.joins).units.once }
 
 -- Its file's lines.
-module _ (lines : ℕ) (e : Entry) (placed : IsPlaced lines e) where
+module _ (lines : ℕ) (e : Entry) (placed : IsFilePlaced lines e) where
+  -- and so it is proper
   pub proper_entry : IsProperEntry e
   proper_entry = record { params = placed.params; sound = placed.placed.sound; proper = placed.placed.proper }
 

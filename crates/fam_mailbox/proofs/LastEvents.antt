@@ -4,21 +4,23 @@ use Rattle.std.specs.Prelude.{slice_get}
 use Rattle.fam_base.specs.Image.{Image}
 use Rattle.fam_base.specs.declared.entry.Entry.{Entry}
 use Rattle.fam_base.specs.declared.line.OutOfMemory.{OutOfMemory}
-use Rattle.fam_mail.specs.Happens.{HasRun, RunsOn}
+use Rattle.fam_mail.specs.Happens.{HasRunMail, MailRunsOn}
 use Rattle.fam_mail.specs.World.{MailView}
 use Rattle.fam_mail.specs.declared.event.MailEvent.{MailEvent}
 use Rattle.fam_mail.specs.declared.note.MailNote.{MailNote}
-use Rattle.fam_mail_script.specs.Texts.{render}
+use Rattle.fam_mail_script.specs.Texts.{mail_text}
 use Rattle.fam_media.specs.States.{MediaState, SinkChange, SinkState, change}
 use Rattle.fam_program.specs.Puts.{PutWhole}
 use Rattle.fam_mailbox.specs.Runs.{EndsIn}
 use Rattle.fam_mailbox.proofs.Running.{Going, Noted, entry_here, rest}
 
-module _ {M : Type 0} (size : M → ℕ) (state : M → MediaState) (entry : Entry) (events : List MailEvent) (media : M) (count : ℕ) (here next : M) (v w : MailView) (going : Going size state entry events count media here v) (n : Noted state here next v w) (kept : ℕ) (kept_is : kept ≡ length v.journal) where
+module _ {M : Type 0} (size : M → ℕ) (state : M → MediaState) (entry : Entry) (events : List MailEvent) (media : M) (count : ℕ) (here next : M) (v w : MailView)
+    (going : Going size state entry events count media here v) (n : Noted state here next v w) (kept : ℕ) (kept_is : kept ≡ length v.journal) where
   -- it puts this of its notes
   pub ends_in : (e : MailEvent) → slice_get events count ≡ Some e → (ended : Result (Unit {0}) OutOfMemory)
-      → ((start : Image) (records : List (List ℕ)) (done : List MailEvent) → HasRun start records done v (state here).image → RunsOn start records done e w (state next).image ended)
-      → (Puts : List MailNote → SinkChange → Type 0) (old mid new : SinkState) → old.faults ≤ mid.faults → PutWhole (render v.journal) (record { old = old; new = mid }) → Puts (drop kept w.journal) (record { old = mid; new = new })
+      → ((start : Image) (records : List (List ℕ)) (done : List MailEvent) → HasRunMail start records done v (state here).image → MailRunsOn start records done e w (state next).image ended)
+      → (Puts : List MailNote → SinkChange → Type 0) (old mid new : SinkState) → old.faults ≤ mid.faults → PutWhole (mail_text v.journal) (record { old = old; new = mid })
+      → Puts (drop kept w.journal) (record { old = mid; new = new })
       → EndsIn entry ended Puts events w.journal (change state media next) (record { old = old; new = new })
   ends_in e is ended runs Puts old mid new later whole puts = record {
     count = count;

@@ -4,10 +4,10 @@ use Rattle.std.proofs.lemmas.Option.{same_Some}
 use Rattle.fam_base.specs.Image.{Image, line_at}
 use Rattle.fam_base.specs.declared.entry.Entry.{Entry}
 use Rattle.fam_mail.specs.Boxes.{box_of, capacity_of}
-use Rattle.fam_mail.specs.Happens.{Held, HasRun, HasRunPart}
-use Rattle.fam_mail.specs.Legal.{state_of}
-use Rattle.fam_mail.specs.Machines.{Machines}
-use Rattle.fam_mail.specs.RunLaws.{IsLeft}
+use Rattle.fam_mail.specs.Happens.{IsMailHeld, HasRunMail, HasRunMailPart}
+use Rattle.fam_mail.specs.Legal.{mail_state}
+use Rattle.fam_mail.specs.Machines.{MailMachines}
+use Rattle.fam_mail.specs.RunLaws.{IsBoxLeft}
 use Rattle.fam_mail.specs.World.{MailView}
 use Rattle.fam_mail.specs.declared.event.MailEvent.{MailEvent}
 use Rattle.fam_mail.specs.declared.note.MailNote.{MailNote}
@@ -15,31 +15,38 @@ use Rattle.fam_mail.proofs.RunLaws.{left_box}
 use Rattle.fam_media.specs.States.{MediaChange, SinkChange}
 use Rattle.fam_outcomes.specs.declared.status.Status.{Status}
 use Rattle.fam_rules.specs.Written.{file_line}
-use Rattle.fam_mailbox.specs.Runs.{AllDone, HasDone, IsMailLeft, MailEnding, MailRan, SinkFails, WantsMemory}
+use Rattle.fam_mailbox.specs.Runs.{AllDone, HasDoneMail, IsMailLeft, MailEnding, MailRan, SinkFails, WantsMemory}
 
 -- a state that is held, as the media shows it
-held_left : (v : MailView) (start image : Image) (records : List (List ℕ)) (m : Machines) (now : Option Image) → box_of (file_line v.entry) (capacity_of v.entry.size) (line_at start) ≡ Ok records → Held v.entry start records m v.journal → now ≡ Some m.memory → now ≡ Some image
+held_left : (v : MailView) (start image : Image) (records : List (List ℕ)) (m : MailMachines) (now : Option Image)
+    → box_of (file_line v.entry) (capacity_of v.entry.size) (line_at start) ≡ Ok records → IsMailHeld v.entry start records m v.journal → now ≡ Some m.memory → now ≡ Some image
     → IsMailLeft v.entry start image v.journal
 held_left v start image records m now reads held shown told = record {
   records = records;
   reads = reads;
   legal = held.legal;
-  left = subst (λ (i : Image). IsLeft v.entry start i (state_of (capacity_of v.entry.size) records v.journal).mail) (same_Some m.memory image (sym shown ∙ told)) (left_box v.entry start records m v.journal held);
+  left = subst (λ (i : Image). IsBoxLeft v.entry start i (mail_state (capacity_of v.entry.size) records v.journal).mail) (same_Some m.memory image (sym shown ∙ told))
+      (left_box v.entry start records m v.journal held);
 }
 
-run_left : (events : List MailEvent) (v : MailView) (start image : Image) (records : List (List ℕ)) (now : Option Image) → now ≡ Some image → HasRun start records events v now → IsMailLeft v.entry start image v.journal
+run_left : (events : List MailEvent) (v : MailView) (start image : Image) (records : List (List ℕ)) (now : Option Image) → now ≡ Some image → HasRunMail start records events v now
+    → IsMailLeft v.entry start image v.journal
 run_left events v start image records now told run = held_left v start image records run.last now run.reads run.held run.shown_is told
 
-part_left : (events : List MailEvent) (e : MailEvent) (v : MailView) (start image : Image) (records : List (List ℕ)) (now : Option Image) → now ≡ Some image → HasRunPart start records events e v now → IsMailLeft v.entry start image v.journal
+part_left : (events : List MailEvent) (e : MailEvent) (v : MailView) (start image : Image) (records : List (List ℕ)) (now : Option Image) → now ≡ Some image
+    → HasRunMailPart start records events e v now → IsMailLeft v.entry start image v.journal
 part_left events e v start image records now told run = held_left v start image records run.last now run.reads run.held run.shown_is told
 
-done_left : (ending : MailEnding) (events : List MailEvent) (v : MailView) (start image : Image) (records : List (List ℕ)) (now : Option Image) → now ≡ Some image → HasDone ending start records events v now → IsMailLeft v.entry start image v.journal
+done_left : (ending : MailEnding) (events : List MailEvent) (v : MailView) (start image : Image) (records : List (List ℕ)) (now : Option Image) → now ≡ Some image
+    → HasDoneMail ending start records events v now → IsMailLeft v.entry start image v.journal
 done_left AllDone events v start image records now told run = run_left events v start image records now told run
 done_left SinkFails events v start image records now told first = run_left _ v start image records now told first.run
 done_left WantsMemory events v start image records now told (inl first) = run_left _ v start image records now told first.run
 done_left WantsMemory events v start image records now told (inr first) = part_left _ first.event v start image records now told first.run
 
-pub ran_left : (entry : Entry) (events : List MailEvent) (media : MediaChange) (s : SinkChange) (given : Status) (start image : Image) (ran : MailRan entry events media s given) → media.old.image ≡ Some start → media.new.image ≡ Some image → IsMailLeft entry start image ran.journal
+-- what a run leaves, however it ends
+pub ran_left : (entry : Entry) (events : List MailEvent) (media : MediaChange) (s : SinkChange) (given : Status) (start image : Image) (ran : MailRan entry events media s given)
+    → media.old.image ≡ Some start → media.new.image ≡ Some image → IsMailLeft entry start image ran.journal
 ran_left entry events media s given start image ran first last =
     let t = ran.told start first in
     subst (λ (ns : List MailNote). IsMailLeft entry start image ns) t.journal_is

@@ -10,7 +10,8 @@ use Rattle.fam_mailbox.specs.Runs.{AllDone, EndsIn, MailEnding, MailRan, PutsByE
 
 -- the event that ended it
 module _ (entry : Entry) (events : List MailEvent) (journal : List MailNote) (first before behind : MediaState) (s : SinkChange) (same : before.image ≡ first.image) where
-  ends_before : (ended : Result (Unit {0}) Full) (Puts : List MailNote → SinkChange → Type 0) → EndsIn entry ended Puts events journal (record { old = before; new = behind }) s → EndsIn entry ended Puts events journal (record { old = first; new = behind }) s
+  ends_before : (ended : Result (Unit {0}) Full) (Puts : List MailNote → SinkChange → Type 0) → EndsIn entry ended Puts events journal (record { old = before; new = behind }) s
+      → EndsIn entry ended Puts events journal (record { old = first; new = behind }) s
   ends_before ended Puts x = record {
     count = x.count;
     event = x.event;
@@ -25,7 +26,8 @@ module _ (entry : Entry) (events : List MailEvent) (journal : List MailNote) (fi
     told = λ start is. x.told start (same ∙ is);
   }
 
-  each_before : (ending : MailEnding) (given : Status) → PutsByEvent ending entry events journal (record { old = before; new = behind }) s given → PutsByEvent ending entry events journal (record { old = first; new = behind }) s given
+  each_before : (ending : MailEnding) (given : Status) → PutsByEvent ending entry events journal (record { old = before; new = behind }) s given
+      → PutsByEvent ending entry events journal (record { old = first; new = behind }) s given
   each_before AllDone given each = tt
   each_before SinkFails given each = ends_before (Ok tt) PutsPart each
   each_before WantsMemory given (inl each) = inl (ends_before (Ok tt) (PutsFirst given) each)

@@ -53,7 +53,7 @@ pub record HasFile (path : List ℕ) (image : Image) (entry : Entry) : Type 0 wh
   pub file : entry.kind ≡ kind.File
 
 -- it reads so as a whole, of which something is wrong
-pub record ReadsAs (image : Image) (wrong : Reading) : Type 0 where
+pub record ImageReadsAs (image : Image) (wrong : Reading) : Type 0 where
   pub enough : least_lines ≤ length image
   pub reads : reading image ≡ wrong
 
@@ -90,7 +90,7 @@ pub record HasWrongBox (path : List ℕ) (image : Image) (wrong : WrongBox) : Ty
   pub wrong_is : box_of (file_line entry) (capacity_of entry.size) (line_at image) ≡ Err wrong
 
 -- a line of the box in the file at this path: the gate's, or that of a record below the gate behind records
-pub record IsBoxLine (path : List ℕ) (image : Image) (at : ℕ) : Type 0 where
+pub record IsLookedBoxLine (path : List ℕ) (image : Image) (at : ℕ) : Type 0 where
   pub entry : Entry
   pub file : HasFile path image entry
   pub room : 128 ≤ entry.size
@@ -98,16 +98,16 @@ pub record IsBoxLine (path : List ℕ) (image : Image) (at : ℕ) : Type 0 where
 
 -- a line that is asked for: of the log, as a reading goes through it, or of the box in the file at the path
 abbrev pub IsLookedAt : List ℕ → Image → ℕ → Type 0
-IsLookedAt path image at = IsAskedFor (line_at image) (line_bytes * length image) at ⊎ IsBoxLine path image at
+IsLookedAt path image at = IsAskedFor (line_at image) (line_bytes * length image) at ⊎ IsLookedBoxLine path image at
 
 -- what is so of an image where a fault comes. One that tells of the image comes only where none stands before it; want of memory
 -- may come anywhere, and a media fault at a line that is asked for
 abbrev pub IsSo : List ℕ → Image → LookFault → Type 0
 IsSo path image (fault.ImageSmall lines) = (lines ≡ length image) × (length image < least_lines)
-IsSo path image (fault.NoSuper word) = ReadsAs image (read.NoSuperblock (super.NoSuper word))
-IsSo path image (fault.BadSuper field found wanted) = ReadsAs image (read.NoSuperblock (super.BadSuper field found wanted))
-IsSo path image (fault.BadLog field found wanted) = ReadsAs image (read.BadHeader (log.BadLog field found wanted))
-IsSo path image (fault.BadEntry seq reason) = ReadsAs image (read.BadSlot seq reason)
+IsSo path image (fault.NoSuper word) = ImageReadsAs image (read.NoSuperblock (super.NoSuper word))
+IsSo path image (fault.BadSuper field found wanted) = ImageReadsAs image (read.NoSuperblock (super.BadSuper field found wanted))
+IsSo path image (fault.BadLog field found wanted) = ImageReadsAs image (read.BadHeader (log.BadLog field found wanted))
+IsSo path image (fault.BadEntry seq reason) = ImageReadsAs image (read.BadSlot seq reason)
 IsSo path image (fault.NotFound m) = HasNothing path image m
 IsSo path image (fault.IsDirectory m) = HasDirectory path image m
 IsSo path image (fault.BoxSmall size) = HasSmallFile path image size
@@ -134,15 +134,15 @@ IsLookCaused lines media fault.OutOfMemory = ⊤
 -- Parts of the look.
 
 -- an entry is proper, and no unit stands in it twice
-pub record IsPlacedIn (p : Params) (entry : Entry) : Type 0 where
+pub record IsFilePlacedIn (p : Params) (entry : Entry) : Type 0 where
   pub sound : SoundParams p
   pub proper : Proper p entry
   pub once : IsOnce (units_in p.unit entry.extents)
 
 -- on a device of so many lines
-pub record IsPlaced (lines : ℕ) (entry : Entry) : Type 0 where
+pub record IsFilePlaced (lines : ℕ) (entry : Entry) : Type 0 where
   pub params : Params
-  pub placed : IsPlacedIn params entry
+  pub placed : IsFilePlacedIn params entry
   pub device : params.device ≤ line_bytes * lines
 
 -- no file stands at a path of entries: nothing, or a directory
@@ -161,19 +161,19 @@ IsNoFile entries path (fault.MediaFault at) = ⊥
 IsNoFile entries path fault.OutOfMemory = ⊥
 
 -- a fault of the image's log
-abbrev pub look_of_read : ReadFault → LookFault
-look_of_read (log_read.NoSuper word) = fault.NoSuper word
-look_of_read (log_read.BadSuper field found wanted) = fault.BadSuper field found wanted
-look_of_read (log_read.BadLog field found wanted) = fault.BadLog field found wanted
-look_of_read (log_read.BadEntry seq reason) = fault.BadEntry seq reason
-look_of_read (log_read.MediaFault line) = fault.MediaFault line
-look_of_read log_read.OutOfMemory = fault.OutOfMemory
+abbrev pub read_look : ReadFault → LookFault
+read_look (log_read.NoSuper word) = fault.NoSuper word
+read_look (log_read.BadSuper field found wanted) = fault.BadSuper field found wanted
+read_look (log_read.BadLog field found wanted) = fault.BadLog field found wanted
+read_look (log_read.BadEntry seq reason) = fault.BadEntry seq reason
+read_look (log_read.MediaFault line) = fault.MediaFault line
+read_look log_read.OutOfMemory = fault.OutOfMemory
 
 -- the fault that a box is none for, or that the media failed
-abbrev pub look_of : BoxFault → LookFault
-look_of (check.Wrong (wrong.BadBox gate capacity)) = fault.BadBox gate capacity
-look_of (check.Wrong (wrong.BadRecord i)) = fault.BadRecord i
-look_of (check.MediaFault line) = fault.MediaFault line
+abbrev pub box_look : BoxFault → LookFault
+box_look (check.Wrong (wrong.BadBox gate capacity)) = fault.BadBox gate capacity
+box_look (check.Wrong (wrong.BadRecord i)) = fault.BadRecord i
+box_look (check.MediaFault line) = fault.MediaFault line
 
 -- Texts and statuses.
 

@@ -6,12 +6,12 @@ use Rattle.fam_base.specs.declared.line.OutOfMemory.{OutOfMemory}
 use Rattle.fam_mail.specs.Boxes.{box_of, capacity_of}
 use Rattle.fam_mail.specs.declared.event.MailEvent.{MailEvent}
 use Rattle.fam_mail.specs.declared.note.MailNote.{MailNote}
-use Rattle.fam_mail.specs.Happens.{AreByWords, HasCounted, HasRun, HasRunPart, RunsOn}
-use Rattle.fam_mail.specs.Legal.{Legal, state_of}
-use Rattle.fam_mail.specs.RunLaws.{IsLeft}
+use Rattle.fam_mail.specs.Happens.{AreByWords, HasMailCounted, HasRunMail, HasRunMailPart, MailRunsOn}
+use Rattle.fam_mail.specs.Legal.{LegalMail, mail_state}
+use Rattle.fam_mail.specs.RunLaws.{IsBoxLeft}
 use Rattle.fam_mail.specs.World.{MailView}
-use Rattle.fam_mail_script.specs.Statuses.{is_good}
-use Rattle.fam_mail_script.specs.Texts.{render}
+use Rattle.fam_mail_script.specs.Statuses.{is_good_mail}
+use Rattle.fam_mail_script.specs.Texts.{mail_text}
 use Rattle.fam_media.specs.Outside.{IfModelled}
 use Rattle.fam_media.specs.States.{MediaChange, SinkChange, SinkState}
 use Rattle.fam_outcomes.specs.declared.status.Status.{Status}
@@ -19,7 +19,7 @@ use Rattle.fam_outcomes.specs.declared.status.Status.TheVariants as status
 use Rattle.fam_outcomes.specs.Statuses.{good_status}
 use Rattle.fam_rules.specs.Written.{file_line}
 use Rattle.fam_program.specs.Puts.{PutPart, PutWhole}
-use Rattle.fam_mailbox.specs.Puts.{PutShort}
+use Rattle.fam_mailbox.specs.Puts.{PutShortMail}
 
 -- all events are done, and all notes were put; the sink failed in a note of an event that was done; or no memory was left, for an
 -- event or for a text
@@ -30,27 +30,27 @@ pub data MailEnding : Type 0 where
 
 -- what is put of a run of such notes, and its status
 abbrev pub PutsMail : MailEnding → List MailNote → SinkChange → Status → Type 0
-PutsMail AllDone journal s given = (given ≡ good_status (is_good journal)) × PutWhole (render journal) s
-PutsMail SinkFails journal s given = (given ≡ status.SinkFault) × PutPart (render journal) s
-PutsMail WantsMemory journal s given = PutShort journal s given
+PutsMail AllDone journal s given = (given ≡ good_status (is_good_mail journal)) × PutWhole (mail_text journal) s
+PutsMail SinkFails journal s given = (given ≡ status.SinkFault) × PutPart (mail_text journal) s
+PutsMail WantsMemory journal s given = PutShortMail journal s given
 
 -- the first events were done, and nothing of the others
 pub record FirstDone (start : Image) (records : List (List ℕ)) (events : List MailEvent) (v : MailView) (now : Option Image) : Type 0 where
   pub count : ℕ
-  pub run : HasRun start records (take count events) v now
+  pub run : HasRunMail start records (take count events) v now
 
 -- the first events were done, and a part of the next one
 pub record FirstPartDone (start : Image) (records : List (List ℕ)) (events : List MailEvent) (v : MailView) (now : Option Image) : Type 0 where
   pub count : ℕ
   pub event : MailEvent
   pub event_is : slice_get events count ≡ Some event
-  pub run : HasRunPart start records (take count events) event v now
+  pub run : HasRunMailPart start records (take count events) event v now
 
 -- which of the events were done, by how the run ends
-abbrev pub HasDone : MailEnding → Image → List (List ℕ) → List MailEvent → MailView → Option Image → Type 0
-HasDone AllDone start records events v now = HasRun start records events v now
-HasDone SinkFails start records events v now = FirstDone start records events v now
-HasDone WantsMemory start records events v now = FirstDone start records events v now ⊎ FirstPartDone start records events v now
+abbrev pub HasDoneMail : MailEnding → Image → List (List ℕ) → List MailEvent → MailView → Option Image → Type 0
+HasDoneMail AllDone start records events v now = HasRunMail start records events v now
+HasDoneMail SinkFails start records events v now = FirstDone start records events v now
+HasDoneMail WantsMemory start records events v now = FirstDone start records events v now ⊎ FirstPartDone start records events v now
 
 -- a run over an image of which the box reads as a list: the events that were done lead from it, by the machine's rows, to a world with
 -- this journal, and the media has its memory
@@ -60,7 +60,7 @@ pub record HasMailed (ending : MailEnding) (entry : Entry) (events : List MailEv
   pub world : MailView
   pub entry_is : world.entry ≡ entry
   pub journal_is : world.journal ≡ journal
-  pub done : HasDone ending start records events world now
+  pub done : HasDoneMail ending start records events world now
 
 -- The event that ended a run early.
 
@@ -72,11 +72,11 @@ pub record IsLastEvent (entry : Entry) (ended : Result (Unit {0}) OutOfMemory) (
   pub first_entry : first.entry ≡ entry
   pub before_is : first.journal ≡ before
   pub shown : Option Image
-  pub done : HasRun start records events first shown
+  pub done : HasRunMail start records events first shown
   pub world : MailView
   pub world_entry : world.entry ≡ entry
   pub journal_is : world.journal ≡ journal
-  pub runs : RunsOn start records events event world now ended
+  pub runs : MailRunsOn start records events event world now ended
 
 -- the notes of all events before it were put, whole, and this of its own; nothing was run behind it
 pub record EndsIn (entry : Entry) (ended : Result (Unit {0}) OutOfMemory) (Puts : List MailNote → SinkChange → Type 0) (events : List MailEvent) (journal : List MailNote) (media : MediaChange) (s : SinkChange) : Type 0 where
@@ -88,17 +88,17 @@ pub record EndsIn (entry : Entry) (ended : Result (Unit {0}) OutOfMemory) (Puts 
   pub joined : journal ≡ before ++ notes
   pub mid : SinkState
   pub later : s.old.faults ≤ mid.faults
-  pub whole : PutWhole (render before) (record { old = s.old; new = mid })
+  pub whole : PutWhole (mail_text before) (record { old = s.old; new = mid })
   pub puts : Puts notes (record { old = mid; new = s.new })
   pub told : IfModelled media.old.image (λ start. IsLastEvent entry ended start (take count events) event before journal media.new.image)
 
 -- of its notes a part was put
 abbrev pub PutsPart : List MailNote → SinkChange → Type 0
-PutsPart notes s = PutPart (render notes) s
+PutsPart notes s = PutPart (mail_text notes) s
 
 -- or the first ones, and that no memory is left
 abbrev pub PutsFirst : Status → List MailNote → SinkChange → Type 0
-PutsFirst given notes s = PutShort notes s given
+PutsFirst given notes s = PutShortMail notes s given
 
 -- each event's notes are put when it is done, and nothing is run behind a put that failed, or where no memory was left
 abbrev pub PutsByEvent : MailEnding → Entry → List MailEvent → List MailNote → MediaChange → SinkChange → Status → Type 0
@@ -112,7 +112,7 @@ PutsByEvent WantsMemory entry events journal media s given =
 pub record MailRan (entry : Entry) (events : List MailEvent) (media : MediaChange) (s : SinkChange) (given : Status) : Type 0 where
   pub ending : MailEnding
   pub journal : List MailNote
-  pub counted : HasCounted media.old.faults media.new.faults journal
+  pub counted : HasMailCounted media.old.faults media.new.faults journal
   pub by_words : AreByWords journal
   pub told : IfModelled media.old.image (λ start. HasMailed ending entry events journal start media.new.image)
   pub put : PutsMail ending journal s given
@@ -123,5 +123,5 @@ pub record MailRan (entry : Entry) (events : List MailEvent) (media : MediaChang
 pub record IsMailLeft (entry : Entry) (start image : Image) (journal : List MailNote) : Type 0 where
   pub records : List (List ℕ)
   pub reads : box_of (file_line entry) (capacity_of entry.size) (line_at start) ≡ Ok records
-  pub legal : Legal (capacity_of entry.size) records journal
-  pub left : IsLeft entry start image (state_of (capacity_of entry.size) records journal).mail
+  pub legal : LegalMail (capacity_of entry.size) records journal
+  pub left : IsBoxLeft entry start image (mail_state (capacity_of entry.size) records journal).mail

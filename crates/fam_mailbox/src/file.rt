@@ -14,7 +14,7 @@ ghost use Rattle.fam_media.specs.States.{MediaChange, change};
 ghost use Rattle.fam_replay.specs.Sources.{FailsAt, IsAskedFor, IsReadCaused, Tells};
 ghost use Rattle.fam_rules.specs.Place.{line_bytes};
 ghost use Rattle.fam_rules.specs.Written.{file_line};
-ghost use Rattle.fam_mailbox.specs.Lookups.{HasFile, IsLookCaused, IsNoFile, IsPlaced, IsPlacedIn, IsSo, look_of, look_of_read};
+ghost use Rattle.fam_mailbox.specs.Lookups.{HasFile, IsLookCaused, IsNoFile, IsFilePlaced, IsFilePlacedIn, IsSo, box_look, read_look};
 
 use crate::fault::LookFault;
 use fam_base::{Entry, Kind, Path};
@@ -30,7 +30,7 @@ const LEAST_BOX: u64 = 128;
 
 /// A fault of the lines that tell an image's entries.
 fn entries_fault(fault: ReadFault) -> LookFault
-    ensures told { result ≡ look_of_read fault }
+    ensures told { result ≡ read_look fault }
     ensures is { (path : List ℕ) (image : Image) → least_lines ≤ length image → Tells fault (reading image)
         → FailsAt (IsAskedFor (line_at image) (line_bytes * length image)) fault → IsSo path image result }
     ensures cause { (lines : ℕ) (media : MediaChange) → IsReadCaused media.old.faults media.new.faults fault
@@ -66,7 +66,7 @@ fn entries_fault(fault: ReadFault) -> LookFault
 fn file_in(plan: &Plan, path: &Path) -> Result<Entry, LookFault>
     ensures there { IfOk result (λ entry. map.get (replay plan.now.entries) path.now ≡ Some entry) }
     ensures file { IfOk result (λ entry. entry.kind ≡ kind.File) }
-    ensures placed { IfOk result (IsPlacedIn plan.now.params) }
+    ensures placed { IfOk result (IsFilePlacedIn plan.now.params) }
     ensures none { IfErr result (IsNoFile plan.now.entries path.now) }
 {
     plan.each_entry_joins();
@@ -83,7 +83,7 @@ fn file_in(plan: &Plan, path: &Path) -> Result<Entry, LookFault>
 /// The entry of the file at a path of an image, whose log is read once, as a `read` reads it.
 fn find_file<M: Media>(alloc: Global, media: &mut M, path: &Path) -> Result<Entry, LookFault>
     ensures found { IfOk result (λ entry. IfModelled (M.state media.old).image (λ image. HasFile path.now image entry)) }
-    ensures placed { IfOk result (IsPlaced (M.size media.old)) }
+    ensures placed { IfOk result (IsFilePlaced (M.size media.old)) }
     ensures fault { IfErr result (λ fault. IfModelled (M.state media.old).image (λ image. IsSo path.now image fault)) }
     ensures cause { IfErr result (IsLookCaused (M.size media.old) (change M.state media.old media.new)) }
     ensures same { (M.state media.new).image ≡ (M.state media.old).image }
@@ -101,7 +101,7 @@ fn find_file<M: Media>(alloc: Global, media: &mut M, path: &Path) -> Result<Entr
 
 /// A fault of a box.
 fn box_fault(fault: BoxFault) -> LookFault
-    ensures { result ≡ look_of fault }
+    ensures { result ≡ box_look fault }
 {
     match fault {
         BoxFault::Wrong(WrongBox::BadBox { gate, capacity }) => {
@@ -117,7 +117,7 @@ fn box_fault(fault: BoxFault) -> LookFault
 pub fn find_box<M: Media>(alloc: Global, media: &mut M, path: &Path) -> Result<Entry, LookFault>
     ensures found { IfOk result (λ entry. IfModelled (M.state media.old).image (λ image. HasFile path.now image entry)) }
     ensures room { IfOk result (λ entry. 128 ≤ entry.size) }
-    ensures placed { IfOk result (IsPlaced (M.size media.old)) }
+    ensures placed { IfOk result (IsFilePlaced (M.size media.old)) }
     ensures read { IfOk result (λ entry. IfModelled (M.state media.old).image (λ image.
         IsBox (file_line entry) (capacity_of entry.size) (line_at image))) }
     ensures fault { IfErr result (λ fault. IfModelled (M.state media.old).image (λ image. IsSo path.now image fault)) }

@@ -4,7 +4,7 @@ ghost use Rattle.std.specs.Prelude.{◌≡◌, ◌≤◌, IsErrOf, OnOk, drop, l
 ghost use Rattle.fam_mail_script.specs.Texts as text;
 ghost use Rattle.fam_media.specs.States.{change};
 ghost use Rattle.fam_program.specs.Puts.{PutPart, PutWhole};
-ghost use Rattle.fam_mailbox.specs.Puts.{PutShort, PutSome};
+ghost use Rattle.fam_mailbox.specs.Puts.{PutShortMail, PutSomeMail};
 
 use fam_mail::{MailNote, MailWorld};
 use fam_mail_script::note_line;
@@ -15,8 +15,8 @@ use std::alloc::Global;
 
 /// Puts one note, with its further lines.
 fn put_note<K: Sink>(alloc: Global, note: &MailNote, out: &mut K) -> Result<(), PutFault>
-    ensures put { OnOk result (PutWhole (text.note_line note.now) (change K.state out.old out.new)) }
-    ensures part { IsErrOf result PutFault.Sink → PutPart (text.note_line note.now) (change K.state out.old out.new) }
+    ensures put { OnOk result (PutWhole (text.mail_note_line note.now) (change K.state out.old out.new)) }
+    ensures part { IsErrOf result PutFault.Sink → PutPart (text.mail_note_line note.now) (change K.state out.old out.new) }
     ensures undone { IsErrOf result PutFault.OutOfMemory → out.new ≡ out.old }
     ensures later { (K.state out.old).faults ≤ (K.state out.new).faults }
 {
@@ -32,9 +32,9 @@ fn put_note<K: Sink>(alloc: Global, note: &MailNote, out: &mut K) -> Result<(), 
 /// Puts notes in their order, each by one put. Where no memory is left for one of them, those before it were put; where
 /// a put failed, those before it and a part of it.
 fn put_each<K: Sink>(alloc: Global, notes: &[MailNote], out: &mut K) -> Result<(), PutFault>
-    ensures put { OnOk result (PutWhole (text.render notes.now) (change K.state out.old out.new)) }
-    ensures part { IsErrOf result PutFault.Sink → PutPart (text.render notes.now) (change K.state out.old out.new) }
-    ensures some { IsErrOf result PutFault.OutOfMemory → PutSome notes.now (change K.state out.old out.new) }
+    ensures put { OnOk result (PutWhole (text.mail_text notes.now) (change K.state out.old out.new)) }
+    ensures part { IsErrOf result PutFault.Sink → PutPart (text.mail_text notes.now) (change K.state out.old out.new) }
+    ensures some { IsErrOf result PutFault.OutOfMemory → PutSomeMail notes.now (change K.state out.old out.new) }
     ensures later { (K.state out.old).faults ≤ (K.state out.new).faults }
 {
     'notes: for note in notes {
@@ -55,10 +55,10 @@ pub(crate) fn put_notes<K: Sink>(
 ) -> Result<(), PutFault>
     requires within { from ≤ length world.now.journal }
 
-    ensures put { OnOk result (PutWhole (text.render (drop from world.now.journal)) (change K.state out.old out.new)) }
-    ensures part { IsErrOf result PutFault.Sink → PutPart (text.render (drop from world.now.journal))
+    ensures put { OnOk result (PutWhole (text.mail_text (drop from world.now.journal)) (change K.state out.old out.new)) }
+    ensures part { IsErrOf result PutFault.Sink → PutPart (text.mail_text (drop from world.now.journal))
         (change K.state out.old out.new) }
-    ensures some { IsErrOf result PutFault.OutOfMemory → PutSome (drop from world.now.journal)
+    ensures some { IsErrOf result PutFault.OutOfMemory → PutSomeMail (drop from world.now.journal)
         (change K.state out.old out.new) }
     ensures later { (K.state out.old).faults ≤ (K.state out.new).faults }
 {
@@ -69,7 +69,7 @@ pub(crate) fn put_notes<K: Sink>(
 pub(crate) fn put_cut<K: Sink>(alloc: Global, world: &MailWorld, from: usize, out: &mut K) -> Status
     requires within { from ≤ length world.now.journal }
 
-    ensures says { PutShort (drop from world.now.journal) (change K.state out.old out.new) result }
+    ensures says { PutShortMail (drop from world.now.journal) (change K.state out.old out.new) result }
     ensures later { (K.state out.old).faults ≤ (K.state out.new).faults }
 {
     match put_notes(alloc, world, from, out) {

@@ -9,7 +9,7 @@ ghost use Rattle.fam_media.specs.Outside.{IfModelled};
 ghost use Rattle.fam_media.specs.States.{change};
 ghost use Rattle.fam_outcomes.specs.Statuses.{good_status};
 ghost use Rattle.fam_rules.specs.Written.{file_line};
-ghost use Rattle.fam_mailbox.specs.Lookups.{IsPlaced};
+ghost use Rattle.fam_mailbox.specs.Lookups.{IsFilePlaced};
 ghost use Rattle.fam_mailbox.specs.Runs.{MailRan};
 
 use crate::puts::{put_cut, put_notes};
@@ -23,7 +23,7 @@ use std::alloc::Global;
 
 /// The status of events that were run to their end.
 fn end_status(world: &MailWorld) -> Status
-    ensures { result ≡ good_status (spec.is_good world.now.journal) }
+    ensures { result ≡ good_status (spec.is_good_mail world.now.journal) }
 {
     if is_good(world.journal()) {
         Status::Done
@@ -43,7 +43,7 @@ pub fn run_mail<M: Media, K: Sink>(
     media: &mut M,
     out: &mut K,
 ) -> Status
-    requires placed { IsPlaced (M.size media.old) entry.now }
+    requires placed { IsFilePlaced (M.size media.old) entry.now }
     requires room { 128 ≤ entry.now.size }
     requires reads { IfModelled (M.state media.old).image (λ image.
         IsBox (file_line entry.now) (capacity_of entry.now.size) (line_at image)) }

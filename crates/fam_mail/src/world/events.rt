@@ -4,9 +4,9 @@ ghost use Rattle.std.specs.Prelude.{◌≡◌, List, ℕ};
 ghost use Rattle.fam_base.specs.Image.{Image};
 ghost use Rattle.fam_media.specs.Causes.{IsSteady};
 ghost use Rattle.fam_media.specs.States.{change};
-ghost use Rattle.fam_mail.specs.Calls.{WorldFits};
-ghost use Rattle.fam_mail.specs.Follows.{IsSoundEvent, IsSoundAsk};
-ghost use Rattle.fam_mail.specs.Happens.{EventSays, HasRun, RunsOn, outcome};
+ghost use Rattle.fam_mail.specs.Calls.{MailWorldFits};
+ghost use Rattle.fam_mail.specs.Follows.{IsSoundMailEvent, IsSoundMailAsk};
+ghost use Rattle.fam_mail.specs.Happens.{MailEventSays, HasRunMail, MailRunsOn, mail_outcome};
 ghost use Rattle.fam_mail.specs.declared.event.MailEvent.{MailEvent as Event};
 ghost use Rattle.fam_mail.specs.declared.event.MailEvent.TheVariants as event;
 
@@ -19,7 +19,7 @@ use fam_media::Media;
 
 /// What a call comes to as an event.
 fn noted<T: Drop>(called: Result<T, MailFault>) -> Result<(), OutOfMemory>
-    ensures { result ≡ outcome called }
+    ensures { result ≡ mail_outcome called }
 {
     match called {
         Ok(_) => Ok(()),
@@ -30,7 +30,7 @@ fn noted<T: Drop>(called: Result<T, MailFault>) -> Result<(), OutOfMemory>
 
 /// What is posted is a record.
 fn is_sound_ask(ask: &Ask)
-    ensures { IsSoundAsk ask.now }
+    ensures { IsSoundMailAsk ask.now }
 {
     if let Ask::Post(record) = ask {
         let _numbers = record.numbers();
@@ -39,7 +39,7 @@ fn is_sound_ask(ask: &Ask)
 
 /// So it is of an event.
 fn is_sound(event: &MailEvent)
-    ensures { IsSoundEvent event.now }
+    ensures { IsSoundMailEvent event.now }
 {
     match event {
         MailEvent::Begin(_, ask) => is_sound_ask(ask),
@@ -55,10 +55,10 @@ fn run<M: Media>(
     name: &HostName,
     ask: &Ask,
 ) -> Result<(), OutOfMemory>
-    requires fits { WorldFits (M.size media.old) world.old }
+    requires fits { MailWorldFits (M.size media.old) world.old }
 
-    ensures says { EventSays (event.Run name.now ask.now) (change M.state media.old media.new) world.old world.new result }
-    ensures fits { WorldFits (M.size media.new) world.new }
+    ensures says { MailEventSays (event.Run name.now ask.now) (change M.state media.old media.new) world.old world.new result }
+    ensures fits { MailWorldFits (M.size media.new) world.new }
     ensures steady { IsSteady M.size M.state media.old media.new }
 {
     match world.begin(name, ask) {
@@ -74,10 +74,10 @@ fn do_event<M: Media>(
     media: &mut M,
     event: &MailEvent,
 ) -> Result<(), OutOfMemory>
-    requires fits { WorldFits (M.size media.old) world.old }
+    requires fits { MailWorldFits (M.size media.old) world.old }
 
-    ensures says { EventSays event.now (change M.state media.old media.new) world.old world.new result }
-    ensures fits { WorldFits (M.size media.new) world.new }
+    ensures says { MailEventSays event.now (change M.state media.old media.new) world.old world.new result }
+    ensures fits { MailWorldFits (M.size media.new) world.new }
     ensures steady { IsSteady M.size M.state media.old media.new }
 {
     match event {
@@ -101,16 +101,16 @@ impl MailWorld {
     /// `OutOfMemory` comes where no memory was left: of the event nothing was done, or some operations of its host, whose
     /// task goes on.
     pub fn happen<M: Media>(&mut self, media: &mut M, event: &MailEvent) -> Result<(), OutOfMemory>
-        requires fits { WorldFits (M.size media.old) self.old }
+        requires fits { MailWorldFits (M.size media.old) self.old }
 
-        ensures says { EventSays event.now (change M.state media.old media.new) self.old self.new result }
+        ensures says { MailEventSays event.now (change M.state media.old media.new) self.old self.new result }
 
         // Where the media tells its image, a run goes on.
         ensures runs { (start : Image) (records : List (List ℕ)) (events : List Event)
-            → HasRun start records events self.old (M.state media.old).image
-            → RunsOn start records events event.now self.new (M.state media.new).image result }
+            → HasRunMail start records events self.old (M.state media.old).image
+            → MailRunsOn start records events event.now self.new (M.state media.new).image result }
 
-        ensures fits { WorldFits (M.size media.new) self.new }
+        ensures fits { MailWorldFits (M.size media.new) self.new }
         ensures steady { IsSteady M.size M.state media.old media.new }
     {
         is_sound(event);

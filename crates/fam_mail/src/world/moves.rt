@@ -11,8 +11,8 @@ ghost use Rattle.fam_media.specs.Outside.{IfModelled};
 ghost use Rattle.fam_media.specs.States.{change};
 ghost use Rattle.fam_cache.specs.Effects.{FailsTo};
 ghost use Rattle.fam_machine.specs.HostMoves as how;
-ghost use Rattle.fam_mail.specs.Calls.{IfAnswered, MovesLine, WorldFits};
-ghost use Rattle.fam_mail.specs.Moves.{fault_of, move_of};
+ghost use Rattle.fam_mail.specs.Calls.{IfMailAnswered, MovesLine, MailWorldFits};
+ghost use Rattle.fam_mail.specs.Moves.{sent_fault, cache_move};
 
 use super::{MailWorld, capacity};
 use crate::hosts::holder;
@@ -36,7 +36,7 @@ enum OwnMove {
 
 /// That a send failed, as a fault of a cache.
 fn sends(sent: Result<(), Failed>) -> Result<(), CacheFault>
-    ensures { result ≡ fault_of sent }
+    ensures { result ≡ sent_fault sent }
 {
     match sent {
         Ok(()) => Ok(()),
@@ -55,9 +55,9 @@ fn shift<M: Media>(
     requires within { line.0 < M.size media.old }
 
     ensures moved { OnOk result (IfModelled (M.state media.old).image (λ image.
-        IsMachine (moved (move_of what) line.0 (machine image cache.old.lines)) (M.state media.new).image cache.new.lines)) }
+        IsMachine (moved (cache_move what) line.0 (machine image cache.old.lines)) (M.state media.new).image cache.new.lines)) }
     ensures failed { IsErrOf result CacheFault.Failed → IfModelled (M.state media.old).image (λ image. FailsTo line.0
-        (λ through memory. failed_move (move_of what) through memory (cell_at cache.old.lines line.0))
+        (λ through memory. failed_move (cache_move what) through memory (cell_at cache.old.lines line.0))
         image (M.state media.new).image) }
     ensures held { (l : ℕ) → IsHeld (cell_at cache.new.lines l) → (l ≡ line.0) ⊎ IsHeld (cell_at cache.old.lines l) }
     ensures err { OnErr result (cache.new.lines ≡ cache.old.lines) }
@@ -82,11 +82,11 @@ impl MailWorld {
         name: &HostName,
         line: u64,
     ) -> Result<(), MailFault>
-        requires fits { WorldFits (M.size media.old) self.old }
+        requires fits { MailWorldFits (M.size media.old) self.old }
 
-        ensures answered { IfAnswered result (λ answered.
+        ensures answered { IfMailAnswered result (λ answered.
             MovesLine name.now line how.Evict (change M.state media.old media.new) answered self.old self.new) }
-        ensures fits { WorldFits (M.size media.new) self.new }
+        ensures fits { MailWorldFits (M.size media.new) self.new }
         ensures undone { IsErrOf result MailFault.OutOfMemory → media.new ≡ media.old }
         ensures err { IsErrOf result MailFault.OutOfMemory → self.new ≡ self.old }
         ensures steady { IsSteady M.size M.state media.old media.new }
@@ -103,11 +103,11 @@ impl MailWorld {
         line: u64,
         mask: Mask,
     ) -> Result<(), MailFault>
-        requires fits { WorldFits (M.size media.old) self.old }
+        requires fits { MailWorldFits (M.size media.old) self.old }
 
-        ensures answered { IfAnswered result (λ answered.
+        ensures answered { IfMailAnswered result (λ answered.
             MovesLine name.now line (how.Leak mask.0) (change M.state media.old media.new) answered self.old self.new) }
-        ensures fits { WorldFits (M.size media.new) self.new }
+        ensures fits { MailWorldFits (M.size media.new) self.new }
         ensures undone { IsErrOf result MailFault.OutOfMemory → media.new ≡ media.old }
         ensures err { IsErrOf result MailFault.OutOfMemory → self.new ≡ self.old }
         ensures steady { IsSteady M.size M.state media.old media.new }
@@ -124,11 +124,11 @@ impl MailWorld {
         line: u64,
         mask: Mask,
     ) -> Result<(), MailFault>
-        requires fits { WorldFits (M.size media.old) self.old }
+        requires fits { MailWorldFits (M.size media.old) self.old }
 
-        ensures answered { IfAnswered result (λ answered.
+        ensures answered { IfMailAnswered result (λ answered.
             MovesLine name.now line (how.Fetch mask.0) (change M.state media.old media.new) answered self.old self.new) }
-        ensures fits { WorldFits (M.size media.new) self.new }
+        ensures fits { MailWorldFits (M.size media.new) self.new }
         ensures undone { IsErrOf result MailFault.OutOfMemory → media.new ≡ media.old }
         ensures err { IsErrOf result MailFault.OutOfMemory → self.new ≡ self.old }
         ensures steady { IsSteady M.size M.state media.old media.new }
@@ -144,11 +144,11 @@ impl MailWorld {
         line: u64,
         what: OwnMove,
     ) -> Result<(), MailFault>
-        requires fits { WorldFits (M.size media.old) self.old }
+        requires fits { MailWorldFits (M.size media.old) self.old }
 
-        ensures answered { IfAnswered result (λ answered.
-            MovesLine name.now line (move_of what) (change M.state media.old media.new) answered self.old self.new) }
-        ensures fits { WorldFits (M.size media.new) self.new }
+        ensures answered { IfMailAnswered result (λ answered.
+            MovesLine name.now line (cache_move what) (change M.state media.old media.new) answered self.old self.new) }
+        ensures fits { MailWorldFits (M.size media.new) self.new }
         ensures undone { IsErrOf result MailFault.OutOfMemory → media.new ≡ media.old }
         ensures err { IsErrOf result MailFault.OutOfMemory → self.new ≡ self.old }
         ensures steady { IsSteady M.size M.state media.old media.new }

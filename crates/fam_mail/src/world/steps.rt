@@ -7,9 +7,9 @@ ghost use Rattle.fam_rules.specs.Place.{IsProperEntry, line_bytes};
 ghost use Rattle.fam_rules.specs.Written.{file_line};
 ghost use Rattle.fam_mail.specs.Boxes.{capacity_of};
 ghost use Rattle.std.specs.Prelude.{OnOk, false};
-ghost use Rattle.fam_mail.specs.Calls.{CountEnds, FinishEnds, HostCounts, HostFinishes, HostFits, HostStays, HostStepped, IfStepped, Steps, WorldFits, left_in, turn_notes};
-ghost use Rattle.fam_mail.specs.Tasks.{is_over};
-ghost use Rattle.fam_mail.specs.World.{host_view};
+ghost use Rattle.fam_mail.specs.Calls.{CountEnds, FinishEnds, HostCounts, HostFinishes, HostNotes, HostStays, HostStepped, MailHostFits, IfMailStepped, MailSteps, MailWorldFits, left_in, notes_of_turn};
+ghost use Rattle.fam_mail.specs.Tasks.{ends_task};
+ghost use Rattle.fam_mail.specs.World.{mail_host};
 
 use super::MailWorld;
 use crate::hosts::{Host, running};
@@ -24,8 +24,8 @@ use fam_media::Media;
 /// Notes a turn of a host's task, for which there is room, and says whether the task is over.
 fn note_turn(journal: &mut Vec<MailNote>, name: &HostName, turn: Turn) -> bool
     requires room { vec_len journal.old + 2 ≤ vec_capacity journal.old }
-    ensures noted { journal.new.items ≡ journal.old.items ++ turn_notes name.now turn }
-    ensures over { result ≡ is_over turn }
+    ensures noted { journal.new.items ≡ journal.old.items ++ notes_of_turn name.now turn }
+    ensures over { result ≡ ends_task turn }
 {
     match turn {
         Turn::Go => false,
@@ -84,16 +84,16 @@ fn step_of<M: Media>(
     requires file { IsProperEntry entry.now }
     requires room { line_bytes * capacity_of entry.now.size < entry.now.size }
     requires within { (j : ℕ) → j ≤ capacity_of entry.now.size → file_line entry.now j < M.size media.old }
-    requires fits { HostFits (M.size media.old) (capacity_of entry.now.size) (host_view host.old) }
+    requires fits { MailHostFits (M.size media.old) (capacity_of entry.now.size) (mail_host host.old) }
     requires notes { vec_len journal.old + 2 ≤ vec_capacity journal.old }
 
-    ensures stepped { IfOk result (λ over. HostStepped entry.now name.now (host_view host.old) (change M.state media.old media.new)
-        over (host_view host.new) journal.old.items journal.new.items) }
-    ensures falls { IfOk result (λ over. over ≡ false → left_in (host_view host.new) < left_in (host_view host.old)) }
+    ensures stepped { IfOk result (λ over. HostStepped entry.now name.now (mail_host host.old) (change M.state media.old media.new)
+        over (mail_host host.new) journal.old.items journal.new.items) }
+    ensures falls { IfOk result (λ over. over ≡ false → left_in (mail_host host.new) < left_in (mail_host host.old)) }
     ensures on { IfOk result (λ over. over ≡ false → is_some host.new.task ≡ true) }
-    ensures fits { HostFits (M.size media.new) (capacity_of entry.now.size) (host_view host.new) }
+    ensures fits { MailHostFits (M.size media.new) (capacity_of entry.now.size) (mail_host host.new) }
     ensures undone { OnErr result (media.new ≡ media.old) }
-    ensures kept { OnErr result (host_view host.new ≡ host_view host.old) }
+    ensures kept { OnErr result (mail_host host.new ≡ mail_host host.old) }
     ensures quiet { OnErr result (journal.new.items ≡ journal.old.items) }
     ensures steady { IsSteady M.size M.state media.old media.new }
 {
@@ -130,13 +130,13 @@ fn finish_of<M: Media>(
     requires file { IsProperEntry entry.now }
     requires room { line_bytes * capacity_of entry.now.size < entry.now.size }
     requires within { (j : ℕ) → j ≤ capacity_of entry.now.size → file_line entry.now j < M.size media.old }
-    requires fits { HostFits (M.size media.old) (capacity_of entry.now.size) (host_view host.old) }
+    requires fits { MailHostFits (M.size media.old) (capacity_of entry.now.size) (mail_host host.old) }
 
-    ensures finished { OnOk result (HostFinishes (M.size media.old) entry.now name.now (host_view host.old) (change M.state media.old media.new)
-        (host_view host.new) journal.old.items journal.new.items) }
-    ensures stays { OnErr result (HostStays (M.size media.old) entry.now name.now (host_view host.old) (change M.state media.old media.new)
-        (host_view host.new) journal.old.items journal.new.items) }
-    ensures fits { HostFits (M.size media.new) (capacity_of entry.now.size) (host_view host.new) }
+    ensures finished { OnOk result (HostNotes (HostFinishes (M.size media.old) entry.now name.now (mail_host host.old)
+        (change M.state media.old media.new) (mail_host host.new)) journal.old.items journal.new.items) }
+    ensures stays { OnErr result (HostNotes (HostStays (M.size media.old) entry.now name.now (mail_host host.old)
+        (change M.state media.old media.new) (mail_host host.new)) journal.old.items journal.new.items) }
+    ensures fits { MailHostFits (M.size media.new) (capacity_of entry.now.size) (mail_host host.new) }
     ensures steady { IsSteady M.size M.state media.old media.new }
 {
     'operations: loop {
@@ -165,11 +165,11 @@ fn steps_of<M: Media>(
     requires file { IsProperEntry entry.now }
     requires room { line_bytes * capacity_of entry.now.size < entry.now.size }
     requires within { (j : ℕ) → j ≤ capacity_of entry.now.size → file_line entry.now j < M.size media.old }
-    requires fits { HostFits (M.size media.old) (capacity_of entry.now.size) (host_view host.old) }
+    requires fits { MailHostFits (M.size media.old) (capacity_of entry.now.size) (mail_host host.old) }
 
-    ensures counts { HostCounts count (M.size media.old) entry.now name.now (host_view host.old) (change M.state media.old media.new)
-        (host_view host.new) journal.old.items journal.new.items result }
-    ensures fits { HostFits (M.size media.new) (capacity_of entry.now.size) (host_view host.new) }
+    ensures counts { HostCounts count (M.size media.old) entry.now name.now (mail_host host.old) (change M.state media.old media.new)
+        (mail_host host.new) journal.old.items journal.new.items result }
+    ensures fits { MailHostFits (M.size media.new) (capacity_of entry.now.size) (mail_host host.new) }
     ensures steady { IsSteady M.size M.state media.old media.new }
 {
     for _done in 0..count {
@@ -191,10 +191,10 @@ impl MailWorld {
     ///
     /// On `OutOfMemory` nothing was done, and the step may be tried again.
     pub fn step<M: Media>(&mut self, media: &mut M, name: &HostName) -> Result<bool, MailFault>
-        requires fits { WorldFits (M.size media.old) self.old }
+        requires fits { MailWorldFits (M.size media.old) self.old }
 
-        ensures answered { IfStepped result (λ answered over. Steps name.now (change M.state media.old media.new) answered over self.old self.new) }
-        ensures fits { WorldFits (M.size media.new) self.new }
+        ensures answered { IfMailStepped result (λ answered over. MailSteps name.now (change M.state media.old media.new) answered over self.old self.new) }
+        ensures fits { MailWorldFits (M.size media.new) self.new }
         ensures undone { IsErrOf result MailFault.OutOfMemory → media.new ≡ media.old }
         ensures err { IsErrOf result MailFault.OutOfMemory → self.new ≡ self.old }
         ensures steady { IsSteady M.size M.state media.old media.new }
@@ -220,10 +220,10 @@ impl MailWorld {
         name: &HostName,
         count: u64,
     ) -> Result<bool, MailFault>
-        requires fits { WorldFits (M.size media.old) self.old }
+        requires fits { MailWorldFits (M.size media.old) self.old }
 
         ensures ends { CountEnds count (M.size media.old) name.now (change M.state media.old media.new) self.old self.new result }
-        ensures fits { WorldFits (M.size media.new) self.new }
+        ensures fits { MailWorldFits (M.size media.new) self.new }
         ensures steady { IsSteady M.size M.state media.old media.new }
     {
         if two_rooms(&mut self.journal).is_err() {
@@ -248,10 +248,10 @@ impl MailWorld {
     ///
     /// On `OutOfMemory` the operations before were done, and the task may be gone on with.
     pub fn finish<M: Media>(&mut self, media: &mut M, name: &HostName) -> Result<(), MailFault>
-        requires fits { WorldFits (M.size media.old) self.old }
+        requires fits { MailWorldFits (M.size media.old) self.old }
 
         ensures ends { FinishEnds (M.size media.old) name.now (change M.state media.old media.new) self.old self.new result }
-        ensures fits { WorldFits (M.size media.new) self.new }
+        ensures fits { MailWorldFits (M.size media.new) self.new }
         ensures steady { IsSteady M.size M.state media.old media.new }
     {
         if two_rooms(&mut self.journal).is_err() {

@@ -15,7 +15,8 @@ returns-then-is_some-clause-wrong g c = λ image told.
     let line : words ≡ line_at image (place (1 + c.loop-i.i)) =
     sym (eight_whole c.in-Ok-read.words long) ∙ c.in-Ok-read.ensures.words image (inv.same ∙ told) ∙ ap (line_at image) c.file_line-line.ensures.value in
     let some = some_word c.wrong_word.result (sym c.is_some.ensures ∙ c.if-is_some.true) in
-    one_wrong place (capacity_of c.args.entry.now.size) (line_at image) _ c.loop-i.i c.loop-i-test.true inv.room (inv.gate_is image told) words line (inv.front image told) some.0 (sym c.wrong_word.ensures ∙ some.1)
+    one_wrong place (capacity_of c.args.entry.now.size) (line_at image) _ c.loop-i.i c.loop-i-test.true inv.room (inv.gate_is image told) words line (inv.front image told) some.0
+    (sym c.wrong_word.ensures ∙ some.1)
 
 pub loop-i-preserved : goal.loop-i-preserved
 loop-i-preserved g c =
@@ -44,9 +45,11 @@ loop-i-preserved g c =
 pub returns-in-Err-read-clause-line : goal.returns-in-Err-read-clause-line
 returns-in-Err-read-clause-line g c =
     let inv = c.loop-i.invariant in
-    failed_record (file_line c.args.entry.now) (capacity_of c.args.entry.now.size) (g.M.Media.state c.args.media.now).image _ c.loop-i.i _ c.loop-i-test.true inv.room c.file_line-line.ensures.value inv.gate_is inv.right
+    failed_record (file_line c.args.entry.now) (capacity_of c.args.entry.now.size) (g.M.Media.state c.args.media.now).image _ c.loop-i.i _ c.loop-i-test.true inv.room
+    c.file_line-line.ensures.value inv.gate_is inv.right
 
 pub returns-clause-read : goal.returns-clause-read
 returns-clause-read g c = λ image told.
     let inv = c.loop-i.invariant in
-    all_right (file_line c.args.entry.now) (capacity_of c.args.entry.now.size) (line_at image) _ c.loop-i.i (omega (arith, c.loop-i-test.false)) inv.room (inv.gate_is image told) (inv.front image told)
+    all_right (file_line c.args.entry.now) (capacity_of c.args.entry.now.size) (line_at image) _ c.loop-i.i (omega (arith, c.loop-i-test.false)) inv.room (inv.gate_is image told)
+    (inv.front image told)

@@ -1,6 +1,6 @@
 use Rattle.std.proofs.Common.{length, refl, arith, None}
 use Rattle.std.proofs.lemmas.Option.{slice_get_read}
-use Rattle.fam_mail.specs.World.{HostView, host_view}
+use Rattle.fam_mail.specs.World.{MailHost, mail_host}
 use Rattle.fam_mail.proofs.Members.{map_set}
 use Rattle.fam_mail.proofs.hosts.end_task.Goals as goal
 
@@ -8,4 +8,4 @@ pub returns : goal.returns
 returns c =
     let items = c.args.hosts.now.items in
     let at_is = slice_get_read items (length items) c.args.at c.index_mut.result.now refl (omega (arith, c.requires.within)) c.index_mut.ensures.value in
-    record { views = map_set host_view (λ (v : HostView). record v { task = None }) items c.args.at _ c.index_mut.result.now at_is refl }
+    record { views = map_set mail_host (λ (v : MailHost). record v { task = None }) items c.args.at _ c.index_mut.result.now at_is refl }

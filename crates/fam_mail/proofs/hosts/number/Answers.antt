@@ -1,7 +1,7 @@
 use Rattle.std.proofs.Common.{◌∙◌, sym, refl, length, arith}
 use Rattle.std.proofs.lemmas.List.{length-map}
 use Rattle.std.proofs.lemmas.Option.{slice_get_read}
-use Rattle.fam_mail.specs.World.{host_view, is_named, views}
+use Rattle.fam_mail.specs.World.{mail_host, is_named, mail_hosts}
 use Rattle.fam_mail.proofs.Members.{map_at, place_here, place_next, place_past}
 use Rattle.fam_mail.proofs.hosts.number.Goals as goal
 
@@ -9,18 +9,20 @@ pub returns-then-is_named-clause-is : goal.returns-then-is_named-clause-is
 returns-then-is_named-clause-is c =
     let items = c.args.hosts.now.items in
     let at_is = slice_get_read items (length items) c.loop-at.at c.index.result.now refl (omega (arith, c.loop-at-test.true, c.len-at-end.ensures)) c.index.ensures in
-    sym (place_here (is_named c.args.name.now) (views items) c.loop-at.at c.loop-at.at _ (map_at host_view items c.loop-at.at c.index.result.now at_is) (sym c.is_named.ensures ∙ c.if-is_named.true))
+    sym (place_here (is_named c.args.name.now) (mail_hosts items) c.loop-at.at c.loop-at.at _ (map_at mail_host items c.loop-at.at c.index.result.now at_is)
+    (sym c.is_named.ensures ∙ c.if-is_named.true))
     ∙ c.loop-at.invariant
 
 pub loop-at-preserved : goal.loop-at-preserved
 loop-at-preserved c =
     let items = c.args.hosts.now.items in
     let at_is = slice_get_read items (length items) c.loop-at.at c.index.result.now refl (omega (arith, c.loop-at-test.true, c.len-at-end.ensures)) c.index.ensures in
-    sym (place_next (is_named c.args.name.now) (views items) c.loop-at.at c.loop-at.at _ (map_at host_view items c.loop-at.at c.index.result.now at_is) (sym c.is_named.ensures ∙ c.if-is_named.false))
+    sym (place_next (is_named c.args.name.now) (mail_hosts items) c.loop-at.at c.loop-at.at _ (map_at mail_host items c.loop-at.at c.index.result.now at_is)
+    (sym c.is_named.ensures ∙ c.if-is_named.false))
     ∙ c.loop-at.invariant
 
 pub returns-clause-is : goal.returns-clause-is
 returns-clause-is c =
     let items = c.args.hosts.now.items in
-    sym (place_past (is_named c.args.name.now) (views items) c.loop-at.at c.loop-at.at (omega (arith, c.loop-at-test.false, c.len-at-end.ensures, length-map items host_view)))
+    sym (place_past (is_named c.args.name.now) (mail_hosts items) c.loop-at.at c.loop-at.at (omega (arith, c.loop-at-test.false, c.len-at-end.ensures, length-map items mail_host)))
     ∙ c.loop-at.invariant

@@ -15,7 +15,8 @@ check_box-requires-clause-within g c = λ j below.
 pub returns-in-Err-check_box-clause-cause : goal.returns-in-Err-check_box-clause-cause
 returns-in-Err-check_box-clause-cause g c =
     subst (IsLookCaused (g.M.Media.size c.args.media.now) (change g.M.Media.state c.args.media.now c.check_box.new.media)) (sym c.box_fault.ensures)
-    (box_caused (g.M.Media.size c.args.media.now) (change g.M.Media.state c.args.media.now c.check_box.new.media) (g.M.Media.state c.find_file.new.media).faults (file_line c.in-Ok.entry) (capacity_of c.in-Ok.entry.size)
+    (box_caused (g.M.Media.size c.args.media.now) (change g.M.Media.state c.args.media.now c.check_box.new.media) (g.M.Media.state c.find_file.new.media).faults (file_line c.in-Ok.entry)
+    (capacity_of c.in-Ok.entry.size)
     (g.M.Media.state c.find_file.new.media).image c.in-Err-check_box.fault c.find_file.ensures.steady.later
     (lines_within (g.M.Media.size c.args.media.now) c.in-Ok.entry c.in-Ok.ensures.placed (omega (arith, c.if-entry-lt-LEAST_BOX.false)))
     c.in-Err-check_box.ensures.cause c.in-Err-check_box.ensures.line)

@@ -1,5 +1,5 @@
 use Rattle.std.proofs.Common.{ℕ, ◌+◌, List, option_map, take, drop, arith, ap, subst, sym, ◌∙◌}
-use Rattle.fam_mail_script.specs.Texts.{note_line, render}
+use Rattle.fam_mail_script.specs.Texts.{mail_note_line, mail_text}
 use Rattle.fam_media.specs.Outside.{with_piece}
 use Rattle.fam_media.specs.States.{change, SinkChange}
 use Rattle.fam_program.specs.Puts.{PutPart}
@@ -16,7 +16,8 @@ notes-preserved g c =
     let taken = text_taken c.args.notes.now c.notes.note-index c.note-item.result c.notes-test.true c.note-item.is in
     record {
       put =
-          whole_both (render (take c.notes.note-index c.args.notes.now)) (note_line c.note-item.result) (g.K.Sink.state c.args.out.now) (g.K.Sink.state c.notes.out) (g.K.Sink.state c.put_note.new.out) inv.later inv.put c.in-Ok.ensures.put
+          whole_both (mail_text (take c.notes.note-index c.args.notes.now)) (mail_note_line c.note-item.result) (g.K.Sink.state c.args.out.now) (g.K.Sink.state c.notes.out)
+          (g.K.Sink.state c.put_note.new.out) inv.later inv.put c.in-Ok.ensures.put
           ∙ ap (λ (t : List ℕ). option_map (with_piece t) (g.K.Sink.state c.args.out.now).bytes) (sym taken);
       later = let x = inv.later in let y = c.put_note.ensures.later in omega (arith, x, y);
     }
@@ -25,11 +26,12 @@ pub returns-in-Err-clause-part : goal.returns-in-Err-clause-part
 returns-in-Err-clause-part g c = λ e.
     let inv = c.notes.invariant in
     let s : SinkChange = change g.K.Sink.state c.args.out.now c.put_note.new.out in
-    let front : List ℕ = render (take (c.notes.note-index + 1) c.args.notes.now) in
+    let front : List ℕ = mail_text (take (c.notes.note-index + 1) c.args.notes.now) in
     let taken = text_taken c.args.notes.now c.notes.note-index c.note-item.result c.notes-test.true c.note-item.is in
-    let part = part_both (render (take c.notes.note-index c.args.notes.now)) (note_line c.note-item.result) (g.K.Sink.state c.args.out.now) (g.K.Sink.state c.notes.out) (g.K.Sink.state c.put_note.new.out) inv.later inv.put (c.in-Err.ensures.part e) in
+    let part = part_both (mail_text (take c.notes.note-index c.args.notes.now)) (mail_note_line c.note-item.result) (g.K.Sink.state c.args.out.now) (g.K.Sink.state c.notes.out)
+    (g.K.Sink.state c.put_note.new.out) inv.later inv.put (c.in-Err.ensures.part e) in
     subst (λ (t : List ℕ). PutPart t s) (sym (text_front c.args.notes.now (c.notes.note-index + 1)))
-    (part_longer front (render (drop (c.notes.note-index + 1) c.args.notes.now)) s (subst (λ (t : List ℕ). PutPart t s) (sym taken) part))
+    (part_longer front (mail_text (drop (c.notes.note-index + 1) c.args.notes.now)) s (subst (λ (t : List ℕ). PutPart t s) (sym taken) part))
 
 pub returns-in-Err-clause-some : goal.returns-in-Err-clause-some
 returns-in-Err-clause-some g c = λ e. (c.notes.note-index, ap (λ k. (g.K.Sink.state k).bytes) (c.in-Err.ensures.undone e) ∙ c.notes.invariant.put)

@@ -1,5 +1,5 @@
 use Rattle.std.proofs.Common.{◌≤◌}
-use Rattle.fam_mail_script.specs.Texts.{render}
+use Rattle.fam_mail_script.specs.Texts.{mail_text}
 use Rattle.fam_media.specs.States.{change}
 use Rattle.fam_program.specs.Puts.{PutWhole}
 use Rattle.fam_mailbox.proofs.Running.{Going}
@@ -8,6 +8,6 @@ use Rattle.fam_mailbox.proofs.run.run_mail.Given as goal
 abbrev pub invariant-events : goal.invariant-events
 invariant-events g l = record {
   going : Going g.M.Media.size g.M.Media.state l.entry l.events l.event-index l.fn.media l.media l.world;
-  put : PutWhole (render l.world.journal) (change g.K.Sink.state l.fn.out l.out);
+  put : PutWhole (mail_text l.world.journal) (change g.K.Sink.state l.fn.out l.out);
   later : (g.K.Sink.state l.fn.out).faults ≤ (g.K.Sink.state l.out).faults;
 }

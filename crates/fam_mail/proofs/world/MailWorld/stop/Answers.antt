@@ -1,7 +1,7 @@
 use Rattle.std.proofs.Common.{◌++◌, ◌∷◌, [], None, ap, ◌∙◌}
 use Rattle.std.specs.FinMap as finmap
-use Rattle.fam_mail.specs.Calls.{idle_refusal}
-use Rattle.fam_mail.specs.World.{HostView, MailView, mail_view, views}
+use Rattle.fam_mail.specs.Calls.{no_task_refusal}
+use Rattle.fam_mail.specs.World.{MailHost, MailView, mail_view, mail_hosts}
 use Rattle.fam_mail.specs.declared.note.MailNote.{MailNote}
 use Rattle.fam_mail.specs.declared.note.MailNote.TheVariants as note
 use Rattle.fam_mail.proofs.Calling.{changed_call}
@@ -13,5 +13,6 @@ returns-in-Ok-clause-answered c =
     let v : MailView = mail_view i.entry i.hosts.items i.journal.items in
     let new : MailView = mail_view i.entry c.end_task.new.hosts.items c.add.new.journal.items in
     rw (← c.self.view_is)
-    (changed_call c.args.name.now idle_refusal (λ (h : HostView). record h { task = None }) (note.Stop c.args.name.now) v c.in-Ok.at (c.in-Ok.ensures.placed i.entry i.journal.items) (views c.end_task.new.hosts.items) c.add.new.journal.items
+    (changed_call c.args.name.now no_task_refusal (λ (h : MailHost). record h { task = None }) (note.Stop c.args.name.now) v c.in-Ok.at (c.in-Ok.ensures.placed i.entry i.journal.items)
+    (mail_hosts c.end_task.new.hosts.items) c.add.new.journal.items
     c.end_task.ensures.views (c.add.ensures.noted ∙ ap (λ (notes : Rattle.std.specs.Prelude.List MailNote). notes ++ note.Stop c.args.name.now ∷ []) c.make_room.ensures.same))

@@ -5,8 +5,8 @@ use Rattle.fam_media.specs.States.{MediaChange, change}
 use Rattle.fam_mail.specs.declared.event.MailEvent.TheVariants as event
 use Rattle.fam_mail.specs.declared.note.MailFault.{MailFault}
 use Rattle.fam_mail.specs.declared.note.MailFault.TheVariants as fault
-use Rattle.fam_mail.specs.Calls.{Begins, IfAnswered}
-use Rattle.fam_mail.specs.Happens.{EventSays}
+use Rattle.fam_mail.specs.Calls.{MailBegins, IfMailAnswered}
+use Rattle.fam_mail.specs.Happens.{MailEventSays}
 use Rattle.fam_mail.proofs.EventRows.{run_begun, run_refused, run_undone}
 use Rattle.fam_mail.proofs.Fitting.{begins_fits}
 use Rattle.fam_mail.proofs.world.events.run.Goals as goal
@@ -19,15 +19,17 @@ finish-requires g c = record {
 pub returns-in-Ok-clause-says : goal.returns-in-Ok-clause-says
 returns-in-Ok-clause-says g c =
     let told : MediaChange = change g.M.Media.state c.args.media.now c.finish.new.media in
-    let begins = subst (λ (r : Result (Unit {0}) MailFault). IfAnswered r (λ answered. Begins c.args.name.now c.args.ask.now answered c.args.world.now c.begin.new.self)) c.in-Ok.is c.begin.ensures.answered in
-    subst (λ (r : Result (Unit {0}) OutOfMemory). EventSays (event.Run c.args.name.now c.args.ask.now) told c.args.world.now c.finish.new.self r) (sym c.noted.ensures)
+    let begins = subst (λ (r : Result (Unit {0}) MailFault). IfMailAnswered r (λ answered. MailBegins c.args.name.now c.args.ask.now answered c.args.world.now c.begin.new.self)) c.in-Ok.is
+    c.begin.ensures.answered in
+    subst (λ (r : Result (Unit {0}) OutOfMemory). MailEventSays (event.Run c.args.name.now c.args.ask.now) told c.args.world.now c.finish.new.self r) (sym c.noted.ensures)
     (run_begun (g.M.Media.size c.args.media.now) c.args.name.now c.args.ask.now told c.args.world.now c.begin.new.self c.finish.new.self begins.1 begins.0 c.finish.result c.finish.ensures.ends)
 
 pub returns-in-Err-Refused-clause-says : goal.returns-in-Err-Refused-clause-says
 returns-in-Err-Refused-clause-says g c =
     let told : MediaChange = change g.M.Media.state c.args.media.now c.args.media.now in
     let is : c.begin.result ≡ Err (fault.Refused c.in-Err-Refused.field-0-0) = c.in-Err-Refused.is ∙ ap (λ (f : MailFault). Err f) c.in-Err-Refused.field-0-is in
-    let begins = subst (λ (r : Result (Unit {0}) MailFault). IfAnswered r (λ answered. Begins c.args.name.now c.args.ask.now answered c.args.world.now c.begin.new.self)) is c.begin.ensures.answered in
+    let begins = subst (λ (r : Result (Unit {0}) MailFault). IfMailAnswered r (λ answered. MailBegins c.args.name.now c.args.ask.now answered c.args.world.now c.begin.new.self)) is
+    c.begin.ensures.answered in
     run_refused c.args.name.now c.args.ask.now told c.args.world.now c.begin.new.self refl c.in-Err-Refused.field-0-0 begins
 
 pub returns-in-Err-OutOfMemory-clause-says : goal.returns-in-Err-OutOfMemory-clause-says

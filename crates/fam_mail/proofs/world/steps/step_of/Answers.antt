@@ -7,7 +7,7 @@ returns-in-Err-MediaFault-clause-stepped g c =
     let broken = rw c.in-Err-MediaFault.field-0-is at c.in-Err-MediaFault.ensures.operated in
     record {
       notes = note.MediaFault c.args.name.now c.in-Err-MediaFault.line ∷ [];
-      operates = record {
+      does = record {
         task = c.in-Some.task;
         task_is = c.in-Some.is;
         how = inr (record { line = c.in-Err-MediaFault.line; failed = broken.failed; rose = broken.rose; over_is = refl; next_is = refl; notes_are = refl });
