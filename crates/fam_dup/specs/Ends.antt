@@ -152,8 +152,8 @@ IsToStep (fault.FromFault line) put = ⊥
 IsToStep (fault.ToFault line) put = put.0 ≡ line.0
 IsToStep fault.OutOfMemory put = ⊥
 
--- or FROM failed at a line of an entry's file, of which the copy's next lines were to be put: this one, or one before it in the
--- same run
+-- or FROM failed at a line of an entry's file, of which the copy's next lines were to be put: this one, or one of
+-- the few before it that one run may have
 pub record IsLineAhead (e c : Entry) (line at : ℕ) : Type 0 where
   pub next : ℕ
   pub ahead : ℕ

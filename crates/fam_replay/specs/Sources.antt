@@ -86,10 +86,11 @@ pub record IsOfSlots (lines : Lines) (p : Params) (count at : ℕ) : Type 0 wher
   pub sound : read_slots lines p 0 slot [] ≡ Sound p before
   pub line : IsOfSlot p slot at
 
--- a line of the log with these parameters: of its head, or of a slot below the gate that is reached
+-- a line of the log with these parameters: of its head, or of a slot below what the gate's line says, behind slots that all read.
+-- That a reading with a bad header, or with a gate above the slots, ends before them isn't asked here
 abbrev pub IsOfLog : Lines → Params → ℕ → Type 0
 IsOfLog lines p at = IsOfHead lines p at ⊎ IsOfSlots lines p (gate_in lines) at
 
--- a line that a reading asks for, where all before it read: of the superblock, or of the log behind one that reads
+-- a line that a reading may ask for: of the superblock, or of the log behind one that reads
 abbrev pub IsAskedFor : Lines → ℕ → ℕ → Type 0
 IsAskedFor lines have at = IsOfSuper lines at ⊎ ((p : Params) × (super_in lines have ≡ Ok p) × IsOfLog lines p at)

@@ -3,7 +3,7 @@ use Rattle.std.specs.Prelude.{Bool, true, false}
 use Rattle.fam_tasks.specs.declared.answer.Answer.{Answer}
 use Rattle.fam_tasks.specs.declared.answer.Answer.TheVariants as answer
 
--- a mount, and a logplay where the host keeps something
+-- that of a mount or of a logplay; a task whose host keeps nothing has nothing kept behind a logplay
 abbrev pub is_keeping : Answer → Bool
 is_keeping (answer.Ok seq) = false
 is_keeping (answer.Played m tree) = true

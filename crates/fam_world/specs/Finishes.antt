@@ -16,8 +16,8 @@ pub record RanTo (at count : ℕ) (start : Image) (state : Machines) (notes : Li
   pub held : Held start left b.world left.memory
   pub told_is : b.media.image ≡ Some left.memory
 
--- so many operations of host `at` led from the one to the other: they tell no refusal, have at most a note each, and the task is
--- over behind them, or runs on
+-- so many operations of host `at` led from the one to the other: where the world has its shape they have at most a note each,
+-- none of them a refusal, and the task is over behind them, or runs on
 pub record SoFar (at lines count : ℕ) (over : Bool) (a b : WorldStanding) : Type 0 where
   pub adds : Adds lines a.media.faults b.media.faults a.world b.world
   pub said : None ≡ refusal_noted adds.notes

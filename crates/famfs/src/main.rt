@@ -2,10 +2,8 @@
 //! to it.
 #![tactic(auto)]
 
-mod std_sink;
-
 use fam_base::{NameText, OutOfMemory};
-use fam_files::{FileMedia, FileShelf, FolderShade, open_to_read, open_to_write};
+use fam_files::{FileMedia, FileShelf, FolderShade, StdSink, open_to_read, open_to_write};
 use fam_outcomes::Status;
 use fam_top::{dup_of, famfs, famfs_dup, famfs_mail, famfs_shadow, image_of, mail_of, shadow_of};
 use std::env;
@@ -13,7 +11,6 @@ use std::fs::File;
 use std::io::ErrorKind;
 use std::os::unix::fs::FileExt;
 use std::process::ExitCode;
-use std_sink::StdSink;
 use uuid::Uuid;
 
 /// The UUID of this host where no word names another: 00000000-0000-0000-0000-000000000001.
