@@ -4,12 +4,12 @@ use Rattle.std.proofs.lemmas.Bool.{cases_lt, cond-true, cond-false, lt-ltb, le-l
 use Rattle.fam_alloc.specs.declared.bits.TheConstants.{MOST_UNITS}
 use Rattle.fam_alloc.specs.Taken.{units_by}
 use Rattle.fam_alloc.specs.FreeRuns.{free_runs}
-use Rattle.fam_alloc.specs.Runs.{outside, AreSpaced, NoneEmpty, behind, IsMap}
+use Rattle.fam_alloc.specs.Runs.{outside, AreSpaced, NoneEmpty, run_after, IsMap}
 use Rattle.fam_alloc.proofs.ViewLemmas.{new_counted}
 use Rattle.fam_alloc.proofs.SpacedLemmas.{before_run, within_run}
 use Rattle.fam_alloc.proofs.FreeRunsLemmas.{free_runs_are}
 
-module _ (rs : List (ℕ × ℕ)) (units used : ℕ) (within : used ≤ units) (is : rs ≡ behind used units) where
+module _ (rs : List (ℕ × ℕ)) (units used : ℕ) (within : used ≤ units) (is : rs ≡ run_after used units) where
   -- a unit is free exactly if it isn't one of the first
   pub outside_behind : (u : ℕ) → u < units → outside rs u ≡ ltb u used
   outside_behind u below = ap (λ (xs : List (ℕ × ℕ)). outside xs u) is ∙ elim (cases_lt used units) [

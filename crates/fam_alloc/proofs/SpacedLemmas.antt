@@ -6,7 +6,7 @@ use Rattle.std.proofs.lemmas.Option.{none-some, same_Some}
 use Rattle.std.specs.BTreeMap.{is_at}
 use Rattle.std.specs.List.{AllByRecursion}
 use Rattle.fam_alloc.specs.Next.{is_between, IsNext}
-use Rattle.fam_alloc.specs.Runs.{in_runs, outside, AreSpaced, IsHeld, run_from}
+use Rattle.fam_alloc.specs.Runs.{in_runs, outside, AreSpaced, IsInRun, run_from}
 
 -- how two numbers compare
 pub cmp_less : (a b : ℕ) → a < b → nat_cmp a b ≡ Less
@@ -200,7 +200,7 @@ ends_wider [] s u h all = tt
 ends_wider (r ∷ rs) s u h all = ((λ below. omega (arith, all.0 below)), ends_wider rs s u h all.1)
 
 -- from a unit on, the first that stands in no run: behind the run that holds the unit
-pub next_held : (units : ℕ) (rs : List (ℕ × ℕ)) (from to start end next : ℕ) → AreSpaced 0 units rs → IsHeld rs from start end → from ≤ to → next ≡ min (max end from) to → IsNext (outside rs) true from to next
+pub next_held : (units : ℕ) (rs : List (ℕ × ℕ)) (from to start end next : ℕ) → AreSpaced 0 units rs → IsInRun rs from start end → from ≤ to → next ≡ min (max end from) to → IsNext (outside rs) true from to next
 next_held units rs from to start end next p held order e = record {
   low = omega arith;
   high = omega arith;

@@ -6,7 +6,7 @@ use Rattle.fam_base.specs.ExtentLists.{no_extent}
 use Rattle.fam_format.specs.Units.{units_in, first_overlap}
 use Rattle.fam_alloc.specs.Next.{is_between}
 use Rattle.fam_alloc.specs.Taken.{holds}
-use Rattle.fam_alloc.specs.Runs.{in_runs, outside, AreSpaced, IsHeld, is_empty_at, with_rest, without_rest, with_length, settled}
+use Rattle.fam_alloc.specs.Runs.{in_runs, outside, AreSpaced, IsInRun, is_empty_at, with_rest, without_rest, with_length, settled}
 use Rattle.fam_alloc.proofs.OverlapLemmas.{or_assoc, or_false, holds-append, holds-range, units_at, units_rest, overlap_same, overlap_passed}
 use Rattle.fam_alloc.proofs.SpacedLemmas.{in_run}
 use Rattle.fam_alloc.proofs.CutLemmas.{cut, opened_is, closed_is, cut_spaced, cut_length, cut_in}
@@ -17,7 +17,7 @@ none_behind : (unit : ℕ) (xs : List Extent) (i : ℕ) → length xs ≤ i → 
 none_behind unit xs i past = ap (units_in unit) (drop_of_length-le xs past)
 
 -- the extent at i, with the units from a up to b, and the run from s up to e that holds them
-module _ (units unit : ℕ) (xs : List Extent) (i : ℕ) (rs : List (ℕ × ℕ)) (a b s e : ℕ) (below : i < length xs) (first : a ≡ (get_or xs i no_extent).offset / unit) (last : b ≡ a + (get_or xs i no_extent).length / unit) (some : a < b) (p : AreSpaced 0 units rs) (held : IsHeld rs a s e) (ends_inside : b ≤ e) where
+module _ (units unit : ℕ) (xs : List Extent) (i : ℕ) (rs : List (ℕ × ℕ)) (a b s e : ℕ) (below : i < length xs) (first : a ≡ (get_or xs i no_extent).offset / unit) (last : b ≡ a + (get_or xs i no_extent).length / unit) (some : a < b) (p : AreSpaced 0 units rs) (held : IsInRun rs a s e) (ends_inside : b ≤ e) where
   -- the units of the extent
   at_extent : (u : ℕ) → holds (units_at unit xs i) u ≡ is_between a b u
   at_extent u = rw (last, first) (holds-range _ _ u)

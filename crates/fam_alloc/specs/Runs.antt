@@ -35,7 +35,7 @@ abbrev pub run_from : List (ℕ × ℕ) → ℕ → Option ℕ
 run_from runs s = lookup (is_at (nat_cmp s)) runs
 
 -- the run from `start` up to `end` is one of them, and u stands in it or in none
-pub record IsHeld (runs : List (ℕ × ℕ)) (u start end : ℕ) : Type 0 where
+pub record IsInRun (runs : List (ℕ × ℕ)) (u start end : ℕ) : Type 0 where
   pub low : start ≤ u
   pub order : start ≤ end
   pub stands : run_from runs start ≡ Some (end - start)
@@ -43,7 +43,7 @@ pub record IsHeld (runs : List (ℕ × ℕ)) (u start end : ℕ) : Type 0 where
 
 -- the last run that starts at u or below it
 abbrev pub IsLast : List (ℕ × ℕ) → ℕ → Option Run → Type 0
-IsLast runs u (Some run) = IsHeld runs u run.start run.end
+IsLast runs u (Some run) = IsInRun runs u run.start run.end
 IsLast runs u None = (v : ℕ) → v ≤ u → in_runs runs v ≡ false
 
 -- with a run from `end` up to `past`, where that has units
@@ -63,8 +63,8 @@ abbrev pub settled : List (ℕ × ℕ) → ℕ → ℕ → List (ℕ × ℕ)
 settled runs start first = if start == first then remove_entry (is_at (nat_cmp start)) runs else runs
 
 -- the run from `start` on to the end of so many units, where it has units
-abbrev pub behind : ℕ → ℕ → List (ℕ × ℕ)
-behind start units = if nat_lt start units then (start, units - start) ∷ [] else []
+abbrev pub run_after : ℕ → ℕ → List (ℕ × ℕ)
+run_after start units = if nat_lt start units then (start, units - start) ∷ [] else []
 
 -- how the fields of an `AllocMap` hang together
 pub record IsMap (runs : List (ℕ × ℕ)) (units used : ℕ) : Type 0 where

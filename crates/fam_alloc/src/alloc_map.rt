@@ -9,7 +9,7 @@ ghost use Rattle.std.specs.Prelude.{◌≡◌, ℕ, None, ◌+◌, ◌<◌, ◌�
 ghost use Rattle.fam_format.specs.Units.{units_in, first_overlap};
 ghost use Rattle.fam_rules.specs.Room.{room, strips};
 ghost use Rattle.fam_alloc.specs.FreeRuns.{free_runs};
-ghost use Rattle.fam_alloc.specs.Runs.{behind};
+ghost use Rattle.fam_alloc.specs.Runs.{run_after};
 ghost use Rattle.fam_alloc.specs.Taken.{is_taken, taken_units, holds, LieWithin};
 ghost use Rattle.fam_alloc.specs.TakeFaults.{NamesOverlap};
 
@@ -67,7 +67,7 @@ impl Occupied for AllocMap {
 /// The one free run of a device of so many units of which the first `used` are used, if there is one.
 fn one_run(alloc: Global, units: u64, used: u64) -> Result<BTreeMap<u64, u64>, OutOfMemory>
     requires { used ≤ units }
-    ensures { IfOk result (λ runs. runs.entries ≡ behind used units) }
+    ensures { IfOk result (λ runs. runs.entries ≡ run_after used units) }
 {
     let mut runs = BTreeMap::new(alloc);
     if used == units {

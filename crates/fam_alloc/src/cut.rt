@@ -6,7 +6,7 @@
 
 ghost use Rattle.std.specs.Prelude.{◌≡◌, ℕ, None, ◌+◌, ◌-◌, ◌<◌, ◌≤◌, ◌||◌, length, drop, IfOk, OnOk, OnErr};
 ghost use Rattle.fam_format.specs.Units.{units_in, first_overlap};
-ghost use Rattle.fam_alloc.specs.Runs.{outside, AreSpaced, IsHeld, is_empty_at, with_length, with_rest, without_rest, settled};
+ghost use Rattle.fam_alloc.specs.Runs.{outside, AreSpaced, IsInRun, is_empty_at, with_length, with_rest, without_rest, settled};
 ghost use Rattle.fam_alloc.specs.Taken.{LieWithin, holds};
 
 use crate::bits::MOST_UNITS;
@@ -111,7 +111,7 @@ fn take_run(runs: &mut BTreeMap<u64, u64>, held: Run, run: Run) -> Result<(), No
 fn holder(runs: &BTreeMap<u64, u64>, units: u64, run: Run) -> Result<Run, NotTaken>
     requires spaced { AreSpaced 0 units runs.now.entries }
     requires few { units ≤ MOST_UNITS }
-    ensures held { IfOk result (λ held. IsHeld runs.now.entries run.start held.start held.end) }
+    ensures held { IfOk result (λ held. IsInRun runs.now.entries run.start held.start held.end) }
     ensures whole { IfOk result (λ held. run.end ≤ held.end) }
 {
     match last_run(runs, units, run.start) {

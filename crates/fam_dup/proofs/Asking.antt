@@ -5,11 +5,11 @@ use Rattle.fam_base.specs.Image.{Image}
 use Rattle.fam_dup.specs.declared.fault.DupFault.{DupFault}
 use Rattle.fam_dup.specs.declared.fault.DupFault.TheVariants as fault
 use Rattle.fam_dup.specs.Ends.{FailsFromAt, FailsToAt, IsAskedIn, IsCausedByFrom, IsCausedByTo, IsCutStep, IsOwn, IsReadAt, from_counted, to_counted}
-use Rattle.fam_dup.specs.Findings.{FailsFrom, FailsTo, FaultClass, Refuses, WantsMemory, class_of}
+use Rattle.fam_dup.specs.Findings.{FailsFrom, FailsTo, FaultClass, Refuses, WantsMemory, fault_class}
 
 module _ (from old : Image) (new : Option Image) (p : Params) (force : Bool) where
   -- FROM alone was asked
-  pub asked_from : (f : DupFault) (a b : ℕ) → new ≡ Some old → IsCausedByFrom a b (class_of f) → FailsFromAt (IsReadAt from) f → IsAskedIn from old new p force f
+  pub asked_from : (f : DupFault) (a b : ℕ) → new ≡ Some old → IsCausedByFrom a b (fault_class f) → FailsFromAt (IsReadAt from) f → IsAskedIn from old new p force f
   asked_from (fault.ImageSmall lines) a b same cause at = tt
   asked_from (fault.NoSuper word) a b same cause at = tt
   asked_from (fault.BadSuper field found wanted) a b same cause at = tt
@@ -23,7 +23,7 @@ module _ (from old : Image) (new : Option Image) (p : Params) (force : Bool) whe
   asked_from fault.OutOfMemory a b same cause at = tt
 
   -- TO alone was, before anything was written
-  pub asked_to : (f : DupFault) (a b : ℕ) → new ≡ Some old → IsCausedByTo a b (class_of f) → FailsToAt (λ at. (force ≡ false) × (at < 3)) f → IsAskedIn from old new p force f
+  pub asked_to : (f : DupFault) (a b : ℕ) → new ≡ Some old → IsCausedByTo a b (fault_class f) → FailsToAt (λ at. (force ≡ false) × (at < 3)) f → IsAskedIn from old new p force f
   asked_to (fault.ImageSmall lines) a b same cause at = tt
   asked_to (fault.NoSuper word) a b same cause at = tt
   asked_to (fault.BadSuper field found wanted) a b same cause at = tt
@@ -37,7 +37,7 @@ module _ (from old : Image) (new : Option Image) (p : Params) (force : Bool) whe
   asked_to fault.OutOfMemory a b same cause at = tt
 
   -- none was
-  pub asked_none : (f : DupFault) → IsOwn (class_of f) → IsAskedIn from old new p force f
+  pub asked_none : (f : DupFault) → IsOwn (fault_class f) → IsAskedIn from old new p force f
   asked_none (fault.ImageSmall lines) own = tt
   asked_none (fault.NoSuper word) own = tt
   asked_none (fault.BadSuper field found wanted) own = tt
@@ -51,7 +51,7 @@ module _ (from old : Image) (new : Option Image) (p : Params) (force : Bool) whe
   asked_none fault.OutOfMemory own = tt
 
   -- nor for want of memory
-  pub asked_memory : (f : DupFault) → class_of f ≡ WantsMemory → IsAskedIn from old new p force f
+  pub asked_memory : (f : DupFault) → fault_class f ≡ WantsMemory → IsAskedIn from old new p force f
   asked_memory (fault.ImageSmall lines) is = tt
   asked_memory (fault.NoSuper word) is = tt
   asked_memory (fault.BadSuper field found wanted) is = tt

@@ -15,7 +15,7 @@ use Rattle.fam_rules.proofs.CutPuts.{IsPutInPart, Left, cut_left}
 use Rattle.fam_rules.proofs.Puts.{AreElsewhere, elsewhere-left, elsewhere-right, put_elsewhere}
 use Rattle.fam_dup.specs.Copies.{AreCopies}
 use Rattle.fam_dup.specs.Ends.{IsCopied, IsOldOrNone}
-use Rattle.fam_dup.specs.Lines.{AreCut, IsOffCopy, IsPartlyPut, body_puts, copy_puts}
+use Rattle.fam_dup.specs.Lines.{LinesPartlyPut, IsOffCopy, IsPartlyPut, body_puts, copy_puts}
 use Rattle.fam_dup.proofs.Whole.{body_off, enough, off_all, whole_copy}
 
 module _ (q : Params) (es cs : List Entry) (from to : Image) (sound : SoundParams q) (fits : q.device ≤ line_bytes * length to) (history : IsHistory (record { params = q; entries = cs })) (copies : AreCopies es cs) where
@@ -34,7 +34,7 @@ module _ (q : Params) (es cs : List Entry) (from to : Image) (sound : SoundParam
   by_left new (inr (inr made)) =
       inr (subst (λ (i : Image). IsCopied from to i q es cs) (sym made) (whole_copy q es cs from to sound fits history copies))
 
-  pub cut_reads : (new : Image) → AreCut (copy_puts (line_at from) q es cs) (Some to) (Some new) → IsOldOrNone (reading to) (reading new) ⊎ IsCopied from to new q es cs
+  pub cut_reads : (new : Image) → LinesPartlyPut (copy_puts (line_at from) q es cs) (Some to) (Some new) → IsOldOrNone (reading to) (reading new) ⊎ IsCopied from to new q es cs
   cut_reads new cut =
       by_left new
       (cut_left (body_puts (line_at from) q es cs) to some (body_off q es cs from to sound fits history copies) cut.done cut.put cut.rest new cut.parts
@@ -48,7 +48,7 @@ module _ (q : Params) (es cs : List Entry) (from to : Image) (sound : SoundParam
       ∙ line_at-with_line_other before put.0 (masked torn.mask put.1 (line_at before put.0)) l other
 
   -- lines that hold no part of the copy are as before
-  pub cut_others : (new : Image) → AreCut (copy_puts (line_at from) q es cs) (Some to) (Some new) → (l : ℕ) → IsOffCopy q cs l → line_at new l ≡ line_at to l
+  pub cut_others : (new : Image) → LinesPartlyPut (copy_puts (line_at from) q es cs) (Some to) (Some new) → (l : ℕ) → IsOffCopy q cs l → line_at new l ≡ line_at to l
   cut_others new cut l away =
       let all : AreElsewhere l (cut.done ++ cut.put ∷ cut.rest) = subst (AreElsewhere l) cut.parts (off_all q es cs from to sound fits history copies l away) in
       part_others cut.put (put_lines cut.done to) new l (elsewhere-right l cut.done (cut.put ∷ cut.rest) all).0 cut.cut
@@ -59,5 +59,5 @@ part_some put before new (inl same) = (before, same)
 part_some put before new (inr torn) = (with_masked put.0 put.1 torn.mask before, torn.written)
 
 -- a modelled image is modelled behind a cut
-pub cut_some : (puts : List Put) (to : Image) (new : Option Image) → AreCut puts (Some to) new → (after : Image) × (new ≡ Some after)
+pub cut_some : (puts : List Put) (to : Image) (new : Option Image) → LinesPartlyPut puts (Some to) new → (after : Image) × (new ≡ Some after)
 cut_some puts to new cut = part_some cut.put (put_lines cut.done to) new cut.cut

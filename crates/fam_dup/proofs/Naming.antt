@@ -10,7 +10,7 @@ use Rattle.fam_dup.specs.declared.fault.DupFault.{DupFault}
 use Rattle.fam_dup.specs.declared.fault.DupFault.TheVariants as fault
 use Rattle.fam_dup.specs.declared.files.TheConstants.{RUN_LINES}
 use Rattle.fam_dup.specs.Ends.{FailsFromAt, IsCausedByFrom, IsFileStep, IsOwn, NamesLine, from_counted, of_read}
-use Rattle.fam_dup.specs.Findings.{FailsFrom, Finding, Names, WantsMemory, class_of, from_or}
+use Rattle.fam_dup.specs.Findings.{FailsFrom, Finding, Names, WantsMemory, fault_class, from_or}
 use Rattle.fam_dup.specs.Runs.{AreBelow}
 
 -- FROM alone was asked
@@ -42,7 +42,7 @@ to_names from to (fault.ToFault line) names = names
 to_names from to fault.OutOfMemory names = tt
 
 -- none was
-pub own_names : (from to : ℕ) (f : DupFault) → IsOwn (class_of f) → NamesLine from to f
+pub own_names : (from to : ℕ) (f : DupFault) → IsOwn (fault_class f) → NamesLine from to f
 own_names from to (fault.ImageSmall lines) names = tt
 own_names from to (fault.NoSuper word) names = tt
 own_names from to (fault.BadSuper field found wanted) names = tt
@@ -56,7 +56,7 @@ own_names from to (fault.ToFault line) names = absurd names
 own_names from to fault.OutOfMemory names = tt
 
 -- nor for want of memory
-pub memory_names : (from to : ℕ) (f : DupFault) → class_of f ≡ WantsMemory → NamesLine from to f
+pub memory_names : (from to : ℕ) (f : DupFault) → fault_class f ≡ WantsMemory → NamesLine from to f
 memory_names from to (fault.ImageSmall lines) names = tt
 memory_names from to (fault.NoSuper word) names = tt
 memory_names from to (fault.BadSuper field found wanted) names = tt
@@ -94,7 +94,7 @@ read_among P Q more read.OutOfMemory fails = tt
 
 -- Of an entry's file, where lines are read from one on, and nothing of them was put.
 
-pub file_step : (e c : Entry) (words : List ℕ) (j n : ℕ) → AreBelow e j n → n ≤ RUN_LINES → (f : DupFault) → class_of f ≡ FailsFrom
+pub file_step : (e c : Entry) (words : List ℕ) (j n : ℕ) → AreBelow e j n → n ≤ RUN_LINES → (f : DupFault) → fault_class f ≡ FailsFrom
     → FailsFromAt (λ at. (ahead : ℕ) × (ahead < n) × (at ≡ file_line e (j + ahead))) f → IsFileStep e c f (file_line c j, words)
 file_step e c words j n below few (fault.ImageSmall lines) is fails = absurd (cc)
 file_step e c words j n below few (fault.NoSuper word) is fails = absurd (cc)
@@ -110,7 +110,7 @@ file_step e c words j n below few fault.OutOfMemory is fails = absurd (cc)
 
 -- A fault of FROM's log.
 
-pub read_names : (f : ReadFault) (r : Reading) (rest : List Entry → Finding) → Tells f r → Names (class_of (of_read f)) (from_or r rest)
+pub read_names : (f : ReadFault) (r : Reading) (rest : List Entry → Finding) → Tells f r → Names (fault_class (of_read f)) (from_or r rest)
 read_names (read.NoSuper word) r rest tells = ap (λ (q : Reading). from_or q rest) tells
 read_names (read.BadSuper field found wanted) r rest tells = ap (λ (q : Reading). from_or q rest) tells
 read_names (read.BadLog field found wanted) r rest tells = ap (λ (q : Reading). from_or q rest) tells
@@ -118,7 +118,7 @@ read_names (read.BadEntry seq reason) r rest tells = ap (λ (q : Reading). from_
 read_names (read.MediaFault line) r rest tells = tt
 read_names read.OutOfMemory r rest tells = tt
 
-pub read_caused : (before now : ℕ) (f : ReadFault) → IsReadCaused before now f → IsCausedByFrom before now (class_of (of_read f))
+pub read_caused : (before now : ℕ) (f : ReadFault) → IsReadCaused before now f → IsCausedByFrom before now (fault_class (of_read f))
 read_caused before now (read.NoSuper word) cause = tt
 read_caused before now (read.BadSuper field found wanted) cause = tt
 read_caused before now (read.BadLog field found wanted) cause = tt
@@ -126,7 +126,7 @@ read_caused before now (read.BadEntry seq reason) cause = tt
 read_caused before now (read.MediaFault line) cause = cause
 read_caused before now read.OutOfMemory cause = tt
 
-pub read_counts : (before now : ℕ) (f : ReadFault) → IsCounted before now f → now ≡ from_counted (class_of (of_read f)) before
+pub read_counts : (before now : ℕ) (f : ReadFault) → IsCounted before now f → now ≡ from_counted (fault_class (of_read f)) before
 read_counts before now (read.NoSuper word) count = count
 read_counts before now (read.BadSuper field found wanted) count = count
 read_counts before now (read.BadLog field found wanted) count = count

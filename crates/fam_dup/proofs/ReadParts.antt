@@ -13,7 +13,7 @@ use Rattle.fam_rules.specs.Content.{byte_in, file_words}
 use Rattle.fam_rules.specs.Place.{line_bytes}
 use Rattle.fam_rules.specs.Written.{file_line}
 use Rattle.fam_dup.specs.Lines.{bytes_in}
-use Rattle.fam_dup.specs.Runs.{AreBelow, AreParts, AreTogether}
+use Rattle.fam_dup.specs.Runs.{AreBelow, HoldFileParts, AreTogether}
 use Rattle.fam_dup.proofs.Parts.{part_words}
 use Rattle.fam_dup.proofs.Heads.{eight_word}
 
@@ -35,7 +35,7 @@ module _ (image : Image) (p : Params) (e : Entry) (j first : ℕ) (mid new : Lis
       (counts i inside) (λ w. fits i w inside)
       (λ b small. each b small ∙ ap (λ (n : ℕ). if nat_lt b (e.size - 64 * (j + i)) then n else 0) (sym (eight_byte (line_in mid i) b small)))
 
-  pub parts_read : AreParts (bytes_in (line_at image) e) j new
+  pub parts_read : HoldFileParts (bytes_in (line_at image) e) j new
   parts_read i inside =
       elim (cases_lt i (length mid - 1)) [
         | inl before ↦

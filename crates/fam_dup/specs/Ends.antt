@@ -16,8 +16,8 @@ use Rattle.fam_replay.specs.declared.fault.ReadFault.TheVariants as read
 use Rattle.fam_rules.specs.Place.{line_bytes}
 use Rattle.fam_rules.specs.Written.{Put, file_line, put_lines}
 use Rattle.fam_dup.specs.Copies.{AreCopies}
-use Rattle.fam_dup.specs.Findings.{Copies, FailsFrom, FailsTo, FaultClass, FaultInLog, FaultInSlot, FaultInSuper, Finding, FullTo, SmallFrom, SmallTo, Stops, Names, Refuses, WantsMemory, class_of, finding}
-use Rattle.fam_dup.specs.Lines.{AreCut, AreCutAt, IsOffCopy, bytes_in, copy_puts}
+use Rattle.fam_dup.specs.Findings.{Copies, FailsFrom, FailsTo, FaultClass, FaultInLog, FaultInSlot, FaultInSuper, Finding, FullTo, SmallFrom, SmallTo, Stops, Names, Refuses, WantsMemory, fault_class, finding}
+use Rattle.fam_dup.specs.Lines.{LinesPartlyPut, AreCutAt, IsOffCopy, bytes_in, copy_puts}
 use Rattle.fam_dup.specs.declared.fault.DupFault.{DupFault}
 use Rattle.fam_dup.specs.declared.fault.DupFault.TheVariants as fault
 use Rattle.fam_dup.specs.declared.files.TheConstants.{RUN_LINES}
@@ -59,7 +59,7 @@ pub record IsBegun (from old new : Image) (p : Params) (force : Bool) : Type 0 w
   pub entries : List Entry
   pub copies : List Entry
   pub found : finding from old p force ≡ Copies entries copies
-  pub written : AreCut (copy_puts (line_at from) p entries copies) (Some old) (Some new)
+  pub written : LinesPartlyPut (copy_puts (line_at from) p entries copies) (Some old) (Some new)
   pub left : IsOldOrNone (reading old) (reading new) ⊎ IsCopied from old new p entries copies
   pub others : (l : ℕ) → IsOffCopy p copies l → line_at new l ≡ line_at old l
 
@@ -78,7 +78,7 @@ ClassLeaves from old new p force WantsMemory = new ≡ old
 abbrev pub DupEnds : Image → Image → Image → Params → Bool → Result ℕ DupFault → Type 0
 DupEnds from old new p force (Ok count) = IsMade from old new p force count
 DupEnds from old new p force (Err fault) =
-    Names (class_of fault) (finding from old p force) × ClassLeaves from old new p force (class_of fault)
+    Names (fault_class fault) (finding from old p force) × ClassLeaves from old new p force (fault_class fault)
 
 -- a media failed only where its count of faults rose
 abbrev pub IsCausedBy : ℕ → ℕ → ℕ → ℕ → FaultClass → Type 0
@@ -88,8 +88,8 @@ IsCausedBy from from_now to to_now FailsTo = Rose to to_now
 IsCausedBy from from_now to to_now WantsMemory = ⊤
 
 -- the same of a fault
-abbrev pub IsCaused : ℕ → ℕ → ℕ → ℕ → DupFault → Type 0
-IsCaused from from_now to to_now fault = IsCausedBy from from_now to to_now (class_of fault)
+abbrev pub IsDupCaused : ℕ → ℕ → ℕ → ℕ → DupFault → Type 0
+IsDupCaused from from_now to to_now fault = IsCausedBy from from_now to to_now (fault_class fault)
 
 -- the line that a fault names is one of its image, where FROM and TO have so many lines
 abbrev pub NamesLine : ℕ → ℕ → DupFault → Type 0

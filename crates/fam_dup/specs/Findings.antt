@@ -77,18 +77,18 @@ pub data FaultClass : Type 0 where
   WantsMemory : FaultClass
 
 -- of each fault
-abbrev pub class_of : DupFault → FaultClass
-class_of (fault.ImageSmall lines) = Refuses (SmallFrom lines)
-class_of (fault.NoSuper word) = Refuses (FaultInSuper (super.NoSuper word))
-class_of (fault.BadSuper field found wanted) = Refuses (FaultInSuper (super.BadSuper field found wanted))
-class_of (fault.BadLog field found wanted) = Refuses (FaultInLog (log.BadLog field found wanted))
-class_of (fault.BadEntry seq reason) = Refuses (FaultInSlot seq reason)
-class_of (fault.TooSmall needed have) = Refuses (SmallTo needed have)
-class_of (fault.HasSuper fs) = Refuses (FullTo fs)
-class_of (fault.Stopped seq refusal) = Refuses (Stops seq (refused_of refusal))
-class_of (fault.FromFault line) = FailsFrom
-class_of (fault.ToFault line) = FailsTo
-class_of fault.OutOfMemory = WantsMemory
+abbrev pub fault_class : DupFault → FaultClass
+fault_class (fault.ImageSmall lines) = Refuses (SmallFrom lines)
+fault_class (fault.NoSuper word) = Refuses (FaultInSuper (super.NoSuper word))
+fault_class (fault.BadSuper field found wanted) = Refuses (FaultInSuper (super.BadSuper field found wanted))
+fault_class (fault.BadLog field found wanted) = Refuses (FaultInLog (log.BadLog field found wanted))
+fault_class (fault.BadEntry seq reason) = Refuses (FaultInSlot seq reason)
+fault_class (fault.TooSmall needed have) = Refuses (SmallTo needed have)
+fault_class (fault.HasSuper fs) = Refuses (FullTo fs)
+fault_class (fault.Stopped seq refusal) = Refuses (Stops seq (refused_of refusal))
+fault_class (fault.FromFault line) = FailsFrom
+fault_class (fault.ToFault line) = FailsTo
+fault_class fault.OutOfMemory = WantsMemory
 
 -- what such a fault says was found; a media that failed and want of memory say nothing of it
 abbrev pub Names : FaultClass → Finding → Type 0

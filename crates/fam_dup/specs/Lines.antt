@@ -68,7 +68,7 @@ abbrev pub IsPartlyPut : Put → Option Image → Option Image → Type 0
 IsPartlyPut put old new = (new ≡ old) ⊎ IsTorn old new put.0 put.1
 
 -- some lines were put, and of the next one nothing or some of its words
-pub record AreCut (puts : List Put) (old new : Option Image) : Type 0 where
+pub record LinesPartlyPut (puts : List Put) (old new : Option Image) : Type 0 where
   pub done : List Put
   pub put : Put
   pub rest : List Put
@@ -77,7 +77,7 @@ pub record AreCut (puts : List Put) (old new : Option Image) : Type 0 where
 
 -- lines were cut so, at such a line
 pub record AreCutAt (At : Put → Type 0) (puts : List Put) (old new : Option Image) : Type 0 where
-  pub cut : AreCut puts old new
+  pub cut : LinesPartlyPut puts old new
   pub at : At cut.put
 
 -- all lines were put, or a media failed at one of them: a fault is of such a line

@@ -16,8 +16,8 @@ abbrev pub AreBelow : Entry → ℕ → ℕ → Type 0
 AreBelow e j n = (i : ℕ) → i < n → line_bytes * (j + i) < e.size
 
 -- these lines are those of a file with such bytes, from line j on
-abbrev pub AreParts : List ℕ → ℕ → List (List ℕ) → Type 0
-AreParts bytes j lines = (i : ℕ) → i < length lines → line_in lines i ≡ file_words bytes (j + i)
+abbrev pub HoldFileParts : List ℕ → ℕ → List (List ℕ) → Type 0
+HoldFileParts bytes j lines = (i : ℕ) → i < length lines → line_in lines i ≡ file_words bytes (j + i)
 
 -- n lines of a file with such bytes, from line j on
 abbrev pub part_puts : Entry → List ℕ → ℕ → ℕ → List Put

@@ -10,7 +10,7 @@ ghost use Rattle.fam_rules.specs.Decide.{wish_of};
 ghost use Rattle.fam_plan.specs.State.{MayBeAdded};
 ghost use Rattle.fam_dup.specs.Copies.{AreAlike, Copied, IsNext, IsWantOfRoom, copy_of, copying, copying_from, wish_again};
 ghost use Rattle.fam_dup.specs.Ends.{IsOwn};
-ghost use Rattle.fam_dup.specs.Findings.{Names, WantsMemory, class_of, copies_or, refused_of};
+ghost use Rattle.fam_dup.specs.Findings.{Names, WantsMemory, fault_class, copies_or, refused_of};
 
 use crate::fault::{DupFault, DupRefusal};
 use fam_base::{Attr, Cmd, Content, Entry, Kind, Params};
@@ -80,7 +80,7 @@ fn add_copy(copies: &mut Plan, copy: &Entry) -> Result<(), DupFault>
     requires { MayBeAdded copies.old copy.now }
     ensures added { OnOk result (copies.new.entries ≡ copies.old.entries ++ copy.now ∷ []) }
     ensures params { copies.new.params ≡ copies.old.params }
-    ensures full { IfErr result (λ fault. class_of fault ≡ WantsMemory) }
+    ensures full { IfErr result (λ fault. fault_class fault ≡ WantsMemory) }
 {
     match copies.add(copy) {
         Ok(()) => Ok(()),
@@ -110,9 +110,9 @@ fn copy_next(source: &Plan, copies: &mut Plan, seq: u64) -> Result<(), DupFault>
     ensures alike { OnOk result (AreAlike (take (length copies.new.entries) source.now.entries) copies.new.entries) }
     ensures count { OnOk result (length copies.new.entries ≡ length copies.old.entries + 1) }
     ensures params { copies.new.params ≡ copies.old.params }
-    ensures fault { IfErr result (λ fault. (all : List EntryValue) → Names (class_of fault)
+    ensures fault { IfErr result (λ fault. (all : List EntryValue) → Names (fault_class fault)
         (copies_or all (copying_from copies.old.params (drop (length copies.old.entries) source.now.entries) copies.old.entries))) }
-    ensures own { IfErr result (λ fault. IsOwn (class_of fault)) }
+    ensures own { IfErr result (λ fault. IsOwn (fault_class fault)) }
 {
     source.each_entry_joins();
     copies.each_entry_joins();
@@ -128,8 +128,8 @@ pub(crate) fn plan_copies(alloc: Global, source: &Plan, params: &Params) -> Resu
     requires sound { SoundParams params.now }
     ensures told { IfOk result (λ copies. copying params.now source.now.entries ≡ Copied copies.entries) }
     ensures params { IfOk result (λ copies. copies.params ≡ params.now) }
-    ensures fault { IfErr result (λ fault. (all : List EntryValue) → Names (class_of fault) (copies_or all (copying params.now source.now.entries))) }
-    ensures own { IfErr result (λ fault. IsOwn (class_of fault)) }
+    ensures fault { IfErr result (λ fault. (all : List EntryValue) → Names (fault_class fault) (copies_or all (copying params.now source.now.entries))) }
+    ensures own { IfErr result (λ fault. IsOwn (fault_class fault)) }
 {
     let mut copies = Plan::new(alloc, params)?;
     for seq in 0..source.count() {

@@ -3,8 +3,8 @@
 ghost use Rattle.std.specs.Prelude.{◌≡◌, IfErr, OnOk, true};
 ghost use Rattle.fam_media.specs.Causes.{IsSteady};
 ghost use Rattle.fam_media.specs.Outside.{IfModelled};
-ghost use Rattle.fam_dup.specs.Ends.{AreAsked, Becomes, DupEnds, IsAskedIn, IsCaused, NamesLine, from_counted, to_counted};
-ghost use Rattle.fam_dup.specs.Findings.{class_of};
+ghost use Rattle.fam_dup.specs.Ends.{AreAsked, Becomes, DupEnds, IsAskedIn, IsDupCaused, NamesLine, from_counted, to_counted};
+ghost use Rattle.fam_dup.specs.Findings.{fault_class};
 
 use crate::copies::plan_copies;
 use crate::fault::DupFault;
@@ -34,7 +34,7 @@ pub fn dup<M: Media, N: Media>(
     requires asked { AreAsked params.now (N.size to.old) }
     ensures ends { IfModelled (M.state from.old).image (λ source. Becomes (N.state to.old).image (N.state to.new).image
         (λ old new. DupEnds source old new params.now force result)) }
-    ensures cause { IfErr result (λ fault. IsCaused (M.state from.old).faults (M.state from.new).faults
+    ensures cause { IfErr result (λ fault. IsDupCaused (M.state from.old).faults (M.state from.new).faults
         (N.state to.old).faults (N.state to.new).faults fault) }
     ensures asked { IfErr result (λ fault. IfModelled (M.state from.old).image (λ source. IfModelled (N.state to.old).image
         (λ old. IsAskedIn source old (N.state to.new).image params.now force fault))) }
@@ -42,8 +42,8 @@ pub fn dup<M: Media, N: Media>(
     // A media that counts exactly has failed once where the fault tells it, and never else.
     ensures quiet_from { OnOk result (M.exact ≡ true → (M.state from.new).faults ≡ (M.state from.old).faults) }
     ensures quiet_to { OnOk result (N.exact ≡ true → (N.state to.new).faults ≡ (N.state to.old).faults) }
-    ensures counted_from { IfErr result (λ fault. M.exact ≡ true → (M.state from.new).faults ≡ from_counted (class_of fault) (M.state from.old).faults) }
-    ensures counted_to { IfErr result (λ fault. N.exact ≡ true → (N.state to.new).faults ≡ to_counted (class_of fault) (N.state to.old).faults) }
+    ensures counted_from { IfErr result (λ fault. M.exact ≡ true → (M.state from.new).faults ≡ from_counted (fault_class fault) (M.state from.old).faults) }
+    ensures counted_to { IfErr result (λ fault. N.exact ≡ true → (N.state to.new).faults ≡ to_counted (fault_class fault) (N.state to.old).faults) }
     ensures line { IfErr result (λ fault. NamesLine (M.size from.old) (N.size to.old) fault) }
     ensures same { (M.state from.new).image ≡ (M.state from.old).image }
     ensures steady_from { IsSteady M.size M.state from.old from.new }

@@ -15,9 +15,9 @@ ghost use Rattle.fam_rules.specs.Place.{IsProperEntry, line_bytes};
 ghost use Rattle.fam_rules.specs.Written.{file_line, file_puts};
 ghost use Rattle.fam_dup.specs.Copies.{AreCopies};
 ghost use Rattle.fam_dup.specs.Ends.{FailsFromAt, IsCausedByFrom, IsFailure, IsFileStep, IsStep, NamesLine, from_counted, to_counted};
-ghost use Rattle.fam_dup.specs.Findings.{FailsFrom, WantsMemory, class_of};
+ghost use Rattle.fam_dup.specs.Findings.{FailsFrom, WantsMemory, fault_class};
 ghost use Rattle.fam_dup.specs.Lines.{IsFileOn, PutsEnd, bytes_in, files_puts};
-ghost use Rattle.fam_dup.specs.Runs.{AreBelow, AreParts, AreTogether, part_puts};
+ghost use Rattle.fam_dup.specs.Runs.{AreBelow, HoldFileParts, AreTogether, part_puts};
 
 use crate::copies::entry_at;
 use crate::fault::DupFault;
@@ -36,7 +36,7 @@ pub(crate) const RUN_LINES: usize = 1024;
 /// Room for the lines of a run.
 pub(crate) fn run_buffer(alloc: Global) -> Result<Vec<Line>, DupFault>
     ensures room { IfOk result (λ lines. vec_len lines ≡ RUN_LINES) }
-    ensures full { IfErr result (λ fault. class_of fault ≡ WantsMemory) }
+    ensures full { IfErr result (λ fault. fault_class fault ≡ WantsMemory) }
 {
     match vec![in alloc; [0; 8]; RUN_LINES] {
         Ok(lines) => Ok(lines),
@@ -69,13 +69,13 @@ fn read_parts<M: Media>(
     requires some { 0 < length lines.old }
     requires below { AreBelow entry.now j (length lines.old) }
     requires together { AreTogether entry.now j (length lines.old) }
-    ensures words { OnOk result (IfModelled (M.state from.old).image (λ image. AreParts (bytes_in (line_at image) entry.now) j lines.new)) }
+    ensures words { OnOk result (IfModelled (M.state from.old).image (λ image. HoldFileParts (bytes_in (line_at image) entry.now) j lines.new)) }
     ensures count { length lines.new ≡ length lines.old }
-    ensures failed { IfErr result (λ fault. class_of fault ≡ FailsFrom) }
-    ensures cause { IfErr result (λ fault. IsCausedByFrom (M.state from.old).faults (M.state from.new).faults (class_of fault)) }
+    ensures failed { IfErr result (λ fault. fault_class fault ≡ FailsFrom) }
+    ensures cause { IfErr result (λ fault. IsCausedByFrom (M.state from.old).faults (M.state from.new).faults (fault_class fault)) }
     ensures at { IfErr result (FailsFromAt (λ at. (ahead : ℕ) × (ahead < length lines.old) × (at ≡ file_line entry.now (j + ahead)))) }
     ensures quiet { OnOk result (M.exact ≡ true → (M.state from.new).faults ≡ (M.state from.old).faults) }
-    ensures counted { IfErr result (λ fault. M.exact ≡ true → (M.state from.new).faults ≡ from_counted (class_of fault) (M.state from.old).faults) }
+    ensures counted { IfErr result (λ fault. M.exact ≡ true → (M.state from.new).faults ≡ from_counted (fault_class fault) (M.state from.old).faults) }
     ensures line { IfErr result (λ fault. NamesLine (M.size from.old) 0 fault) }
     ensures same { (M.state from.new).image ≡ (M.state from.old).image }
     ensures steady { IsSteady M.size M.state from.old from.new }
@@ -112,11 +112,11 @@ fn copy_run<M: Media, N: Media>(
         (N.state to.old).image (N.state to.new).image result) }
     ensures count { length lines.new ≡ length lines.old }
     ensures failed { IfErr result (λ fault. IsFailure (M.state from.old).faults (M.state from.new).faults
-        (N.state to.old).faults (N.state to.new).faults (class_of fault)) }
+        (N.state to.old).faults (N.state to.new).faults (fault_class fault)) }
     ensures quiet_from { OnOk result (M.exact ≡ true → (M.state from.new).faults ≡ (M.state from.old).faults) }
     ensures quiet_to { OnOk result (N.exact ≡ true → (N.state to.new).faults ≡ (N.state to.old).faults) }
-    ensures counted_from { IfErr result (λ fault. M.exact ≡ true → (M.state from.new).faults ≡ from_counted (class_of fault) (M.state from.old).faults) }
-    ensures counted_to { IfErr result (λ fault. N.exact ≡ true → (N.state to.new).faults ≡ to_counted (class_of fault) (N.state to.old).faults) }
+    ensures counted_from { IfErr result (λ fault. M.exact ≡ true → (M.state from.new).faults ≡ from_counted (fault_class fault) (M.state from.old).faults) }
+    ensures counted_to { IfErr result (λ fault. N.exact ≡ true → (N.state to.new).faults ≡ to_counted (fault_class fault) (N.state to.old).faults) }
     ensures line { IfErr result (λ fault. NamesLine (M.size from.old) (N.size to.old) fault) }
     ensures same { (M.state from.new).image ≡ (M.state from.old).image }
     ensures steady_from { IsSteady M.size M.state from.old from.new }
@@ -161,11 +161,11 @@ fn copy_file<M: Media, N: Media>(
         (N.state to.old).image (N.state to.new).image result) }
     ensures buffer { length buffer.new ≡ length buffer.old }
     ensures failed { IfErr result (λ fault. IsFailure (M.state from.old).faults (M.state from.new).faults
-        (N.state to.old).faults (N.state to.new).faults (class_of fault)) }
+        (N.state to.old).faults (N.state to.new).faults (fault_class fault)) }
     ensures quiet_from { OnOk result (M.exact ≡ true → (M.state from.new).faults ≡ (M.state from.old).faults) }
     ensures quiet_to { OnOk result (N.exact ≡ true → (N.state to.new).faults ≡ (N.state to.old).faults) }
-    ensures counted_from { IfErr result (λ fault. M.exact ≡ true → (M.state from.new).faults ≡ from_counted (class_of fault) (M.state from.old).faults) }
-    ensures counted_to { IfErr result (λ fault. N.exact ≡ true → (N.state to.new).faults ≡ to_counted (class_of fault) (N.state to.old).faults) }
+    ensures counted_from { IfErr result (λ fault. M.exact ≡ true → (M.state from.new).faults ≡ from_counted (fault_class fault) (M.state from.old).faults) }
+    ensures counted_to { IfErr result (λ fault. N.exact ≡ true → (N.state to.new).faults ≡ to_counted (fault_class fault) (N.state to.old).faults) }
     ensures line { IfErr result (λ fault. NamesLine (M.size from.old) (N.size to.old) fault) }
     ensures same { (M.state from.new).image ≡ (M.state from.old).image }
     ensures steady_from { IsSteady M.size M.state from.old from.new }
@@ -197,11 +197,11 @@ pub(crate) fn copy_files<M: Media, N: Media>(
     ensures puts { IfModelled (M.state from.old).image (λ image. PutsEnd (IsStep source.now.entries copies.now.entries) (files_puts (line_at image) source.now.entries copies.now.entries)
         (N.state to.old).image (N.state to.new).image result) }
     ensures failed { IfErr result (λ fault. IsFailure (M.state from.old).faults (M.state from.new).faults
-        (N.state to.old).faults (N.state to.new).faults (class_of fault)) }
+        (N.state to.old).faults (N.state to.new).faults (fault_class fault)) }
     ensures quiet_from { OnOk result (M.exact ≡ true → (M.state from.new).faults ≡ (M.state from.old).faults) }
     ensures quiet_to { OnOk result (N.exact ≡ true → (N.state to.new).faults ≡ (N.state to.old).faults) }
-    ensures counted_from { IfErr result (λ fault. M.exact ≡ true → (M.state from.new).faults ≡ from_counted (class_of fault) (M.state from.old).faults) }
-    ensures counted_to { IfErr result (λ fault. N.exact ≡ true → (N.state to.new).faults ≡ to_counted (class_of fault) (N.state to.old).faults) }
+    ensures counted_from { IfErr result (λ fault. M.exact ≡ true → (M.state from.new).faults ≡ from_counted (fault_class fault) (M.state from.old).faults) }
+    ensures counted_to { IfErr result (λ fault. N.exact ≡ true → (N.state to.new).faults ≡ to_counted (fault_class fault) (N.state to.old).faults) }
     ensures line { IfErr result (λ fault. NamesLine (M.size from.old) (N.size to.old) fault) }
     ensures same { (M.state from.new).image ≡ (M.state from.old).image }
     ensures steady_from { IsSteady M.size M.state from.old from.new }

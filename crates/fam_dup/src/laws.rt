@@ -12,7 +12,7 @@ ghost use Rattle.fam_rules.specs.Written.{put_lines};
 ghost use Rattle.fam_plan.specs.State.{IsHistory};
 ghost use Rattle.fam_dup.specs.Copies.{Copied, IsWantOfRoom, StoppedAt, copying};
 ghost use Rattle.fam_dup.specs.Ends.{IsCopied, IsOldOrNone};
-ghost use Rattle.fam_dup.specs.Lines.{AreCut, copy_puts};
+ghost use Rattle.fam_dup.specs.Lines.{LinesPartlyPut, copy_puts};
 
 /// Only want of slots or of room stops the copying of a log's entries: no other refusal comes.
 pub fn only_room_stops_a_copy()
@@ -34,6 +34,6 @@ pub fn a_cut_copy_is_old_none_or_whole()
     ensures { (p q : Params) (from to new : Image) (entries copies : List Entry) → SoundParams q
         → q.device ≤ line_bytes * length to → IsHistory (record { params = p; entries = entries })
         → copying q entries ≡ Copied copies
-        → AreCut (copy_puts (line_at from) q entries copies) (Some to) (Some new)
+        → LinesPartlyPut (copy_puts (line_at from) q entries copies) (Some to) (Some new)
         → IsOldOrNone (reading to) (reading new) ⊎ IsCopied from to new q entries copies }
 {}

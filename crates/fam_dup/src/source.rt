@@ -11,7 +11,7 @@ ghost use Rattle.fam_media.specs.Causes.{IsSteady};
 ghost use Rattle.fam_media.specs.Outside.{IfModelled};
 ghost use Rattle.fam_rules.specs.Place.{line_bytes};
 ghost use Rattle.fam_dup.specs.Ends.{FailsFromAt, IsCausedByFrom, IsReadAt, NamesLine, from_counted, of_read};
-ghost use Rattle.fam_dup.specs.Findings.{FaultInSuper, Finding, Names, Refuses, class_of, from_or};
+ghost use Rattle.fam_dup.specs.Findings.{FaultInSuper, Finding, Names, Refuses, fault_class, from_or};
 
 use crate::fault::DupFault;
 use crate::lines::{FailedAt, superblock};
@@ -24,7 +24,7 @@ use std::alloc::Global;
 
 /// A fault of FROM's superblock.
 fn fault_of_super(fault: SuperFault) -> DupFault
-    ensures { class_of result ≡ Refuses (FaultInSuper fault) }
+    ensures { fault_class result ≡ Refuses (FaultInSuper fault) }
 {
     match fault {
         SuperFault::NoSuper(word) => DupFault::NoSuper(word),
@@ -78,11 +78,11 @@ fn read_params<M: Media>(from: &mut M) -> Result<Params, DupFault>
     ensures sound { IfOk result (λ p. SoundParams p) }
     ensures device { IfOk result (λ p. p.device ≤ line_bytes * M.size from.old) }
     ensures fault { IfErr result (λ fault. IfModelled (M.state from.old).image (λ image. (rest : List EntryValue → Finding)
-        → Names (class_of fault) (from_or (read.read_super (line_at image) (super_in (line_at image) (line_bytes * M.size from.old))) rest))) }
-    ensures cause { IfErr result (λ fault. IsCausedByFrom (M.state from.old).faults (M.state from.new).faults (class_of fault)) }
+        → Names (fault_class fault) (from_or (read.read_super (line_at image) (super_in (line_at image) (line_bytes * M.size from.old))) rest))) }
+    ensures cause { IfErr result (λ fault. IsCausedByFrom (M.state from.old).faults (M.state from.new).faults (fault_class fault)) }
     ensures asked { IfErr result (FailsFromAt (λ at. at < 3)) }
     ensures quiet { OnOk result (M.exact ≡ true → (M.state from.new).faults ≡ (M.state from.old).faults) }
-    ensures counted { IfErr result (λ fault. M.exact ≡ true → (M.state from.new).faults ≡ from_counted (class_of fault) (M.state from.old).faults) }
+    ensures counted { IfErr result (λ fault. M.exact ≡ true → (M.state from.new).faults ≡ from_counted (fault_class fault) (M.state from.old).faults) }
     ensures line { IfErr result (λ fault. NamesLine (M.size from.old) 0 fault) }
     ensures same { (M.state from.new).image ≡ (M.state from.old).image }
     ensures steady { IsSteady M.size M.state from.old from.new }
@@ -102,11 +102,11 @@ pub(crate) fn read_source<M: Media>(alloc: Global, from: &mut M) -> Result<Plan,
     ensures told { IfOk result (λ plan. IfModelled (M.state from.old).image (λ image. reading image ≡ read.Sound plan.params plan.entries)) }
     ensures device { IfOk result (λ plan. plan.params.device ≤ line_bytes * M.size from.old) }
     ensures fault { IfErr result (λ fault. IfModelled (M.state from.old).image (λ image. (rest : List EntryValue → Finding)
-        → Names (class_of fault) (from_or (reading image) rest))) }
-    ensures cause { IfErr result (λ fault. IsCausedByFrom (M.state from.old).faults (M.state from.new).faults (class_of fault)) }
+        → Names (fault_class fault) (from_or (reading image) rest))) }
+    ensures cause { IfErr result (λ fault. IsCausedByFrom (M.state from.old).faults (M.state from.new).faults (fault_class fault)) }
     ensures asked { IfErr result (λ fault. IfModelled (M.state from.old).image (λ image. FailsFromAt (IsReadAt image) fault)) }
     ensures quiet { OnOk result (M.exact ≡ true → (M.state from.new).faults ≡ (M.state from.old).faults) }
-    ensures counted { IfErr result (λ fault. M.exact ≡ true → (M.state from.new).faults ≡ from_counted (class_of fault) (M.state from.old).faults) }
+    ensures counted { IfErr result (λ fault. M.exact ≡ true → (M.state from.new).faults ≡ from_counted (fault_class fault) (M.state from.old).faults) }
     ensures line { IfErr result (λ fault. NamesLine (M.size from.old) 0 fault) }
     ensures same { (M.state from.new).image ≡ (M.state from.old).image }
     ensures steady { IsSteady M.size M.state from.old from.new }

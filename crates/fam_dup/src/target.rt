@@ -5,7 +5,7 @@ ghost use Rattle.fam_format.specs.Params.{SoundParams};
 ghost use Rattle.fam_media.specs.Causes.{IsSteady};
 ghost use Rattle.fam_media.specs.Outside.{IfModelled};
 ghost use Rattle.fam_dup.specs.Ends.{AreAsked, FailsToAt, IsCausedByTo, NamesLine, to_counted};
-ghost use Rattle.fam_dup.specs.Findings.{Finding, Names, class_of, to_or};
+ghost use Rattle.fam_dup.specs.Findings.{Finding, Names, fault_class, to_or};
 ghost use Rattle.fam_format.specs.Params.{IsUuid};
 
 use crate::fault::DupFault;
@@ -39,12 +39,12 @@ pub(crate) fn check_target<N: Media>(
     ensures free { OnOk result (IfModelled (N.state to.old).image (λ image. (rest : Finding) → to_or image params.now force rest ≡ rest)) }
     ensures sound { OnOk result (SoundParams params.now) }
     ensures fault { IfErr result (λ fault. IfModelled (N.state to.old).image (λ image. (rest : Finding)
-        → Names (class_of fault) (to_or image params.now force rest))) }
-    ensures cause { IfErr result (λ fault. IsCausedByTo (N.state to.old).faults (N.state to.new).faults (class_of fault)) }
+        → Names (fault_class fault) (to_or image params.now force rest))) }
+    ensures cause { IfErr result (λ fault. IsCausedByTo (N.state to.old).faults (N.state to.new).faults (fault_class fault)) }
     ensures asked { IfErr result (FailsToAt (λ at. (force ≡ false) × (at < 3))) }
     ensures unread { force ≡ true → to.new ≡ to.old }
     ensures quiet { OnOk result (N.exact ≡ true → (N.state to.new).faults ≡ (N.state to.old).faults) }
-    ensures counted { IfErr result (λ fault. N.exact ≡ true → (N.state to.new).faults ≡ to_counted (class_of fault) (N.state to.old).faults) }
+    ensures counted { IfErr result (λ fault. N.exact ≡ true → (N.state to.new).faults ≡ to_counted (fault_class fault) (N.state to.old).faults) }
     ensures line { IfErr result (λ fault. NamesLine 0 (N.size to.old) fault) }
     ensures same { (N.state to.new).image ≡ (N.state to.old).image }
     ensures steady { IsSteady N.size N.state to.old to.new }

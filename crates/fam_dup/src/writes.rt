@@ -11,7 +11,7 @@ ghost use Rattle.fam_rules.specs.Written.{slot_part, slot_puts};
 ghost use Rattle.fam_dup.specs.declared.files.TheConstants.{RUN_LINES};
 ghost use Rattle.fam_dup.specs.Copies.{AreCopies};
 ghost use Rattle.fam_dup.specs.Ends.{IsFailure, IsStep, IsToStep, NamesLine, from_counted, to_counted};
-ghost use Rattle.fam_dup.specs.Findings.{FailsTo, class_of};
+ghost use Rattle.fam_dup.specs.Findings.{FailsTo, fault_class};
 ghost use Rattle.fam_dup.specs.Lines.{PutsEnd, copy_puts, head_puts, slots_puts};
 
 use crate::copies::entry_at;
@@ -30,9 +30,9 @@ use fam_super::{MAGIC, Super};
 fn write_to<N: Media>(to: &mut N, line: LineNo, words: &Line) -> Result<(), DupFault>
     requires within { line.0 < N.size to.old }
     ensures puts { PutsEnd IsToStep ((line.0, words.now) ∷ []) (N.state to.old).image (N.state to.new).image result }
-    ensures failed { IfErr result (λ fault. (class_of fault ≡ FailsTo) × Rose (N.state to.old).faults (N.state to.new).faults) }
+    ensures failed { IfErr result (λ fault. (fault_class fault ≡ FailsTo) × Rose (N.state to.old).faults (N.state to.new).faults) }
     ensures quiet { OnOk result (N.exact ≡ true → (N.state to.new).faults ≡ (N.state to.old).faults) }
-    ensures counted { IfErr result (λ fault. N.exact ≡ true → (N.state to.new).faults ≡ to_counted (class_of fault) (N.state to.old).faults) }
+    ensures counted { IfErr result (λ fault. N.exact ≡ true → (N.state to.new).faults ≡ to_counted (fault_class fault) (N.state to.old).faults) }
     ensures line { IfErr result (λ fault. NamesLine 0 (N.size to.old) fault) }
     ensures steady { IsSteady N.size N.state to.old to.new }
 {
@@ -59,9 +59,9 @@ fn write_slot<N: Media>(to: &mut N, params: &Params, seq: u64, copy: &Entry) -> 
     requires device { params.now.device ≤ line_bytes * N.size to.old }
     requires slot { seq < params.now.slots }
     ensures puts { PutsEnd IsToStep (slot_puts params.now seq copy.now) (N.state to.old).image (N.state to.new).image result }
-    ensures failed { IfErr result (λ fault. (class_of fault ≡ FailsTo) × Rose (N.state to.old).faults (N.state to.new).faults) }
+    ensures failed { IfErr result (λ fault. (fault_class fault ≡ FailsTo) × Rose (N.state to.old).faults (N.state to.new).faults) }
     ensures quiet { OnOk result (N.exact ≡ true → (N.state to.new).faults ≡ (N.state to.old).faults) }
-    ensures counted { IfErr result (λ fault. N.exact ≡ true → (N.state to.new).faults ≡ to_counted (class_of fault) (N.state to.old).faults) }
+    ensures counted { IfErr result (λ fault. N.exact ≡ true → (N.state to.new).faults ≡ to_counted (fault_class fault) (N.state to.old).faults) }
     ensures line { IfErr result (λ fault. NamesLine 0 (N.size to.old) fault) }
     ensures steady { IsSteady N.size N.state to.old to.new }
 {
@@ -76,9 +76,9 @@ fn write_slot<N: Media>(to: &mut N, params: &Params, seq: u64, copy: &Entry) -> 
 fn write_slots<N: Media>(to: &mut N, copies: &Plan) -> Result<(), DupFault>
     requires device { copies.now.params.device ≤ line_bytes * N.size to.old }
     ensures puts { PutsEnd IsToStep (slots_puts copies.now.params 0 copies.now.entries) (N.state to.old).image (N.state to.new).image result }
-    ensures failed { IfErr result (λ fault. (class_of fault ≡ FailsTo) × Rose (N.state to.old).faults (N.state to.new).faults) }
+    ensures failed { IfErr result (λ fault. (fault_class fault ≡ FailsTo) × Rose (N.state to.old).faults (N.state to.new).faults) }
     ensures quiet { OnOk result (N.exact ≡ true → (N.state to.new).faults ≡ (N.state to.old).faults) }
-    ensures counted { IfErr result (λ fault. N.exact ≡ true → (N.state to.new).faults ≡ to_counted (class_of fault) (N.state to.old).faults) }
+    ensures counted { IfErr result (λ fault. N.exact ≡ true → (N.state to.new).faults ≡ to_counted (fault_class fault) (N.state to.old).faults) }
     ensures line { IfErr result (λ fault. NamesLine 0 (N.size to.old) fault) }
     ensures steady { IsSteady N.size N.state to.old to.new }
 {
@@ -94,9 +94,9 @@ fn write_slots<N: Media>(to: &mut N, copies: &Plan) -> Result<(), DupFault>
 fn write_head<N: Media>(to: &mut N, params: &Params, count: u64) -> Result<(), DupFault>
     requires within { least_lines ≤ N.size to.old }
     ensures puts { PutsEnd IsToStep (head_puts params.now count) (N.state to.old).image (N.state to.new).image result }
-    ensures failed { IfErr result (λ fault. (class_of fault ≡ FailsTo) × Rose (N.state to.old).faults (N.state to.new).faults) }
+    ensures failed { IfErr result (λ fault. (fault_class fault ≡ FailsTo) × Rose (N.state to.old).faults (N.state to.new).faults) }
     ensures quiet { OnOk result (N.exact ≡ true → (N.state to.new).faults ≡ (N.state to.old).faults) }
-    ensures counted { IfErr result (λ fault. N.exact ≡ true → (N.state to.new).faults ≡ to_counted (class_of fault) (N.state to.old).faults) }
+    ensures counted { IfErr result (λ fault. N.exact ≡ true → (N.state to.new).faults ≡ to_counted (fault_class fault) (N.state to.old).faults) }
     ensures line { IfErr result (λ fault. NamesLine 0 (N.size to.old) fault) }
     ensures steady { IsSteady N.size N.state to.old to.new }
 {
@@ -126,11 +126,11 @@ pub(crate) fn write_copy<M: Media, N: Media>(
     ensures puts { IfModelled (M.state from.old).image (λ image. PutsEnd (IsStep source.now.entries copies.now.entries) (copy_puts (line_at image) copies.now.params source.now.entries copies.now.entries)
         (N.state to.old).image (N.state to.new).image result) }
     ensures failed { IfErr result (λ fault. IsFailure (M.state from.old).faults (M.state from.new).faults
-        (N.state to.old).faults (N.state to.new).faults (class_of fault)) }
+        (N.state to.old).faults (N.state to.new).faults (fault_class fault)) }
     ensures quiet_from { OnOk result (M.exact ≡ true → (M.state from.new).faults ≡ (M.state from.old).faults) }
     ensures quiet_to { OnOk result (N.exact ≡ true → (N.state to.new).faults ≡ (N.state to.old).faults) }
-    ensures counted_from { IfErr result (λ fault. M.exact ≡ true → (M.state from.new).faults ≡ from_counted (class_of fault) (M.state from.old).faults) }
-    ensures counted_to { IfErr result (λ fault. N.exact ≡ true → (N.state to.new).faults ≡ to_counted (class_of fault) (N.state to.old).faults) }
+    ensures counted_from { IfErr result (λ fault. M.exact ≡ true → (M.state from.new).faults ≡ from_counted (fault_class fault) (M.state from.old).faults) }
+    ensures counted_to { IfErr result (λ fault. N.exact ≡ true → (N.state to.new).faults ≡ to_counted (fault_class fault) (N.state to.old).faults) }
     ensures line { IfErr result (λ fault. NamesLine (M.size from.old) (N.size to.old) fault) }
     ensures same { (M.state from.new).image ≡ (M.state from.old).image }
     ensures steady_from { IsSteady M.size M.state from.old from.new }

@@ -9,7 +9,7 @@ use Rattle.fam_format.specs.declared.faults.Reason.{Reason}
 use Rattle.fam_tree.specs.Runs.{entry_at}
 use Rattle.fam_fsck.specs.declared.found.Found.{Found}
 use Rattle.fam_fsck.specs.declared.found_list.Mark.{Mark}
-use Rattle.fam_fsck.specs.Found.{applies_where, entries_of, found_of, marked}
+use Rattle.fam_fsck.specs.Found.{applies_where, found_entries, found_of, with_mark}
 
 -- Entries and their marks.
 
@@ -27,11 +27,11 @@ found_within es ms fs i same is below =
     omega (arith, many, same, below)
 
 -- the one at a place
-pub found_at : (es : List Entry) (ms : List Mark) (i : ℕ) (m : Mark) → length es ≡ length ms → slice_get ms i ≡ Some m → slice_get (found_of es ms) i ≡ Some (marked (entry_at es i) m)
+pub found_at : (es : List Entry) (ms : List Mark) (i : ℕ) (m : Mark) → length es ≡ length ms → slice_get ms i ≡ Some m → slice_get (found_of es ms) i ≡ Some (with_mark (entry_at es i) m)
 found_at [] [] i m same is = absurd cc
 found_at [] (n ∷ ms) i m same is = absurd (omega (arith, same))
 found_at (e ∷ es) [] i m same is = absurd (omega (arith, same))
-found_at (e ∷ es) (n ∷ ms) zero m same is = ap (option_map (marked e)) is
+found_at (e ∷ es) (n ∷ ms) zero m same is = ap (option_map (with_mark e)) is
 found_at (e ∷ es) (n ∷ ms) (suc i) m same is = found_at es ms i m (omega (arith, same)) is
 
 -- and its kind
@@ -42,11 +42,11 @@ kind_found (e ∷ es) (m ∷ ms) zero same below = refl
 kind_found (e ∷ es) (m ∷ ms) (suc i) same below = kind_found es ms i (omega (arith, same)) (omega (arith, below))
 
 -- with one more
-pub found_more : (es : List Entry) (ms : List Mark) (e : Entry) (m : Mark) → length es ≡ length ms → found_of (es ++ e ∷ []) (ms ++ m ∷ []) ≡ found_of es ms ++ marked e m ∷ []
+pub found_more : (es : List Entry) (ms : List Mark) (e : Entry) (m : Mark) → length es ≡ length ms → found_of (es ++ e ∷ []) (ms ++ m ∷ []) ≡ found_of es ms ++ with_mark e m ∷ []
 found_more [] [] e m same = refl
 found_more [] (n ∷ ms) e m same = absurd (omega (arith, same))
 found_more (x ∷ es) [] e m same = absurd (omega (arith, same))
-found_more (x ∷ es) (n ∷ ms) e m same = ap (λ (fs : List Found). marked x n ∷ fs) (found_more es ms e m (omega (arith, same)))
+found_more (x ∷ es) (n ∷ ms) e m same = ap (λ (fs : List Found). with_mark x n ∷ fs) (found_more es ms e m (omega (arith, same)))
 
 -- an entry applies where nothing is against it
 pub applies_told : (o : Option Reason) (b : Bool) → is_some o ≡ not b → b ≡ applies_where o
@@ -88,33 +88,33 @@ find_past test (a ∷ xs) (suc i) past = find_past test xs i (omega (arith, past
 no_zero : (n m : ℕ) → 0 + n + m ≡ n + m
 no_zero n m = omega arith
 
-count_suc : (test : Kind → Bool) (xs : List Found) (i : ℕ) (k : Kind) → option_map (λ (f : Found). f.entry.kind) (slice_get xs i) ≡ Some k → count_by (λ (e : Entry). test e.kind) (entries_of (drop i xs)) ≡ cond (test k) 1 0 + count_by (λ (e : Entry). test e.kind) (entries_of (drop (suc i) xs))
+count_suc : (test : Kind → Bool) (xs : List Found) (i : ℕ) (k : Kind) → option_map (λ (f : Found). f.entry.kind) (slice_get xs i) ≡ Some k → count_by (λ (e : Entry). test e.kind) (found_entries (drop i xs)) ≡ cond (test k) 1 0 + count_by (λ (e : Entry). test e.kind) (found_entries (drop (suc i) xs))
 count_suc test [] i k is = absurd cc
 count_suc test (x ∷ xs) zero k is =
-    sum_by-append (λ (e : Entry). cond (test e.kind) 1 0) (x.entry ∷ []) (entries_of xs)
-    ∙ ap (λ (j : Kind). 0 + cond (test j) 1 0 + count_by (λ (e : Entry). test e.kind) (entries_of xs)) (same_Some x.entry.kind k is)
-    ∙ no_zero (cond (test k) 1 0) (count_by (λ (e : Entry). test e.kind) (entries_of xs))
+    sum_by-append (λ (e : Entry). cond (test e.kind) 1 0) (x.entry ∷ []) (found_entries xs)
+    ∙ ap (λ (j : Kind). 0 + cond (test j) 1 0 + count_by (λ (e : Entry). test e.kind) (found_entries xs)) (same_Some x.entry.kind k is)
+    ∙ no_zero (cond (test k) 1 0) (count_by (λ (e : Entry). test e.kind) (found_entries xs))
 count_suc test (x ∷ xs) (suc i) k is = count_suc test xs i k is
 
-count_next : (test : Kind → Bool) (xs : List Found) (i : ℕ) (k : Kind) (counts : Bool) → option_map (λ (f : Found). f.entry.kind) (slice_get xs i) ≡ Some k → test k ≡ counts → count_by (λ (e : Entry). test e.kind) (entries_of (drop i xs)) ≡ cond counts 1 0 + count_by (λ (e : Entry). test e.kind) (entries_of (drop (i + 1) xs))
+count_next : (test : Kind → Bool) (xs : List Found) (i : ℕ) (k : Kind) (counts : Bool) → option_map (λ (f : Found). f.entry.kind) (slice_get xs i) ≡ Some k → test k ≡ counts → count_by (λ (e : Entry). test e.kind) (found_entries (drop i xs)) ≡ cond counts 1 0 + count_by (λ (e : Entry). test e.kind) (found_entries (drop (i + 1) xs))
 count_next test xs i k counts is told =
     let one : suc i ≡ i + 1 = omega arith in
     count_suc test xs i k is
-    ∙ ap₂ (λ (b : Bool) (n : ℕ). cond b 1 0 + count_by (λ (e : Entry). test e.kind) (entries_of (drop n xs))) told one
+    ∙ ap₂ (λ (b : Bool) (n : ℕ). cond b 1 0 + count_by (λ (e : Entry). test e.kind) (found_entries (drop n xs))) told one
 
 -- the one at a place is
-pub count_yes : (test : Kind → Bool) (xs : List Found) (i : ℕ) (k : Kind) → option_map (λ (f : Found). f.entry.kind) (slice_get xs i) ≡ Some k → test k ≡ true → count_by (λ (e : Entry). test e.kind) (entries_of (drop i xs)) ≡ 1 + count_by (λ (e : Entry). test e.kind) (entries_of (drop (i + 1) xs))
+pub count_yes : (test : Kind → Bool) (xs : List Found) (i : ℕ) (k : Kind) → option_map (λ (f : Found). f.entry.kind) (slice_get xs i) ≡ Some k → test k ≡ true → count_by (λ (e : Entry). test e.kind) (found_entries (drop i xs)) ≡ 1 + count_by (λ (e : Entry). test e.kind) (found_entries (drop (i + 1) xs))
 count_yes test xs i k is told = count_next test xs i k true is told
 
 -- it isn't
-pub count_no : (test : Kind → Bool) (xs : List Found) (i : ℕ) (k : Kind) → option_map (λ (f : Found). f.entry.kind) (slice_get xs i) ≡ Some k → test k ≡ false → count_by (λ (e : Entry). test e.kind) (entries_of (drop i xs)) ≡ count_by (λ (e : Entry). test e.kind) (entries_of (drop (i + 1) xs))
+pub count_no : (test : Kind → Bool) (xs : List Found) (i : ℕ) (k : Kind) → option_map (λ (f : Found). f.entry.kind) (slice_get xs i) ≡ Some k → test k ≡ false → count_by (λ (e : Entry). test e.kind) (found_entries (drop i xs)) ≡ count_by (λ (e : Entry). test e.kind) (found_entries (drop (i + 1) xs))
 count_no test xs i k is told =
-    let n : ℕ = count_by (λ (e : Entry). test e.kind) (entries_of (drop (i + 1) xs)) in
+    let n : ℕ = count_by (λ (e : Entry). test e.kind) (found_entries (drop (i + 1) xs)) in
     let e : 0 + n ≡ n = omega arith in
     count_next test xs i k false is told ∙ e
 
 -- none is left
-pub count_past : (test : Kind → Bool) (xs : List Found) (i : ℕ) → length xs ≤ i → count_by (λ (e : Entry). test e.kind) (entries_of (drop i xs)) ≡ 0
+pub count_past : (test : Kind → Bool) (xs : List Found) (i : ℕ) → length xs ≤ i → count_by (λ (e : Entry). test e.kind) (found_entries (drop i xs)) ≡ 0
 count_past test [] zero past = refl
 count_past test [] (suc i) past = refl
 count_past test (x ∷ xs) zero past = absurd (omega (arith, past))

@@ -7,7 +7,7 @@ use Rattle.fam_base.specs.PathOrder.{path_cmp, path_eq}
 use Rattle.fam_base.specs.declared.entry.Entry.{Entry}
 use Rattle.fam_rules.specs.declared.answers.Checked.{Checked}
 use Rattle.fam_rules.specs.Checks.{entry_eq}
-use Rattle.fam_fsck.specs.Merge.{first_path, with_extra, with_changed, with_pair, with_missing, passed, left, met, behind, compared}
+use Rattle.fam_fsck.specs.Merge.{first_path, with_extra, with_changed, with_pair, with_missing, passed, left, met, listing_after, compared_lists}
 use Rattle.fam_fsck.proofs.EntryTests.{same_test}
 
 -- so many entries may yet be counted
@@ -71,14 +71,14 @@ met_extra t c [] = refl
 met_extra t c (e ∷ ls) =
     elim (path_eq e.path t.path) as (λ b. (cond b (with_pair c t e) (with_missing c t)).extra ≡ c.extra) [ true ↦ pair_extra (entry_eq t e) c e | false ↦ refl ]
 
-met_changed : (t : Entry) (c : Checked) (ls : List Entry) → (met t c ls).changed + length (behind t ls) ≤ c.changed + length ls
+met_changed : (t : Entry) (c : Checked) (ls : List Entry) → (met t c ls).changed + length (listing_after t ls) ≤ c.changed + length ls
 met_changed t c [] = omega arith
 met_changed t c (e ∷ ls) =
     let pair : (with_pair c t e).changed + length ls ≤ c.changed + suc (length ls) = omega (arith, pair_changed (entry_eq t e) c e) in
     let none : c.changed + suc (length ls) ≤ c.changed + suc (length ls) = omega arith in
     elim (path_eq e.path t.path) as (λ b. (cond b (with_pair c t e) (with_missing c t)).changed + length (cond b ls (e ∷ ls)) ≤ c.changed + suc (length ls)) [ true ↦ pair | false ↦ none ]
 
-behind_shorter : (t : Entry) (ls : List Entry) → length (behind t ls) ≤ length ls
+behind_shorter : (t : Entry) (ls : List Entry) → length (listing_after t ls) ≤ length ls
 behind_shorter t [] = omega arith
 behind_shorter t (e ∷ ls) =
     let more : length ls ≤ suc (length ls) = omega arith in
@@ -94,7 +94,7 @@ module _ (c : Checked) (t : Entry) (ts ls : List Entry) (room : HasRoom c (t ∷
   room_changed = omega (arith, room.changed, passed_changed t.path c ls, left_shorter t.path ls)
 
   -- and when it is looked at
-  pub room_more : HasRoom (met t (passed t.path c ls) (left t.path ls)) ts (behind t (left t.path ls))
+  pub room_more : HasRoom (met t (passed t.path c ls) (left t.path ls)) ts (listing_after t (left t.path ls))
   room_more = record {
     missing = omega (arith, room.missing, passed_missing t.path c ls, met_missing t (passed t.path c ls) (left t.path ls));
     extra = omega (arith, room.extra, passed_extra t.path c ls, met_extra t (passed t.path c ls) (left t.path ls), behind_shorter t (left t.path ls));
@@ -126,16 +126,16 @@ module _ (c passed_c met_c : Checked) (t : Entry) (ts ls rest later : List Entry
       subst (λ (d : Checked). d.changed + length rest < 2 ^ 64) (sym counted)
       (subst (λ (l : List Entry). (passed t.path c ls).changed + length l < 2 ^ 64) (sym left_is) (room_changed c t ts ls room))
 
-  module _ (met_is : met_c ≡ met t passed_c rest) (later_is : later ≡ behind t rest) where
+  module _ (met_is : met_c ≡ met t passed_c rest) (later_is : later ≡ listing_after t rest) where
     met_whole : met_c ≡ met t (passed t.path c ls) (left t.path ls)
     met_whole = met_is ∙ ap₂ (met t) counted left_is
 
-    later_whole : later ≡ behind t (left t.path ls)
-    later_whole = later_is ∙ ap (behind t) left_is
+    later_whole : later ≡ listing_after t (left t.path ls)
+    later_whole = later_is ∙ ap (listing_after t) left_is
 
     -- the pass goes on
-    pub one_compared : compared met_c ts later ≡ compared c (t ∷ ts) ls
-    one_compared = ap₂ (λ (d : Checked) (l : List Entry). compared d ts l) met_whole later_whole
+    pub one_compared : compared_lists met_c ts later ≡ compared_lists c (t ∷ ts) ls
+    one_compared = ap₂ (λ (d : Checked) (l : List Entry). compared_lists d ts l) met_whole later_whole
 
     pub one_room : HasRoom c (t ∷ ts) ls → HasRoom met_c ts later
     one_room room =

@@ -16,7 +16,7 @@ use Rattle.fam_format.specs.Tree.{Tree}
 use Rattle.fam_tree.specs.Keyed.{IsKeyed, paths_of}
 use Rattle.fam_rules.specs.declared.answers.Checked.{Checked}
 use Rattle.fam_rules.specs.Checks.{checked, entry_eq, is_other, least_path}
-use Rattle.fam_fsck.specs.Merge.{no_difference, first_path, with_missing, with_extra, with_changed, with_pair, passed, left, met, behind, compared}
+use Rattle.fam_fsck.specs.Merge.{no_difference, first_path, with_missing, with_extra, with_changed, with_pair, passed, left, met, listing_after, compared_lists}
 use Rattle.fam_fsck.proofs.Below.{Below, below_filter, below_append, below_before, at, at_below, at_other, at_here, get_at, replayed_at}
 use Rattle.fam_fsck.proofs.Least.{least_of}
 use Rattle.fam_fsck.proofs.PathTests.{above, same_path}
@@ -183,7 +183,7 @@ left_from path (e ∷ ls) =
     ] refl
 
 -- the tree's first entry beside the listing's
-meet_told : (c : Checked) (t : Entry) (ts ls : List Entry) → Below t.path ts → IsListing ls → From t.path ls → plus (met t c ls) (parts ts (behind t ls)) ≡ plus c (parts (t ∷ ts) ls)
+meet_told : (c : Checked) (t : Entry) (ts ls : List Entry) → Below t.path ts → IsListing ls → From t.path ls → plus (met t c ls) (parts ts (listing_after t ls)) ≡ plus c (parts (t ∷ ts) ls)
 meet_told c t ts [] bt h from = step_missing c ts [] t bt tt
 meet_told c t ts (e ∷ ls) bt h from =
     let more : Below e.path ls = head_below e ls h in
@@ -196,7 +196,7 @@ meet_told c t ts (e ∷ ls) bt h from =
           step_missing c ts (e ∷ ls) t bt (less, below_before t.path e.path ls less more))
     ] refl
 
-behind_sorted : (t : Entry) (ls : List Entry) → IsListing ls → IsListing (behind t ls)
+behind_sorted : (t : Entry) (ls : List Entry) → IsListing ls → IsListing (listing_after t ls)
 behind_sorted t [] h = h
 behind_sorted t (e ∷ ls) h = elim (path_eq e.path t.path) as (λ b. IsListing (cond b ls (e ∷ ls))) [ true ↦ tail_sorted e ls h | false ↦ h ]
 
@@ -213,12 +213,12 @@ rest_told c [] h = same_checked _ _ (nothing_more c.missing) (nothing_more c.ext
 rest_told c (e ∷ ls) h = rest_told (with_extra c e) ls (tail_sorted e ls h) ∙ step_extra c [] ls e tt (head_below e ls h)
 
 -- all of it
-all_told : (ts ls : List Entry) (c : Checked) → IsListing ts → IsListing ls → compared c ts ls ≡ plus c (parts ts ls)
+all_told : (ts ls : List Entry) (c : Checked) → IsListing ts → IsListing ls → compared_lists c ts ls ≡ plus c (parts ts ls)
 all_told [] ls c ht hl = rest_told c ls hl
 all_told (t ∷ ts) ls c ht hl =
     let bt : Below t.path ts = head_below t ts ht in
     let sorted : IsListing (left t.path ls) = left_sorted t.path ls hl in
-    all_told ts (behind t (left t.path ls)) (met t (passed t.path c ls) (left t.path ls)) (tail_sorted t ts ht) (behind_sorted t (left t.path ls) sorted)
+    all_told ts (listing_after t (left t.path ls)) (met t (passed t.path c ls) (left t.path ls)) (tail_sorted t ts ht) (behind_sorted t (left t.path ls) sorted)
     ∙ meet_told (passed t.path c ls) t ts (left t.path ls) bt sorted (left_from t.path ls)
     ∙ pass_told c t.path (t ∷ ts) ls (λ q less. (less, below_before q t.path ts less bt)) hl
 
@@ -236,7 +236,7 @@ told_of_tree tree ls keyed =
     (filter_agree _ _ (λ (e : Entry). ap (λ (o : Option Entry). is_other o e) (sym (get_at tree e.path keyed))) ls)
 
 -- the pass over a tree's entries and a listing is the check of them
-pub compared_is : (tree : Tree) (ls : List Entry) → IsKeyed tree → IsStrictlySortedBy path_cmp (paths_of tree) → IsListing ls → compared no_difference (finmap.values tree) ls ≡ checked tree ls
+pub compared_is : (tree : Tree) (ls : List Entry) → IsKeyed tree → IsStrictlySortedBy path_cmp (paths_of tree) → IsListing ls → compared_lists no_difference (finmap.values tree) ls ≡ checked tree ls
 compared_is tree ls keyed ordered listing =
     all_told (finmap.values tree) ls no_difference ordered listing
     ∙ same_checked _ _ (nothing_before _) (nothing_before _) (nothing_before _) refl

@@ -15,7 +15,7 @@ use Rattle.fam_alloc.proofs.MapLemmas.{overlap_head}
 use Rattle.fam_alloc.proofs.OverlapLemmas.{holds-append}
 use Rattle.fam_rules.specs.Reports.{share_unit, is_overlap, has_unit_twice, overlaps, pairs_after, overlap_of}
 use Rattle.fam_fsck.specs.declared.found.Found.{Found}
-use Rattle.fam_fsck.specs.Found.{pair_of, pairs_of, entries_of}
+use Rattle.fam_fsck.specs.Found.{pair_of, pairs_of, found_entries}
 
 -- One entry more.
 
@@ -88,7 +88,7 @@ none_shared used vs (u ∷ us) has h =
     ap₂ (λ (x y : Bool). x || y) out (none_shared (λ v. (v == u) || used v) vs us (λ v inside. or_right (v == u) (used v) (has v inside)) rest)
 
 -- the last entry overlaps with none before it, nor with itself
-pub none_found : (unit : ℕ) (used : ℕ → Bool) (before : List Found) (last : Found) → ((u : ℕ) → holds (list_units unit (entries_of before)) u ≡ true → used u ≡ true) → first_overlap used (units_in unit last.entry.extents) ≡ None → find (λ (f : Found). overlaps unit (pair_of f, pair_of last)) (before ++ last ∷ []) ≡ None
+pub none_found : (unit : ℕ) (used : ℕ → Bool) (before : List Found) (last : Found) → ((u : ℕ) → holds (list_units unit (found_entries before)) u ≡ true → used u ≡ true) → first_overlap used (units_in unit last.entry.extents) ≡ None → find (λ (f : Found). overlaps unit (pair_of f, pair_of last)) (before ++ last ∷ []) ≡ None
 none_found unit used before last has free = go before has
   where
     own : List ℕ
@@ -103,22 +103,22 @@ none_found unit used before last has free = go before has
       | inr other ↦ rw other apart
     ]
 
-    go : (list : List Found) → ((u : ℕ) → holds (list_units unit (entries_of list)) u ≡ true → used u ≡ true) → find (λ (f : Found). overlaps unit (pair_of f, pair_of last)) (list ++ last ∷ []) ≡ None
+    go : (list : List Found) → ((u : ℕ) → holds (list_units unit (found_entries list)) u ≡ true → used u ≡ true) → find (λ (f : Found). overlaps unit (pair_of f, pair_of last)) (list ++ last ∷ []) ≡ None
     go [] has = rw (let e : overlaps unit (pair_of last, pair_of last) ≡ false = elim (cases_Bool (last.number == last.number)) [ inl same ↦ rw same once | inr other ↦ absurd (false≢true (sym other ∙ same_number)) ] in e) refl
       where
         same_number : (last.number == last.number) ≡ true
         same_number = eq-eqb last.number last.number refl
     go (f ∷ more) has =
         let us : List ℕ = units_in unit f.entry.extents in
-        let rest : List ℕ = list_units unit (entries_of more) in
+        let rest : List ℕ = list_units unit (found_entries more) in
         let parts : (u : ℕ) → holds (us ++ rest) u ≡ (holds us u || holds rest u) = holds-append us rest in
         let apart : share_unit unit f.entry last.entry ≡ false = none_shared used us own (λ u h. has u (parts u ∙ or_left (holds us u) (holds rest u) h)) free in
         rw (test f apart) (go more (λ u h. has u (parts u ∙ or_right (holds us u) (holds rest u) h)))
 
 -- the same over the units of a file system
-pub none_used : (p : Params) (used : ℕ → Bool) (before : List Found) (last : Found) → ((u : ℕ) → used u ≡ is_used p (entries_of before) u) → first_overlap used (units_in p.unit last.entry.extents) ≡ None → find (λ (f : Found). overlaps p.unit (pair_of f, pair_of last)) (before ++ last ∷ []) ≡ None
+pub none_used : (p : Params) (used : ℕ → Bool) (before : List Found) (last : Found) → ((u : ℕ) → used u ≡ is_used p (found_entries before) u) → first_overlap used (units_in p.unit last.entry.extents) ≡ None → find (λ (f : Found). overlaps p.unit (pair_of f, pair_of last)) (before ++ last ∷ []) ≡ None
 none_used p used before last is free =
-    none_found p.unit used before last (λ u h. is u ∙ or_right (nat_lt u (head_units p)) (holds (list_units p.unit (entries_of before)) u) h) free
+    none_found p.unit used before last (λ u h. is u ∙ or_right (nat_lt u (head_units p)) (holds (list_units p.unit (found_entries before)) u) h) free
 
 -- The least pair with one entry more.
 
@@ -139,7 +139,7 @@ pub least_new : (unit : ℕ) (found : List Found) (last : Found) (known result :
 least_new unit found last known result h r = r ∙ ap (λ (o : Option (ℕ × ℕ)). option_or o (partner_pair unit found last)) (sym h)
 
 -- none at all
-pub none_new : (p : Params) (used : ℕ → Bool) (found before : List Found) (last : Found) → found ≡ before ++ last ∷ [] → ((u : ℕ) → used u ≡ is_used p (entries_of before) u) → first_overlap used (units_in p.unit last.entry.extents) ≡ None → None ≡ partner_pair p.unit found last
+pub none_new : (p : Params) (used : ℕ → Bool) (found before : List Found) (last : Found) → found ≡ before ++ last ∷ [] → ((u : ℕ) → used u ≡ is_used p (found_entries before) u) → first_overlap used (units_in p.unit last.entry.extents) ≡ None → None ≡ partner_pair p.unit found last
 none_new p used found before last more is free =
     sym (ap (λ (fs : List Found). partner_pair p.unit fs last) more
     ∙ ap (λ (o : Option Found). option_map (λ (n : ℕ). (n, last.number)) (option_map (λ (f : Found). f.number) o)) (none_used p used before last is free))

@@ -23,7 +23,7 @@ use Rattle.fam_alloc.specs.Taken.{is_taken, taken_units, holds, LieWithin}
 use Rattle.fam_alloc.proofs.OverlapLemmas.{holds-append}
 use Rattle.fam_rules.specs.Reports.{used_count}
 use Rattle.fam_fsck.specs.declared.found.Found.{Found}
-use Rattle.fam_fsck.specs.Found.{pair_of, pairs_of, applied_of, entries_of, found_as, tree_after, LiesWithin}
+use Rattle.fam_fsck.specs.Found.{pair_of, pairs_of, applied_of, found_entries, found_as, tree_after, LiesWithin}
 
 -- Lists.
 
@@ -39,7 +39,7 @@ applied_as_before : (list : List Found) (i : ℕ) (e : Entry) (r : Reason) → a
 applied_as_before list i e r =
     ap (map (λ (f : Found). f.entry)) (filter-append (λ (f : Found). f.applies) list (found_as i e (Some r) ∷ []) ∙ append-nil (filter (λ (f : Found). f.applies) list))
 
-entries_one_more : (list : List Found) (i : ℕ) (e : Entry) (fault : Option Reason) → entries_of (list ++ found_as i e fault ∷ []) ≡ entries_of list ++ e ∷ []
+entries_one_more : (list : List Found) (i : ℕ) (e : Entry) (fault : Option Reason) → found_entries (list ++ found_as i e fault ∷ []) ≡ found_entries list ++ e ∷ []
 entries_one_more list i e fault =
     ap (map (λ (f : ℕ × Entry). f.1)) (pairs_one_more list i e fault) ∙ map-append (λ (f : ℕ × Entry). f.1) (pairs_of list) ((i, e) ∷ [])
 
@@ -68,13 +68,13 @@ or_assoc true y z = refl
 or_assoc false y z = refl
 
 -- and used after it
-pub used_more : (p : Params) (list : List Found) (i : ℕ) (e : Entry) (fault : Option Reason) (u : ℕ) → (is_used p (entries_of list) u || holds (units_in p.unit e.extents) u) ≡ is_used p (entries_of (list ++ found_as i e fault ∷ [])) u
+pub used_more : (p : Params) (list : List Found) (i : ℕ) (e : Entry) (fault : Option Reason) (u : ℕ) → (is_used p (found_entries list) u || holds (units_in p.unit e.extents) u) ≡ is_used p (found_entries (list ++ found_as i e fault ∷ [])) u
 used_more p list i e fault u =
-    let us : List ℕ = list_units p.unit (entries_of list) in
+    let us : List ℕ = list_units p.unit (found_entries list) in
     let own : List ℕ = units_in p.unit e.extents in
-    let longer : list_units p.unit (entries_of (list ++ found_as i e fault ∷ [])) ≡ us ++ own =
+    let longer : list_units p.unit (found_entries (list ++ found_as i e fault ∷ [])) ≡ us ++ own =
     ap (list_units p.unit) (entries_one_more list i e fault)
-    ∙ flat_map-append (λ (x : Entry). units_in p.unit x.extents) (entries_of list) (e ∷ [])
+    ∙ flat_map-append (λ (x : Entry). units_in p.unit x.extents) (found_entries list) (e ∷ [])
     ∙ ap (λ (vs : List ℕ). us ++ vs) (append-nil own) in
     sym (or_assoc (nat_lt u (head_units p)) (holds us u) (holds own u))
     ∙ ap (λ (b : Bool). nat_lt u (head_units p) || b) (sym (holds-append us own u) ∙ ap (λ (vs : List ℕ). holds vs u) (sym longer))

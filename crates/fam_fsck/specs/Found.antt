@@ -40,14 +40,14 @@ abbrev pub found_as : ℕ → Entry → Option Reason → Found
 found_as number e fault = record { number = number; entry = e; applies = applies_where fault }
 
 -- an entry with what is told of it beside
-abbrev pub marked : Entry → Mark → Found
-marked e m = record { number = m.number; entry = e; applies = m.applies }
+abbrev pub with_mark : Entry → Mark → Found
+with_mark e m = record { number = m.number; entry = e; applies = m.applies }
 
 -- entries, each with the mark at its place
 abbrev pub found_of : List Entry → List Mark → List Found
 found_of [] marks = []
 found_of (e ∷ es) [] = []
-found_of (e ∷ es) (m ∷ ms) = marked e m ∷ found_of es ms
+found_of (e ∷ es) (m ∷ ms) = with_mark e m ∷ found_of es ms
 
 -- an entry joined the tree where it applies, and it is noted why it doesn't
 pub record HasJoined (old : Joined) (e : Entry) (new : Joined) : Type 0 where
@@ -55,8 +55,8 @@ pub record HasJoined (old : Joined) (e : Entry) (new : Joined) : Type 0 where
   pub tree : new.tree ≡ tree_after new.fault old.tree e
 
 -- the entries that were found
-abbrev pub entries_of : List Found → List Entry
-entries_of found = map (λ f. f.1) (pairs_of found)
+abbrev pub found_entries : List Found → List Entry
+found_entries found = map (λ f. f.1) (pairs_of found)
 
 -- entries of a file system
 pub record Finds : Type 0 where

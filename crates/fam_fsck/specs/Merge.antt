@@ -46,12 +46,12 @@ abbrev pub met : Entry → Checked → List Entry → Checked
 met t c [] = with_missing c t
 met t c (e ∷ more) = if path_eq e.path t.path then with_pair c t e else with_missing c t
 
--- the listing behind it
-abbrev pub behind : Entry → List Entry → List Entry
-behind t [] = []
-behind t (e ∷ more) = if path_eq e.path t.path then more else e ∷ more
+-- the listing listing_after it
+abbrev pub listing_after : Entry → List Entry → List Entry
+listing_after t [] = []
+listing_after t (e ∷ more) = if path_eq e.path t.path then more else e ∷ more
 
 -- the entries of a tree beside a listing; what is left of the listing at last is extra
-abbrev pub compared : Checked → List Entry → List Entry → Checked
-compared c [] listing = fold with_extra c listing
-compared c (t ∷ more) listing = compared (met t (passed t.path c listing) (left t.path listing)) more (behind t (left t.path listing))
+abbrev pub compared_lists : Checked → List Entry → List Entry → Checked
+compared_lists c [] listing = fold with_extra c listing
+compared_lists c (t ∷ more) listing = compared_lists (met t (passed t.path c listing) (left t.path listing)) more (listing_after t (left t.path listing))

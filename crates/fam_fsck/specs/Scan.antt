@@ -10,7 +10,7 @@ use Rattle.fam_format.specs.declared.faults.Reason.{Reason}
 use Rattle.fam_alloc.specs.Taken.{is_taken}
 use Rattle.fam_rules.specs.Reports.{Survey, no_survey, survey_slot, first_bad, overlap_of}
 use Rattle.fam_fsck.specs.declared.found.Found.{Found}
-use Rattle.fam_fsck.specs.Found.{pairs_of, applied_of, entries_of, LiesWithin}
+use Rattle.fam_fsck.specs.Found.{pairs_of, applied_of, found_entries, LiesWithin}
 
 -- a survey under way
 pub record Scan : Type 0 where
@@ -38,8 +38,8 @@ bad_after bad i None = bad
 bad_after bad i (Some reason) = first_bad bad i reason
 
 -- the survey of what was found
-abbrev pub survey_of : List Found → Option (ℕ × Reason) → ℕ → Survey
-survey_of found bad past =
+abbrev pub scanned_survey : List Found → Option (ℕ × Reason) → ℕ → Survey
+scanned_survey found bad past =
     record { found = pairs_of found; applied = applied_of found; bad = bad; past = past }
 
 -- how the parts of `Findings` hang together
@@ -48,7 +48,7 @@ pub record AreFindings (p : Params) (held : Tree) (found : List Found) (map : Li
   pub tree : held ≡ replay (applied_of found)
   pub placed : All (LiesWithin p.unit (length map)) found
   pub units : length map ≡ device_units p
-  pub used : (u : ℕ) → is_taken map u ≡ is_used p (entries_of found) u
+  pub used : (u : ℕ) → is_taken map u ≡ is_used p (found_entries found) u
   pub overlap : pair ≡ overlap_of p.unit (pairs_of found)
 
 -- how the parts of a `Fsck` hang together

@@ -9,7 +9,7 @@ ghost use Rattle.fam_format.specs.Params.{SoundParams};
 ghost use Rattle.fam_format.specs.Slot.{Proper};
 ghost use Rattle.fam_format.specs.Tree.{replay, tree_fault};
 ghost use Rattle.fam_rules.specs.Reports.{is_directory, is_file, overlap_of, used_count};
-ghost use Rattle.fam_fsck.specs.Found.{applied_of, entries_of, first_finds, found_as, pairs_of, with_found};
+ghost use Rattle.fam_fsck.specs.Found.{applied_of, found_entries, first_finds, found_as, pairs_of, with_found};
 
 use crate::found::{count_directories, count_files, cover, least_overlap};
 use crate::found_list::FoundList;
@@ -91,21 +91,21 @@ impl Findings {
 
     /// How many of the entries are files.
     pub fn files(&self) -> u64
-        ensures { result ≡ count_by (λ e. is_file e.kind) (entries_of self.now.found) }
+        ensures { result ≡ count_by (λ e. is_file e.kind) (found_entries self.now.found) }
     {
         count_files(&self.found)
     }
 
     /// How many of them are directories.
     pub fn directories(&self) -> u64
-        ensures { result ≡ count_by (λ e. is_directory e.kind) (entries_of self.now.found) }
+        ensures { result ≡ count_by (λ e. is_directory e.kind) (found_entries self.now.found) }
     {
         count_directories(&self.found)
     }
 
     /// How many units superblock, log and these entries use.
     pub fn used(&self) -> u64
-        ensures count { result ≡ used_count self.now.params (entries_of self.now.found) }
+        ensures count { result ≡ used_count self.now.params (found_entries self.now.found) }
         ensures within { result ≤ device_units self.now.params }
     {
         self.used.count()

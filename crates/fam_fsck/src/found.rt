@@ -8,7 +8,7 @@ ghost use Rattle.fam_format.specs.declared.faults.Reason.{Reason};
 ghost use Rattle.fam_alloc.specs.Taken.{holds, is_taken, LieWithin};
 ghost use Rattle.fam_rules.specs.Reports.{is_file, is_directory, overlap_of, overlaps};
 ghost use Rattle.fam_fsck.specs.declared.found.Found.{Found};
-ghost use Rattle.fam_fsck.specs.Found.{entries_of, found_as, LiesWithin, pair_of, pairs_of};
+ghost use Rattle.fam_fsck.specs.Found.{found_entries, found_as, LiesWithin, pair_of, pairs_of};
 
 use crate::found_list::FoundList;
 use fam_alloc::{MOST_UNITS, UsedUnits, repeats_unit, shares_unit};
@@ -117,7 +117,7 @@ pub fn least_overlap(
     requires second { LieWithin unit (length used.now) last.now.extents }
     ensures { (p : Params) (before : List Found) (fault : Option Reason) → p.unit ≡ unit
         → found.now ≡ before ++ found_as number last.now fault ∷ []
-        → ((u : ℕ) → is_taken used.now u ≡ is_used p (entries_of before) u)
+        → ((u : ℕ) → is_taken used.now u ≡ is_used p (found_entries before) u)
         → known ≡ overlap_of unit (pairs_of before) → result ≡ overlap_of unit (pairs_of found.now) }
 {
     if let Some(pair) = known {
@@ -148,7 +148,7 @@ fn is_directory(kind: Kind) -> bool
 
 /// How many of the entries are files.
 pub fn count_files(found: &FoundList) -> u64
-    ensures { result ≡ count_by (λ e. is_file e.kind) (entries_of found.now) }
+    ensures { result ≡ count_by (λ e. is_file e.kind) (found_entries found.now) }
 {
     let mut count = 0;
     for place in 0..found.len() {
@@ -161,7 +161,7 @@ pub fn count_files(found: &FoundList) -> u64
 
 /// How many of them are directories.
 pub fn count_directories(found: &FoundList) -> u64
-    ensures { result ≡ count_by (λ e. is_directory e.kind) (entries_of found.now) }
+    ensures { result ≡ count_by (λ e. is_directory e.kind) (found_entries found.now) }
 {
     let mut count = 0;
     for place in 0..found.len() {

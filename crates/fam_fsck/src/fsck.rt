@@ -29,7 +29,7 @@ pub struct Fsck {
 }
 
 impl Model for Fsck {
-    ghost use Rattle.fam_fsck.specs.Scan.{HangsTogether, Scan, survey_of};
+    ghost use Rattle.fam_fsck.specs.Scan.{HangsTogether, Scan, scanned_survey};
 
     ghost Value = { Scan };
 
@@ -37,7 +37,7 @@ impl Model for Fsck {
       params = f.findings.params;
       gate = f.gate;
       added = f.added;
-      survey = survey_of f.findings.found f.bad f.past;
+      survey = scanned_survey f.findings.found f.bad f.past;
     } };
 
     ghost invariant = { λ f. HangsTogether f.findings.params f.added f.past };

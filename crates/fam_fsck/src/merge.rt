@@ -4,7 +4,7 @@
 ghost use Rattle.std.specs.Prelude.{◌≡◌, ◌+◌, ◌^◌, ◌<◌, fold, length};
 ghost use Rattle.fam_base.specs.Commands.{IsListing};
 ghost use Rattle.fam_rules.specs.Checks.{checked};
-ghost use Rattle.fam_fsck.specs.Merge.{behind, first_path, left, met, passed, with_extra, with_missing, with_pair};
+ghost use Rattle.fam_fsck.specs.Merge.{listing_after, first_path, left, met, passed, with_extra, with_missing, with_pair};
 
 use fam_base::{Entry, Path};
 use fam_rules::Checked;
@@ -71,7 +71,7 @@ fn meet<'a>(checked: &mut Checked, entry: &Entry, listing: &'a [Entry]) -> &'a [
     requires missing { checked.old.missing + 1 < 2 ^ 64 }
     requires changed { checked.old.changed + length listing.now < 2 ^ 64 }
     ensures counted { checked.new ≡ met entry.now checked.old listing.now }
-    ensures rest { result.now ≡ behind entry.now listing.now }
+    ensures rest { result.now ≡ listing_after entry.now listing.now }
 {
     match listing {
         [listed, more @ ..] if listed.path == entry.path => {

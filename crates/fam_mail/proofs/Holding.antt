@@ -25,7 +25,7 @@ use Rattle.fam_mail.specs.Machines.{IsTaskCut, IsTaskServed, MailMachines, host_
 use Rattle.fam_mail.specs.Mail.{Mail, TaskMaySay, TaskRun, floor_behind_turn}
 use Rattle.fam_mail.specs.Protocol.{BoxInvariant}
 use Rattle.fam_mail.specs.Standing.{MailPast, MailStands, box_in, mail_past_after, run_by, runs_of_hosts, shared}
-use Rattle.fam_mail.specs.Tasks.{MailTask, ends_task, task_op, phase_task, next_task, task_turn}
+use Rattle.fam_mail.specs.Tasks.{MailTask, ends_mail_task, task_op, phase_task, next_task, mail_turn}
 use Rattle.fam_mail.specs.World.{MailHost, MailView, changed_member, member_place, is_named}
 use Rattle.fam_mail.proofs.Events.{fewer_hold}
 use Rattle.fam_mail.proofs.Journals.{IsPlain, legal_both, legal_due, others_floor, state_both, turn_asked, turn_floor, turn_legal, turn_mail}
@@ -224,7 +224,7 @@ module _ (entry : Entry) (start : Image) (records : List (List ℕ)) where
         let o = task_op (file_line entry) t in
         let x = machine m.memory host.cache in
         let word = word_given o x in
-        let turn = task_turn word t in
+        let turn = mail_turn word t in
         let made = notes_of_turn name turn in
         let next = host_behind host t word (operated o x).cache in
         let image' = (operated o x).image in
@@ -246,7 +246,7 @@ module _ (entry : Entry) (start : Image) (records : List (List ℕ)) where
         (λ k y is ne. ap (λ (z : MailState). z.floor y.name) state_is ∙ others_floor c name s y.name (others k y is ne) turn
         ∙ sym (ap (λ (b : Bool). cond b (floor_behind_turn turn (length s.mail.list) (past.floors n)) (past.floors k)) (ne_eqb k n ne) ∙ ap (λ (q : Option MailHost). floor_told q s) is))
         (λ t' is. ap (λ (z : MailState). z.asked host.name) state_is ∙ ap (λ (f : List ℕ → Option Ask). f host.name) (turn_asked c name s turn) ∙ held.asked n host t host_is task_is
-        ∙ ap (λ (a : Ask). Some a) (sym (asked_at t.phase word t) ∙ kept_ask (ends_task turn) (next_task word t) t' is))
+        ∙ ap (λ (a : Ask). Some a) (sym (asked_at t.phase word t) ∙ kept_ask (ends_mail_task turn) (next_task word t) t' is))
         (λ k y t' is task ne. ap (λ (z : MailState). z.asked y.name) state_is ∙ ap (λ (f : List ℕ → Option Ask). f y.name) (turn_asked c name s turn) ∙ held.asked k y t' is task) in
         subst (λ (q : MailMachines). IsMailHeld entry start records q (journal ++ notes)) (sym served.left)
         (subst (λ (ns : List MailNote). IsMailHeld entry start records (with_host_at n next image' m) (journal ++ ns)) (sym served.notes_are) here)

@@ -21,7 +21,7 @@ use Rattle.fam_mail.specs.Calls.{HostFinishes, HostOperates, HostRuns, TaskBreak
 use Rattle.fam_mail.specs.Happens.{AreByWords, HasMailCounted, mail_faults}
 use Rattle.fam_mail.specs.Machines.{MailOperation, MailOperations, host_behind, more, none, word_given}
 use Rattle.fam_mail.specs.Records.{wrong_word}
-use Rattle.fam_mail.specs.Tasks.{MailTask, loaded_gate_turn, ends_task, task_op, record_turn, records_with, next_task, phase_turn, task_turn, words_with}
+use Rattle.fam_mail.specs.Tasks.{MailTask, loaded_gate_turn, ends_mail_task, task_op, record_turn, records_with, next_task, phase_turn, mail_turn, words_with}
 use Rattle.fam_mail.specs.World.{MailHost, changed_member}
 use Rattle.fam_mail.proofs.Finishing.{changed_twice}
 use Rattle.fam_mail.proofs.Members.{changed_here}
@@ -37,7 +37,7 @@ pub task_left : (entry : Entry) (name : List ℕ) (host : MailHost) (t : MailTas
     → TaskServes entry name host t told over next notes ⊎ TaskBreaks entry name host t told over next notes
     → is_some next.task ≡ not over
 task_left entry name host t told over next notes (inl s) =
-    ap (λ (h : MailHost). is_some h.task) s.next_is ∙ kept_there (ends_task (task_turn s.word t)) (next_task s.word t) ∙ ap not (sym s.over_is)
+    ap (λ (h : MailHost). is_some h.task) s.next_is ∙ kept_there (ends_mail_task (mail_turn s.word t)) (next_task s.word t) ∙ ap not (sym s.over_is)
 task_left entry name host t told over next notes (inr b) = ap (λ (h : MailHost). is_some h.task) b.next_is ∙ ap not (sym b.over_is)
 
 -- a host that goes on has its task
@@ -65,7 +65,7 @@ module _ (entry : Entry) (name : List ℕ) (at : ℕ) (host next : MailHost) (to
       let m = machine image host.cache in
       let word : s.word ≡ word_given o m = s.word_is image is in
       let next_is : next ≡ host_behind host t (word_given o m) (operated o m).cache =
-      s.next_is ∙ ap₂ (λ (w : ℕ) (k : Cache). record host { cache = k; task = kept_task (task_turn w t) (next_task w t) }) word (s.done image is).cache in
+      s.next_is ∙ ap₂ (λ (w : ℕ) (k : Cache). record host { cache = k; task = kept_task (mail_turn w t) (next_task w t) }) word (s.done image is).cache in
       record {
         left = (operated o m).image;
         shown_is = (s.done image is).image;
@@ -75,7 +75,7 @@ module _ (entry : Entry) (name : List ℕ) (at : ℕ) (host next : MailHost) (to
           task = t;
           task_is = operates.task_is;
           how = inl (record {
-            notes_are = s.notes_are ∙ ap (λ (w : ℕ). notes_of_turn name (task_turn w t)) word;
+            notes_are = s.notes_are ∙ ap (λ (w : ℕ). notes_of_turn name (mail_turn w t)) word;
             left = ap (λ (h : MailHost). record { memory = (operated o m).image; hosts = changed_member at (λ (x : MailHost). h) hosts }) next_is;
           });
         };
@@ -161,7 +161,7 @@ pub operated_counted : (entry : Entry) (name : List ℕ) (host : MailHost) (told
 operated_counted entry name host told over next notes operates = by operates.how
   where
     by : TaskServes entry name host operates.task told over next notes ⊎ TaskBreaks entry name host operates.task told over next notes → HasMailCounted told.old.faults told.new.faults notes
-    by (inl s) = quiet_counted told.old.faults told.new.faults notes (ap mail_faults s.notes_are ∙ quiet_turn name (task_turn s.word operates.task)) operates.later
+    by (inl s) = quiet_counted told.old.faults told.new.faults notes (ap mail_faults s.notes_are ∙ quiet_turn name (mail_turn s.word operates.task)) operates.later
     by (inr b) = rose_counted told.old.faults told.new.faults notes (ap mail_faults b.notes_are) b.rose
 
 -- operations that don't end the task note no fault
@@ -170,7 +170,7 @@ quiet_going : (entry : Entry) (name : List ℕ) (host : MailHost) (told : MediaC
 quiet_going entry name host told next notes operates = by operates.how
   where
     by : TaskServes entry name host operates.task told false next notes ⊎ TaskBreaks entry name host operates.task told false next notes → mail_faults notes ≡ 0
-    by (inl s) = ap mail_faults s.notes_are ∙ quiet_turn name (task_turn s.word operates.task)
+    by (inl s) = ap mail_faults s.notes_are ∙ quiet_turn name (mail_turn s.word operates.task)
     by (inr b) = absurd (let e = b.over_is in cc)
 
 -- nor do many of them

@@ -26,7 +26,7 @@ use Rattle.fam_mail.specs.Legal.{LegalMail, LegalMailBehind, MayCome, MayTakeLis
 use Rattle.fam_mail.specs.Machines.{IsTaskCut, IsTaskServed, MailMachines, MailOperation, MailOperations, has_task_at, host_behind, has_own_task, host_machine, more, none, unused_machines, word_given}
 use Rattle.fam_mail.specs.Mail.{Mail, pending_dropped, pending_joined, pending_list, whole}
 use Rattle.fam_mail.specs.RunLaws.{AreNoMarks, TaskAnswers, IsBoxAtFirst, IsBoxLeft, IsNoMark, IsMailRefused, IsTakenList, LastMark}
-use Rattle.fam_mail.specs.Tasks.{ends_task, task_op, next_task, task_turn}
+use Rattle.fam_mail.specs.Tasks.{ends_mail_task, task_op, next_task, mail_turn}
 use Rattle.fam_mail.specs.World.{MailHost, MailView}
 use Rattle.fam_mail.proofs.Calling.{has_task}
 use Rattle.fam_mail.proofs.Following.{Named, begun_held, begun_named, follows_held, found_cause, found_name, operation_held, operations_held}
@@ -207,7 +207,7 @@ legal_behind capacity s [] b legal = legal
 legal_behind capacity s (x ∷ a) b legal = legal_behind capacity (mail_state_behind capacity s x) a b legal.1
 
 -- the notes of a turn that ends a task
-turn_answers : (capacity : ℕ) (s : MailState) (name : List ℕ) (t : Turn) → ends_task t ≡ true → LegalMailBehind capacity s (notes_of_turn name t) → TaskAnswers name (notes_of_turn name t)
+turn_answers : (capacity : ℕ) (s : MailState) (name : List ℕ) (t : Turn) → ends_mail_task t ≡ true → LegalMailBehind capacity s (notes_of_turn name t) → TaskAnswers name (notes_of_turn name t)
 turn_answers capacity s name turn.Go over legal = absurd cc
 turn_answers capacity s name turn.Mark over legal = absurd cc
 turn_answers capacity s name (turn.Found n) over legal = absurd cc
@@ -247,9 +247,9 @@ module _ (entry : Entry) (start : Image) (records : List (List ℕ)) where
           let next = host_behind op.host op.task word (operated o x).cache in
           let left : has_task_at n new ≡ is_some next.task = ap (λ (q : MailMachines). has_task_at n q) served.left
           ∙ ap has_own_task (changed_here n (λ (h : MailHost). next) m.hosts op.host op.host_is) in
-          let over : ends_task (task_turn word op.task) ≡ true = over_of (ends_task (task_turn word op.task)) next.task (next_task word op.task) refl (sym left ∙ idle) in
+          let over : ends_mail_task (mail_turn word op.task) ≡ true = over_of (ends_mail_task (mail_turn word op.task)) next.task (next_task word op.task) refl (sym left ∙ idle) in
           subst (TaskAnswers name) (sym served.notes_are)
-          (turn_answers (capacity_of entry.size) (mail_state (capacity_of entry.size) records journal) name (task_turn word op.task) over
+          (turn_answers (capacity_of entry.size) (mail_state (capacity_of entry.size) records journal) name (mail_turn word op.task) over
           (subst (LegalMailBehind (capacity_of entry.size) (mail_state (capacity_of entry.size) records journal)) served.notes_are legal))
       by (inr cut) = absurd (let one : mail_faults notes ≡ 1 = ap mail_faults cut.notes_are in omega (arith, one, quiet))
 

@@ -24,7 +24,7 @@ use Rattle.fam_mail.specs.declared.phase.Phase.{Phase}
 use Rattle.fam_mail.specs.declared.phase.Phase.TheVariants as at
 use Rattle.fam_mail.specs.Protocol.{AtMailPhase, Box, BoxCore, BoxInvariant, TurnHolds}
 use Rattle.fam_mail.specs.Standing.{MailPast, SaysSo, MailStands, StandsStill, box_in, held_by, mail_past_after, run_by, runs_of_hosts, shared}
-use Rattle.fam_mail.specs.Tasks.{MailTask, ends_task, phase_op, task_op, next_task, task_turn}
+use Rattle.fam_mail.specs.Tasks.{MailTask, ends_mail_task, phase_op, task_op, next_task, mail_turn}
 use Rattle.fam_mail.specs.declared.turn.Turn.{Turn}
 use Rattle.fam_mail.specs.World.{MailHost, MailView, changed_member, member_place_from, is_writer}
 use Rattle.fam_mail.proofs.Events.{breaks_hold, fewer_hold}
@@ -109,12 +109,12 @@ module _ (rest : ℕ → List ℕ) (v : MailView) (past : MailPast) (image : Ima
       (stands.tasks host_no (record { task = t; floor = past.floors host_no }) run_is).phase)
 
   -- the task that a turn leaves
-  run_left : (over : Bool) (turn : Turn) (word : ℕ) (floor : Option ℕ) → ends_task turn ≡ over
+  run_left : (over : Bool) (turn : Turn) (word : ℕ) (floor : Option ℕ) → ends_mail_task turn ≡ over
       → option_map {U = TaskRun} (λ (x : MailTask). record { task = x; floor = floor }) (cond over None (Some (next_task word t))) ≡ cond over None (Some (record { task = next_task word t; floor = floor }))
   run_left true turn word floor is = refl
   run_left false turn word floor is = refl
 
-  module _ (word : ℕ) (next_is : next ≡ record host { cache = next.cache; task = kept_task (task_turn word t) (next_task word t) }) (now : Option Image)
+  module _ (word : ℕ) (next_is : next ≡ record host { cache = next.cache; task = kept_task (mail_turn word t) (next_task word t) }) (now : Option Image)
       (done : IsMachine (operated (task_op (file_line v.entry) t) (machine image host.cache)) now next.cache)
       (word_is : word ≡ unwrap_or (given (task_op (file_line v.entry) t) (machine image host.cache)) 0) where
     image' : Image
@@ -124,23 +124,23 @@ module _ (rest : ℕ → List ℕ) (v : MailView) (past : MailPast) (image : Ima
     hosts' = changed_member host_no (λ (x : MailHost). next) v.hosts
 
     floor' : Option ℕ
-    floor' = floor_behind_turn (task_turn word t) (length past.mail.list) (past.floors host_no)
+    floor' = floor_behind_turn (mail_turn word t) (length past.mail.list) (past.floors host_no)
 
-    left_run : runs_of_hosts (changed_member host_no (λ (x : MailHost). next) v.hosts) (mail_past_after host_no (task_turn word t) t.ask past).floors host_no ≡ run_behind_turn (task_turn word t) (length past.mail.list) word (record { task = t; floor = past.floors host_no })
+    left_run : runs_of_hosts (changed_member host_no (λ (x : MailHost). next) v.hosts) (mail_past_after host_no (mail_turn word t) t.ask past).floors host_no ≡ run_behind_turn (mail_turn word t) (length past.mail.list) word (record { task = t; floor = past.floors host_no })
     left_run =
         ap₂ run_by (changed_here host_no (λ (x : MailHost). next) v.hosts host host_is)
-        (ap (λ (b : Bool). if b then floor_behind_turn (task_turn word t) (length past.mail.list) (past.floors host_no) else past.floors host_no) (eq-eqb host_no host_no refl))
-        ∙ ap (λ (x : MailHost). option_map (λ (y : MailTask). record { task = y; floor = floor_behind_turn (task_turn word t) (length past.mail.list) (past.floors host_no) }) x.task) next_is
-        ∙ run_left (ends_task (task_turn word t)) (task_turn word t) word (floor_behind_turn (task_turn word t) (length past.mail.list) (past.floors host_no)) refl
+        (ap (λ (b : Bool). if b then floor_behind_turn (mail_turn word t) (length past.mail.list) (past.floors host_no) else past.floors host_no) (eq-eqb host_no host_no refl))
+        ∙ ap (λ (x : MailHost). option_map (λ (y : MailTask). record { task = y; floor = floor_behind_turn (mail_turn word t) (length past.mail.list) (past.floors host_no) }) x.task) next_is
+        ∙ run_left (ends_mail_task (mail_turn word t)) (mail_turn word t) word (floor_behind_turn (mail_turn word t) (length past.mail.list) (past.floors host_no)) refl
 
     other_runs : (h : ℕ) → h ≢ host_no
-        → runs_of_hosts (changed_member host_no (λ (x : MailHost). next) v.hosts) (mail_past_after host_no (task_turn word t) t.ask past).floors h ≡ runs_of_hosts v.hosts past.floors h
+        → runs_of_hosts (changed_member host_no (λ (x : MailHost). next) v.hosts) (mail_past_after host_no (mail_turn word t) t.ask past).floors h ≡ runs_of_hosts v.hosts past.floors h
     other_runs h ne =
         ap₂ run_by (changed_other host_no h (λ (x : MailHost). next) v.hosts ne)
-        (ap (λ (b : Bool). if b then floor_behind_turn (task_turn word t) (length past.mail.list) (past.floors host_no) else past.floors h) (ne_eqb h host_no ne))
+        (ap (λ (b : Bool). if b then floor_behind_turn (mail_turn word t) (length past.mail.list) (past.floors host_no) else past.floors h) (ne_eqb h host_no ne))
 
     step_stands : TurnHolds (box_in v rest) word past.mail (record { task = t; floor = past.floors host_no })
-        (runs_of_hosts (changed_member host_no (λ (x : MailHost). next) v.hosts) (mail_past_after host_no (task_turn word t) t.ask past).floors)
+        (runs_of_hosts (changed_member host_no (λ (x : MailHost). next) v.hosts) (mail_past_after host_no (mail_turn word t) t.ask past).floors)
         (shared (operated (task_op (file_line v.entry) t) (machine image host.cache)).image (changed_member host_no (λ (x : MailHost). next) v.hosts))
     step_stands =
         let o = task_op (file_line v.entry) t in
@@ -148,7 +148,7 @@ module _ (rest : ℕ → List ℕ) (v : MailView) (past : MailPast) (image : Ima
         let s' = shared (operated o m).image (changed_member host_no (λ (x : MailHost). next) v.hosts) in
         let act = acts rest v host_no host next host_is image (operated o m).image (operated o m) refl done.cache (ap (λ (x : MailHost). x.writer) next_is) in
         step_holds (box_in v rest) host_no word past.mail (record { task = t; floor = past.floors host_no }) (runs_of_hosts v.hosts past.floors)
-        (runs_of_hosts (changed_member host_no (λ (x : MailHost). next) v.hosts) (mail_past_after host_no (task_turn word t) t.ask past).floors) (shared image v.hosts) s' stands
+        (runs_of_hosts (changed_member host_no (λ (x : MailHost). next) v.hosts) (mail_past_after host_no (mail_turn word t) t.ask past).floors) (shared image v.hosts) s' stands
         (record {
           is = run_is;
           operates = subst (λ (w : ℕ). Rattle.fam_protocol.specs.SharedState.Operates o host_no (shared image v.hosts) s' w) (sym word_is)
@@ -163,8 +163,8 @@ module _ (rest : ℕ → List ℕ) (v : MailView) (past : MailPast) (image : Ima
       says = step_stands.says;
       image = (operated (task_op (file_line v.entry) t) (machine image host.cache)).image;
       told = done.image;
-      stands = subst (λ (b : Box). BoxInvariant b (runs_of_hosts (changed_member host_no (λ (x : MailHost). next) v.hosts) (mail_past_after host_no (task_turn word t) t.ask past).floors)
-          (shared (operated (task_op (file_line v.entry) t) (machine image host.cache)).image (changed_member host_no (λ (x : MailHost). next) v.hosts)) (settles (task_turn word t) t.ask past.mail))
+      stands = subst (λ (b : Box). BoxInvariant b (runs_of_hosts (changed_member host_no (λ (x : MailHost). next) v.hosts) (mail_past_after host_no (mail_turn word t) t.ask past).floors)
+          (shared (operated (task_op (file_line v.entry) t) (machine image host.cache)).image (changed_member host_no (λ (x : MailHost). next) v.hosts)) (settles (mail_turn word t) t.ask past.mail))
           (sym (same_box rest v host_no host next host_is image (operated (task_op (file_line v.entry) t) (machine image host.cache)).image
           (operated (task_op (file_line v.entry) t) (machine image host.cache)) refl done.cache
           (ap (λ (x : MailHost). x.writer) next_is) journal))

@@ -27,7 +27,7 @@ use Rattle.fam_mail.specs.declared.turn.Turn.TheVariants.{Go, Mark, Found, Poste
 use Rattle.fam_mail.specs.Mail.{IsFront, Mail, MayFind, TaskMaySay, TaskRun, floor_behind_turn, records_found, pending_joined, pending_list, posted_by, settles, whole}
 use Rattle.fam_mail.specs.Protocol.{AtMailPhase, AtRecord, Box, BoxCore, HasStoredGate, BoxInvariant, IsReading, IsWriters, IsPosting, LoadsGate, TaskRuns, TurnHolds, TakesTurn, RunHolds, gate_at, top_at}
 use Rattle.fam_mail.specs.Records.{IsRecord, numbers_in, numbers_or, record_in, wrong_word}
-use Rattle.fam_mail.specs.Tasks.{IsPost, MailTask, loaded_gate_turn, ends_task, posted_line, phase_op, record_turn, records_with, phase_task, next_task, phase_turn, task_turn, words_with}
+use Rattle.fam_mail.specs.Tasks.{IsPost, MailTask, loaded_gate_turn, ends_mail_task, posted_line, phase_op, record_turn, records_with, phase_task, next_task, phase_turn, mail_turn, words_with}
 use Rattle.fam_mail.proofs.Keeping.{Keeps, phase_kept, task_kept}
 use Rattle.fam_mail.proofs.Lists.{by_equal, by_equal_both, few_listed, front_member, take_member}
 use Rattle.fam_mail.proofs.Moving.{core_moved, gate_moved, keeps_moved, keeps_same, sends_keep}
@@ -40,7 +40,7 @@ pub record Acted (b : Box) (host : ℕ) (floor : Option ℕ) (m : Mail) (s s' : 
   pub says : TaskMaySay turn ask floor m b.capacity
   pub core : BoxCore b s' (settles turn ask m)
   pub others : (h : ℕ) → h ≢ host → (r : TaskRun) → RunHolds b h r s m → RunHolds b h r s' (settles turn ask m)
-  pub mine : ends_task turn ≡ false → AtMailPhase next.phase b host (floor_behind_turn turn (length m.list) floor) next s' (settles turn ask m)
+  pub mine : ends_mail_task turn ≡ false → AtMailPhase next.phase b host (floor_behind_turn turn (length m.list) floor) next s' (settles turn ask m)
 
 -- the line that a post stores has eight words
 line_long : (ask : Ask) (numbers : List ℕ) → posted_by ask ≡ Some numbers → IsRecord numbers → length (posted_line ask) ≡ 8
@@ -452,28 +452,28 @@ pub step_holds : (b : Box) (host word : ℕ) (m : Mail) (r : TaskRun) (old new :
 step_holds b host word m r old new s s' inv step =
     let t : MailTask = r.task in
     let holds : RunHolds b host r s m = inv.tasks host r step.is in
-    let acted : Acted b host r.floor m s s' t.ask (task_turn word t) (next_task word t) = act b host r.floor m s inv.core s' t word holds.capacity holds.long holds.post t.phase holds.phase
+    let acted : Acted b host r.floor m s s' t.ask (mail_turn word t) (next_task word t) = act b host r.floor m s inv.core s' t word holds.capacity holds.long holds.post t.phase holds.phase
     step.operates in
     record {
       says = acted.says;
       invariant = record { core = acted.core; tasks = λ h x is. tasks acted holds h x is (cases_eq h host) };
     }
   where
-    own : Acted b host r.floor m s s' r.task.ask (task_turn word r.task) (next_task word r.task) → RunHolds b host r s m → (over : Bool) → ends_task (task_turn word r.task) ≡ over → (x : TaskRun)
-        → cond over None (Some (record { task = next_task word r.task; floor = floor_behind_turn (task_turn word r.task) (length m.list) r.floor })) ≡ Some x
-        → RunHolds b host x s' (settles (task_turn word r.task) r.task.ask m)
+    own : Acted b host r.floor m s s' r.task.ask (mail_turn word r.task) (next_task word r.task) → RunHolds b host r s m → (over : Bool) → ends_mail_task (mail_turn word r.task) ≡ over → (x : TaskRun)
+        → cond over None (Some (record { task = next_task word r.task; floor = floor_behind_turn (mail_turn word r.task) (length m.list) r.floor })) ≡ Some x
+        → RunHolds b host x s' (settles (mail_turn word r.task) r.task.ask m)
     own acted holds true is x same = absurd cc
     own acted holds false is x same =
-        subst (λ (y : TaskRun). RunHolds b host y s' (settles (task_turn word r.task) r.task.ask m)) (same_Some _ x same) (record {
+        subst (λ (y : TaskRun). RunHolds b host y s' (settles (mail_turn word r.task) r.task.ask m)) (same_Some _ x same) (record {
           capacity = same_capacity r.task.phase word r.task ∙ holds.capacity;
           long = still_long r.task.phase word r.task ∙ holds.long;
           post = subst (λ (a : Ask). IsPost a → IsWriters b host a) (sym (same_ask r.task.phase word r.task)) holds.post;
           phase = acted.mine is;
         })
 
-    tasks : Acted b host r.floor m s s' r.task.ask (task_turn word r.task) (next_task word r.task) → RunHolds b host r s m → (h : ℕ) (x : TaskRun) → new h ≡ Some x → (h ≡ host) ⊎ (h ≢ host)
-        → RunHolds b h x s' (settles (task_turn word r.task) r.task.ask m)
+    tasks : Acted b host r.floor m s s' r.task.ask (mail_turn word r.task) (next_task word r.task) → RunHolds b host r s m → (h : ℕ) (x : TaskRun) → new h ≡ Some x → (h ≡ host) ⊎ (h ≢ host)
+        → RunHolds b h x s' (settles (mail_turn word r.task) r.task.ask m)
     tasks acted holds h x is (inl e) =
-        subst (λ (k : ℕ). RunHolds b k x s' (settles (task_turn word r.task) r.task.ask m)) (sym e)
-        (own acted holds (ends_task (task_turn word r.task)) refl x (sym step.mine ∙ ap new (sym e) ∙ is))
+        subst (λ (k : ℕ). RunHolds b k x s' (settles (mail_turn word r.task) r.task.ask m)) (sym e)
+        (own acted holds (ends_mail_task (mail_turn word r.task)) refl x (sym step.mine ∙ ap new (sym e) ∙ is))
     tasks acted holds h x is (inr ne) = acted.others h ne x (inv.tasks h x (sym (step.others h ne) ∙ is))

@@ -27,7 +27,7 @@ use Rattle.fam_mail.specs.declared.turn.Turn.{Turn}
 use Rattle.fam_mail.specs.declared.turn.Turn.TheVariants.{Go, Mark, Found, Posted, Full, Taken, BadBox, BadRecord}
 use Rattle.fam_mail.specs.Boxes.{capacity_of}
 use Rattle.fam_mail.specs.Running.{LinesFit}
-use Rattle.fam_mail.specs.Tasks.{MailTask, ends_task, left_of, task_op, new_task, next_task, task_turn}
+use Rattle.fam_mail.specs.Tasks.{MailTask, ends_mail_task, left_of, task_op, new_task, next_task, mail_turn}
 use Rattle.fam_mail.specs.World.{MailHost, MailView, changed_member, member_place, is_named, is_writer, new_mail_host, mail_noted}
 
 -- where the call found memory, P holds of the refusal that it gave, if any
@@ -175,7 +175,7 @@ notes_of_turn name (BadRecord i word) = note.BadRecord name i word ∷ []
 
 -- the task behind a turn
 abbrev pub kept_task : Turn → MailTask → Option MailTask
-kept_task turn next = if ends_task turn then None else Some next
+kept_task turn next = if ends_mail_task turn then None else Some next
 
 -- A host around an operation of its task, with the notes that come of it; this is what the media tells before and behind it.
 
@@ -184,9 +184,9 @@ pub record TaskServes (entry : Entry) (name : List ℕ) (host : MailHost) (t : M
   pub word : ℕ
   pub done : IfModelled told.old.image (λ image. IsMachine (operated (task_op (file_line entry) t) (machine image host.cache)) told.new.image next.cache)
   pub word_is : IfModelled told.old.image (λ image. word ≡ unwrap_or (given (task_op (file_line entry) t) (machine image host.cache)) 0)
-  pub over_is : over ≡ ends_task (task_turn word t)
-  pub next_is : next ≡ record host { cache = next.cache; task = kept_task (task_turn word t) (next_task word t) }
-  pub notes_are : notes ≡ notes_of_turn name (task_turn word t)
+  pub over_is : over ≡ ends_mail_task (mail_turn word t)
+  pub next_is : next ≡ record host { cache = next.cache; task = kept_task (mail_turn word t) (next_task word t) }
+  pub notes_are : notes ≡ notes_of_turn name (mail_turn word t)
 
 -- the media failed in it, at this line of the image: the task is gone
 pub record TaskBreaks (entry : Entry) (name : List ℕ) (host : MailHost) (t : MailTask) (told : MediaChange) (over : Bool) (next : MailHost) (notes : List MailNote) : Type 0 where

@@ -13,7 +13,7 @@ use Rattle.fam_rules.specs.Written.{file_line}
 use Rattle.fam_mail.specs.declared.note.MailNote.{MailNote}
 use Rattle.fam_mail.specs.declared.note.MailNote.TheVariants as note
 use Rattle.fam_mail.specs.Calls.{kept_task, notes_of_turn}
-use Rattle.fam_mail.specs.Tasks.{MailTask, task_op, next_task, task_turn}
+use Rattle.fam_mail.specs.Tasks.{MailTask, task_op, next_task, mail_turn}
 use Rattle.fam_mail.specs.World.{MailHost, changed_member}
 
 -- memory, and the declared hosts in their order
@@ -50,11 +50,11 @@ word_given op m = unwrap_or (given op m) 0
 
 -- a host behind an operation that left this cache: its task takes its turn with the word
 abbrev pub host_behind : MailHost → MailTask → ℕ → Cache → MailHost
-host_behind host t word cache = record host { cache = cache; task = kept_task (task_turn word t) (next_task word t) }
+host_behind host t word cache = record host { cache = cache; task = kept_task (mail_turn word t) (next_task word t) }
 
 -- the media serves the operation that the task's table has next: the notes are those of the task's turn
 pub record IsTaskServed (entry : Entry) (name : List ℕ) (at : ℕ) (host : MailHost) (t : MailTask) (old : MailMachines) (notes : List MailNote) (new : MailMachines) : Type 0 where
-  pub notes_are : notes ≡ notes_of_turn name (task_turn (word_given (task_op (file_line entry) t) (host_machine old host)) t)
+  pub notes_are : notes ≡ notes_of_turn name (mail_turn (word_given (task_op (file_line entry) t) (host_machine old host)) t)
   pub left : new ≡ with_host_at at (host_behind host t (word_given (task_op (file_line entry) t) (host_machine old host)) (operated (task_op (file_line entry) t) (host_machine old host)).cache)
       (operated (task_op (file_line entry) t) (host_machine old host)).image old
 

@@ -5,7 +5,7 @@ use Rattle.fam_mail.specs.declared.ask.Ask.{Ask}
 use Rattle.fam_mail.specs.declared.ask.Ask.TheVariants.{Post, Take}
 use Rattle.fam_mail.specs.declared.turn.Turn.{Turn}
 use Rattle.fam_mail.specs.declared.turn.Turn.TheVariants.{Go, Mark, Found, Posted, Full, Taken, BadBox, BadRecord}
-use Rattle.fam_mail.specs.Tasks.{MailTask, ends_task, next_task}
+use Rattle.fam_mail.specs.Tasks.{MailTask, ends_mail_task, next_task}
 
 -- the records that are settled, and the one that is pending: a post has found its place, and has not answered
 pub record Mail : Type 0 where
@@ -76,7 +76,7 @@ floor_behind_turn (BadRecord i word) settled floor = floor
 -- the task that goes on, if it does
 abbrev pub run_behind_turn : Turn → ℕ → ℕ → TaskRun → Option TaskRun
 run_behind_turn turn settled word r =
-    if ends_task turn then None else Some (record { task = next_task word r.task; floor = floor_behind_turn turn settled r.floor })
+    if ends_mail_task turn then None else Some (record { task = next_task word r.task; floor = floor_behind_turn turn settled r.floor })
 
 -- as many records as are settled, or one more while one is pending
 abbrev pub MayFind : ℕ → Mail → Type 0

@@ -11,7 +11,7 @@ use Rattle.fam_mail.specs.declared.phase.Phase.TheVariants as at
 use Rattle.fam_mail.specs.Boxes.{IsOneToOne, record_at}
 use Rattle.fam_mail.specs.Mail.{Mail, TaskMaySay, TaskRun, posted_by, run_behind_turn, settles, whole}
 use Rattle.fam_mail.specs.Records.{IsRecord}
-use Rattle.fam_mail.specs.Tasks.{IsPost, MailTask, posted_line, task_op, task_turn}
+use Rattle.fam_mail.specs.Tasks.{IsPost, MailTask, posted_line, task_op, mail_turn}
 
 -- a box: line j of its file is line `place j` of the image; how many records it has room for; which host may post; and what
 -- memory's other lines hold from the first to the last
@@ -137,10 +137,10 @@ pub record BoxInvariant (b : Box) (runs : TaskRuns) (s : SharedState) (m : Mail)
 pub record TakesTurn (b : Box) (host word : ℕ) (m : Mail) (r : TaskRun) (old new : TaskRuns) (s s' : SharedState) : Type 0 where
   pub is : old host ≡ Some r
   pub operates : Operates (task_op b.place r.task) host s s' word
-  pub mine : new host ≡ run_behind_turn (task_turn word r.task) (length m.list) word r
+  pub mine : new host ≡ run_behind_turn (mail_turn word r.task) (length m.list) word r
   pub others : (h : ℕ) → h ≢ host → new h ≡ old h
 
 -- it says what it may, and everything holds again
 pub record TurnHolds (b : Box) (word : ℕ) (m : Mail) (r : TaskRun) (new : TaskRuns) (s' : SharedState) : Type 0 where
-  pub says : TaskMaySay (task_turn word r.task) r.task.ask r.floor m b.capacity
-  pub invariant : BoxInvariant b new s' (settles (task_turn word r.task) r.task.ask m)
+  pub says : TaskMaySay (mail_turn word r.task) r.task.ask r.floor m b.capacity
+  pub invariant : BoxInvariant b new s' (settles (mail_turn word r.task) r.task.ask m)

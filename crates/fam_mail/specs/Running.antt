@@ -13,7 +13,7 @@ use Rattle.fam_media.specs.Causes.{Rose}
 use Rattle.fam_media.specs.Outside.{IfModelled}
 use Rattle.fam_media.specs.States.{MediaState}
 use Rattle.fam_mail.specs.declared.turn.Turn.{Turn}
-use Rattle.fam_mail.specs.Tasks.{MailTask, ends_task, task_op, next_task, task_turn}
+use Rattle.fam_mail.specs.Tasks.{MailTask, ends_mail_task, task_op, next_task, mail_turn}
 
 -- every line that a cache holds is one of a media of so many lines
 abbrev pub LinesFit : ℕ → Cache → Type 0
@@ -51,8 +51,8 @@ pub record IsTaskDone (a : Around) (turn : Turn) : Type 0 where
   pub word : ℕ
   pub done : IfModelled a.told (λ image. IsMachine (operated (task_op a.place a.task) (machine image a.old)) a.left a.new)
   pub word_is : IfModelled a.told (λ image. word ≡ unwrap_or (given (task_op a.place a.task) (machine image a.old)) 0)
-  pub turn_is : turn ≡ task_turn word a.task
-  pub goes : ends_task turn ≡ false → a.next ≡ next_task word a.task
+  pub turn_is : turn ≡ mail_turn word a.task
+  pub goes : ends_mail_task turn ≡ false → a.next ≡ next_task word a.task
 
 -- the media failed in it, at this line. The task still stands before it
 pub record IsTaskBroken (a : Around) (line : LineNo) : Type 0 where

@@ -15,7 +15,7 @@ use Rattle.fam_mail.specs.declared.note.MailNote.{MailNote}
 use Rattle.fam_mail.specs.Calls.{TaskBreaks, Finishes, HostRuns, MailOperates, TaskServes, Stays, MailWorldFits, capacity_in, goes_on, rests}
 use Rattle.fam_mail.specs.Mail.{Mail, TaskMaySay, TaskRun, floor_behind_turn, settles}
 use Rattle.fam_mail.specs.Protocol.{Box, BoxInvariant, TaskRuns}
-use Rattle.fam_mail.specs.Tasks.{MailTask, task_turn}
+use Rattle.fam_mail.specs.Tasks.{MailTask, mail_turn}
 use Rattle.fam_mail.specs.World.{MailHost, MailView, changed_member, member_place, is_writer}
 
 -- a host's copy of a line, absent where there is no host
@@ -65,10 +65,10 @@ mail_past_after at turn ask past =
 
 -- a host's task said this of its operation, which it may, and the world stands again
 pub record SaysSo (rest : ℕ → List ℕ) (at word : ℕ) (t : MailTask) (past : MailPast) (now : Option Image) (new : MailView) : Type 0 where
-  pub says : TaskMaySay (task_turn word t) t.ask (past.floors at) past.mail (capacity_in new)
+  pub says : TaskMaySay (mail_turn word t) t.ask (past.floors at) past.mail (capacity_in new)
   pub image : Image
   pub told : now ≡ Some image
-  pub stands : MailStands rest new (mail_past_after at (task_turn word t) t.ask past) image
+  pub stands : MailStands rest new (mail_past_after at (mail_turn word t) t.ask past) image
 
 -- the media failed, nothing was said, and the world stands again
 pub record StandsStill (rest : ℕ → List ℕ) (past : MailPast) (now : Option Image) (new : MailView) : Type 0 where
@@ -92,7 +92,7 @@ StandsAfter rest past name told over old new call =
 -- the past behind an operation of a task, which the media served or failed in
 abbrev pub mail_past_behind : (past : MailPast) (at : ℕ) (entry : Entry) (name : List ℕ) (host : MailHost) (t : MailTask) (told : MediaChange) (over : Bool) (next : MailHost) (notes : List MailNote)
     → TaskServes entry name host t told over next notes ⊎ TaskBreaks entry name host t told over next notes → MailPast
-mail_past_behind past at entry name host t told over next notes (inl serves) = mail_past_after at (task_turn serves.word t) t.ask past
+mail_past_behind past at entry name host t told over next notes (inl serves) = mail_past_after at (mail_turn serves.word t) t.ask past
 mail_past_behind past at entry name host t told over next notes (inr breaks) = past
 
 -- behind some of them

@@ -86,8 +86,8 @@ phase_turn (at.DropRecord i) word t = Go
 phase_turn (at.LoadRecord i k) word t = if k == 7 then record_turn (wrong_word (words_with 7 word t)) i word t else Go
 
 -- in its own phase
-abbrev pub task_turn : ℕ → MailTask → Turn
-task_turn word t = phase_turn t.phase word t
+abbrev pub mail_turn : ℕ → MailTask → Turn
+mail_turn word t = phase_turn t.phase word t
 
 -- behind the gate a post stores, and a take counts
 abbrev pub behind_gate : Ask → Phase
@@ -114,15 +114,15 @@ abbrev pub next_task : ℕ → MailTask → MailTask
 next_task word t = phase_task t.phase word t
 
 -- whether a task that takes this turn is over
-abbrev pub ends_task : Turn → Bool
-ends_task Go = false
-ends_task Mark = false
-ends_task (Found n) = false
-ends_task (Posted n) = true
-ends_task (Full n) = true
-ends_task (Taken records) = true
-ends_task (BadBox gate capacity) = true
-ends_task (BadRecord i word) = true
+abbrev pub ends_mail_task : Turn → Bool
+ends_mail_task Go = false
+ends_mail_task Mark = false
+ends_mail_task (Found n) = false
+ends_mail_task (Posted n) = true
+ends_mail_task (Full n) = true
+ends_mail_task (Taken records) = true
+ends_mail_task (BadBox gate capacity) = true
+ends_mail_task (BadRecord i word) = true
 
 -- Which tasks there are.
 

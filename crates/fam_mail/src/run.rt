@@ -5,7 +5,7 @@ ghost use Rattle.fam_media.specs.Causes.{IsSteady};
 ghost use Rattle.fam_rules.specs.Place.{IsProperEntry, line_bytes};
 ghost use Rattle.fam_rules.specs.Written.{file_line};
 ghost use Rattle.fam_mail.specs.Running.{LinesFit, TaskOperated, around};
-ghost use Rattle.fam_mail.specs.Tasks.{ends_task, left_of};
+ghost use Rattle.fam_mail.specs.Tasks.{ends_mail_task, left_of};
 
 use crate::task::Task;
 use crate::turn::Turn;
@@ -33,8 +33,8 @@ pub(crate) fn operate<M: Media>(
     ensures undone { IsErrOf result OperationFault.OutOfMemory → media.new ≡ media.old }
     ensures unchanged { IsErrOf result OperationFault.OutOfMemory → cache.new ≡ cache.old }
     ensures kept { OnErr result (task.new ≡ task.old) }
-    ensures goes_on { IfOk result (λ turn. ends_task turn ≡ false → task.new.capacity ≡ task.old.capacity) }
-    ensures falls { IfOk result (λ turn. ends_task turn ≡ false → left_of task.new < left_of task.old) }
+    ensures goes_on { IfOk result (λ turn. ends_mail_task turn ≡ false → task.new.capacity ≡ task.old.capacity) }
+    ensures falls { IfOk result (λ turn. ends_mail_task turn ≡ false → left_of task.new < left_of task.old) }
     ensures fits { LinesFit (M.size media.new) cache.new.lines }
     ensures steady { IsSteady M.size M.state media.old media.new }
 {

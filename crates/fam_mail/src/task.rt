@@ -7,7 +7,7 @@ ghost use Rattle.fam_rules.specs.Place.{IsProperEntry, line_bytes};
 ghost use Rattle.fam_rules.specs.Written.{file_line};
 ghost use Rattle.fam_mail.specs.declared.phase.Phase.TheVariants as at;
 ghost use Rattle.fam_mail.specs.Tasks as spec;
-ghost use Rattle.fam_mail.specs.Tasks.{IsSoundTask, ends_task, most_records, task_op, new_task, next_task, task_turn};
+ghost use Rattle.fam_mail.specs.Tasks.{IsSoundTask, ends_mail_task, most_records, task_op, new_task, next_task, mail_turn};
 
 use crate::ask::Ask;
 use crate::phase::Phase;
@@ -116,8 +116,8 @@ impl Task {
     /// Takes the gate that was loaded.
     fn load_gate(&mut self, gate: u64) -> Turn
         requires { self.old.phase ≡ at.LoadGate }
-        ensures turn { result ≡ task_turn gate self.old }
-        ensures goes { ends_task result ≡ false → self.new ≡ next_task gate self.old }
+        ensures turn { result ≡ mail_turn gate self.old }
+        ensures goes { ends_mail_task result ≡ false → self.new ≡ next_task gate self.old }
     {
         let capacity = self.capacity;
         if capacity < gate {
@@ -144,7 +144,7 @@ impl Task {
     fn store_word(&mut self, k: u8) -> Turn
         requires phase { self.old.phase ≡ at.StoreRecord k }
         requires word { k < 8 }
-        ensures turn { (word : ℕ) → result ≡ task_turn word self.old }
+        ensures turn { (word : ℕ) → result ≡ mail_turn word self.old }
         ensures goes { (word : ℕ) → self.new ≡ next_task word self.old }
     {
         self.phase = if k == LAST {
@@ -178,8 +178,8 @@ impl Task {
     fn load_word(&mut self, i: u64, k: u8, word: u64) -> Turn
         requires phase { self.old.phase ≡ at.LoadRecord i k }
         requires word { k < 8 }
-        ensures turn { result ≡ task_turn word self.old }
-        ensures goes { ends_task result ≡ false → self.new ≡ next_task word self.old }
+        ensures turn { result ≡ mail_turn word self.old }
+        ensures goes { ends_mail_task result ≡ false → self.new ≡ next_task word self.old }
     {
         self.words[k as usize] = word;
         if k < LAST {
@@ -206,8 +206,8 @@ impl Task {
     /// Tells that the operation was done, with the word of a load and None otherwise. The operation isn't Digest.
     pub fn feed(&mut self, word: Option<u64>) -> Turn
         requires { self.old.phase ≢ at.Count }
-        ensures turn { result ≡ task_turn (unwrap_or word 0) self.old }
-        ensures goes { ends_task result ≡ false → self.new ≡ next_task (unwrap_or word 0) self.old }
+        ensures turn { result ≡ mail_turn (unwrap_or word 0) self.old }
+        ensures goes { ends_mail_task result ≡ false → self.new ≡ next_task (unwrap_or word 0) self.old }
     {
         let word = word.unwrap_or(0);
         match self.phase {
@@ -235,8 +235,8 @@ impl Task {
     /// task is as it was.
     pub fn digest(&mut self) -> Result<Turn, OutOfMemory>
         requires { self.old.phase ≡ at.Count }
-        ensures turn { IfOk result (λ turn. turn ≡ task_turn 0 self.old) }
-        ensures goes { IfOk result (λ turn. ends_task turn ≡ false → self.new ≡ next_task 0 self.old) }
+        ensures turn { IfOk result (λ turn. turn ≡ mail_turn 0 self.old) }
+        ensures goes { IfOk result (λ turn. ends_mail_task turn ≡ false → self.new ≡ next_task 0 self.old) }
         ensures err { OnErr result (self.new ≡ self.old) }
     {
         let gate = self.gate;

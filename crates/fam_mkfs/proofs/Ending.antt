@@ -7,7 +7,7 @@ use Rattle.fam_machine.specs.Operations.{machine, operated_all}
 use Rattle.fam_media.specs.Causes.{Rose}
 use Rattle.fam_machine.specs.declared.op.Op.{Op}
 use Rattle.fam_mkfs.specs.declared.make.MkfsEnd.{MkfsEnd}
-use Rattle.fam_mkfs.specs.Ends.{IsFound, IsCut, MkfsEnds, done_end}
+use Rattle.fam_mkfs.specs.Ends.{FindsSuper, IsCut, MkfsEnds, done_end}
 use Rattle.fam_machine.specs.Mkfs.{read_ops, write_ops, expected_by, superblock_found, goes_on}
 use Rattle.fam_mkfs.specs.Parts.{Stands}
 use Rattle.fam_cache.specs.Runs.{CacheOver, AreDone, AreCut}
@@ -57,7 +57,7 @@ all_ended p force halt writing size s t u lines before now end is expected says 
     subst (λ (end : MkfsEnd). MkfsEnds p force halt size s u before now end) (sym is) (all_done p force halt writing size s t u lines before now expected says goes done puts)
 
 -- a superblock stands in the way
-pub is_found : (p : Params) (force : Bool) (id : List ℕ) (s t : CacheOver) (lines : List (List ℕ)) → ((image : Image) → s.image ≡ Some image → (have : ℕ) → super_in (line_at lines) have ≡ super_in (line_at (operated_all read_ops (machine image s.lines)).image) have) → Stands force (super_in (line_at lines) p.device) id → AreDone read_ops s t → IsFound p force id s t
+pub is_found : (p : Params) (force : Bool) (id : List ℕ) (s t : CacheOver) (lines : List (List ℕ)) → ((image : Image) → s.image ≡ Some image → (have : ℕ) → super_in (line_at lines) have ≡ super_in (line_at (operated_all read_ops (machine image s.lines)).image) have) → Stands force (super_in (line_at lines) p.device) id → AreDone read_ops s t → FindsSuper p force id s t
 is_found p force id s t lines says stands done = record {
   unforced = stands.unforced;
   done = done;

@@ -28,16 +28,16 @@ pub record IsHaltedAsAsked (p : Params) (force : Bool) (halt : Option ℕ) (k : 
   pub done : IsDoneAsAsked (halted_ops k p) p force before now
 
 -- a superblock with this UUID reads
-pub record Names (p : Params) (m : Machine) (id : List ℕ) : Type 0 where
+pub record ReadsUuid (p : Params) (m : Machine) (id : List ℕ) : Type 0 where
   pub other : Params
   pub reads : superblock_found p m ≡ Ok other
   pub named : id ≡ other.fs
 
 -- lines 0, 1 and 2 were read, and a superblock stands there that isn't to be written over
-pub record IsFound (p : Params) (force : Bool) (id : List ℕ) (before now : CacheOver) : Type 0 where
+pub record FindsSuper (p : Params) (force : Bool) (id : List ℕ) (before now : CacheOver) : Type 0 where
   pub unforced : force ≡ false
   pub done : AreDone read_ops before now
-  pub names : IfModelled before.image (λ image. Names p (machine image before.lines) id)
+  pub names : IfModelled before.image (λ image. ReadsUuid p (machine image before.lines) id)
 
 -- the media failed at this line, in one of the operations that were expected
 pub record IsCut (p : Params) (force : Bool) (halt : Option ℕ) (size : ℕ) (line : LineNo) (before now : CacheOver) (faults faults_now : ℕ) : Type 0 where
@@ -48,7 +48,7 @@ pub record IsCut (p : Params) (force : Bool) (halt : Option ℕ) (size : ℕ) (l
 -- what an end says, where these parameters are asked for, and by after how many operations the maker is to halt
 abbrev pub MkfsEnds : Params → Bool → Option ℕ → ℕ → CacheOver → CacheOver → ℕ → ℕ → MkfsEnd → Type 0
 MkfsEnds p force halt size before now faults faults_now (Made made) = (made ≡ p) × IsMadeAsAsked p force halt before now
-MkfsEnds p force halt size before now faults faults_now (HasSuper id) = IsFound p force id before now
+MkfsEnds p force halt size before now faults faults_now (HasSuper id) = FindsSuper p force id before now
 MkfsEnds p force halt size before now faults faults_now (Failed line) = IsCut p force halt size line before now faults faults_now
 MkfsEnds p force halt size before now faults faults_now (Halted k) = IsHaltedAsAsked p force halt k before now
 MkfsEnds p force halt size before now faults faults_now (BadGeometry unit log) = ⊥

@@ -6,10 +6,10 @@ use Rattle.fam_mkfs.specs.declared.make.MkfsEnd.{MkfsEnd}
 use Rattle.fam_mkfs.specs.declared.make.MkfsEnd.TheVariants.{BadGeometry, TooSmall}
 
 -- the end that says it
-abbrev pub end_of : EarlyRefusal → MkfsEnd
-end_of (early.BadGeometry unit log) = BadGeometry unit log
-end_of (early.TooSmall needed have) = TooSmall needed have
+abbrev pub refusal_end : EarlyRefusal → MkfsEnd
+refusal_end (early.BadGeometry unit log) = BadGeometry unit log
+refusal_end (early.TooSmall needed have) = TooSmall needed have
 
 -- what is refused at once, on a device of so many bytes. None: nothing
 abbrev pub refusal : ℕ → ℕ → ℕ → Option MkfsEnd
-refusal unit log have = option_map end_of (early_refusal unit log have)
+refusal unit log have = option_map refusal_end (early_refusal unit log have)

@@ -6,8 +6,8 @@ use Rattle.fam_base.specs.Image.{Image}
 use Rattle.fam_dup.specs.declared.fault.DupFault.{DupFault}
 use Rattle.fam_dup.specs.declared.fault.DupFault.TheVariants as fault
 use Rattle.fam_dup.specs.declared.fault.DupRefusal.{DupRefusal}
-use Rattle.fam_dup.specs.Ends.{Becomes, DupEnds, IsAskedIn, IsCaused, NamesLine, from_counted, to_counted}
-use Rattle.fam_dup.specs.Findings.{Copies, FailsFrom, FailsTo, FaultClass, FaultInLog, FaultInSlot, FaultInSuper, Finding, FullTo, Refuses, SmallFrom, SmallTo, Stops, WantsMemory, class_of, refused_of}
+use Rattle.fam_dup.specs.Ends.{Becomes, DupEnds, IsAskedIn, IsDupCaused, NamesLine, from_counted, to_counted}
+use Rattle.fam_dup.specs.Findings.{Copies, FailsFrom, FailsTo, FaultClass, FaultInLog, FaultInSlot, FaultInSuper, Finding, FullTo, Refuses, SmallFrom, SmallTo, Stops, WantsMemory, fault_class, refused_of}
 use Rattle.fam_format.specs.declared.faults.SuperFault.TheVariants as super
 use Rattle.fam_format.specs.declared.faults.LogFault.TheVariants as log
 use Rattle.fam_journal.specs.declared.refusal.Refusal.{Refusal}
@@ -106,7 +106,7 @@ PutFault WantsMemory text s given = Put status.OutOfMemory text s given
 -- what is put of a copy: that it is made is put in any case
 abbrev pub PutDup : Result ℕ DupFault → SinkChange → Status → Type 0
 PutDup (Ok count) s given = Put status.Done (number_text (by.Copied count)) s given
-PutDup (Err fault) s given = PutFault (class_of fault) (fault_line fault) s given
+PutDup (Err fault) s given = PutFault (fault_class fault) (fault_line fault) s given
 
 -- The top call.
 
@@ -154,14 +154,14 @@ pub record CopyEndsEarly (wanted : Option CopyAsked) (out : CopyOutside) (given 
 -- the count of an image's faults behind a copy that ended so
 abbrev pub counted_behind : (FaultClass → ℕ → ℕ) → Result ℕ DupFault → ℕ → ℕ
 counted_behind counted (Ok count) faults = faults
-counted_behind counted (Err fault) faults = counted (class_of fault) faults
+counted_behind counted (Err fault) faults = counted (fault_class fault) faults
 
 -- a copy was tried: how it ended, what that leaves, and what is put of it
 pub record HasCopied (copy : CopyAsked) (out : CopyOutside) (given : Status) : Type 0 where
   pub good : is_geometry copy.request.unit copy.request.log ≡ true
   pub ended : Result ℕ DupFault
   pub ends : OfImages out (λ source old new. DupEnds source old new (copy_params copy out.lines) copy.request.force ended)
-  pub caused : IfErr ended (λ fault. IsCaused out.from.old.faults out.from.new.faults out.to.old.faults out.to.new.faults fault)
+  pub caused : IfErr ended (λ fault. IsDupCaused out.from.old.faults out.from.new.faults out.to.old.faults out.to.new.faults fault)
   -- the line of a media fault is one of its image
   pub named : IfErr ended (λ fault. NamesLine out.from_lines out.lines fault)
   -- and one that was asked for at that step

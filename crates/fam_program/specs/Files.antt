@@ -6,7 +6,7 @@ use Rattle.fam_media.specs.States.{ShelfChange, SinkChange}
 use Rattle.fam_sources.specs.declared.sourced.SourceEnd.{SourceEnd}
 use Rattle.fam_sources.specs.declared.sourced.SourceEnd.TheVariants as end
 use Rattle.fam_sources.specs.Sourced.{HasEndCause, end_of}
-use Rattle.fam_sources.specs.Whole.{HoldsBytes}
+use Rattle.fam_sources.specs.Whole.{FilesHold}
 use Rattle.fam_journal.specs.declared.event.Event.{Event}
 use Rattle.fam_outcomes.specs.declared.status.Status.{Status}
 use Rattle.fam_outcomes.specs.declared.status.Status.TheVariants as status
@@ -36,12 +36,12 @@ pub record HoldsBadLine (change : ShelfChange) (name : List ℕ) (line column : 
 -- a script that is short is no longer than a script may be
 abbrev pub IsShortScript : ShelfChange → List ℕ → SourceEnd → Type 0
 IsShortScript change name end.Faulted = ⊤
-IsShortScript change name (end.Short size got) = (size ≤ script_limit) × HoldsBytes change.old.files name (λ bytes. size ≡ length bytes)
+IsShortScript change name (end.Short size got) = (size ≤ script_limit) × FilesHold change.old.files name (λ bytes. size ≡ length bytes)
 
 -- each fault has its cause
 abbrev pub IsUnread : ShelfChange → List ℕ → ScriptFault → Type 0
 IsUnread change name NoFile = IfModelled change.old.files (λ files. map.get files name ≡ None)
-IsUnread change name (TooLong size) = (script_limit < size) × HoldsBytes change.old.files name (λ bytes. size ≡ length bytes)
+IsUnread change name (TooLong size) = (script_limit < size) × FilesHold change.old.files name (λ bytes. size ≡ length bytes)
 IsUnread change name (Ended end) = HasEndCause change end × IsShortScript change name end
 IsUnread change name (BadLine line column) = HoldsBadLine change name line column
 IsUnread change name OutOfMemory = ⊤

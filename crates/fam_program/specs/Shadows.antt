@@ -12,7 +12,7 @@ use Rattle.fam_shadow.specs.declared.fault.ShadowFault.{ShadowFault}
 use Rattle.fam_shadow.specs.declared.fault.ShadowFault.TheVariants as fault
 use Rattle.fam_shadow.specs.Calls.{CallsMade}
 use Rattle.fam_shadow.specs.Nodes.{ShadeChange}
-use Rattle.fam_shadow.specs.Shadows.{Becomes, FaultCaused, ShadowEnds}
+use Rattle.fam_shadow.specs.Shadows.{NodesBecome, FaultCaused, ShadowEnds}
 use Rattle.fam_storm.specs.Storm.{storm}
 use Rattle.fam_journal.specs.declared.event.Ask.TheVariants as ask
 use Rattle.fam_journal.specs.declared.event.Event.{Event}
@@ -116,7 +116,7 @@ pub record HasShadowed (me : List ℕ) (out : Outside) (shade : ShadeChange) (te
   pub tree : Tree
   pub shown : shown_tree journal ≡ Some (m, tree)
   pub written : Result (Unit {0}) ShadowFault
-  pub becomes : Becomes shade.old.nodes shade.new.nodes (ShadowEnds tree written)
+  pub becomes : NodesBecome shade.old.nodes shade.new.nodes (ShadowEnds tree written)
   pub caused : IfErr written (FaultCaused tree shade.old.faults shade.new.faults)
   pub calls : CallsMade tree shade written
   pub says : ShadowSays m written text own
@@ -164,7 +164,7 @@ pub record ShowsTree (me : List ℕ) (out : Outside) (shade : ShadeChange) (give
   pub tree : Tree
   pub shows : shown_tree journal ≡ Some (m, tree)
   pub written : Result (Unit {0}) ShadowFault
-  pub becomes : Becomes shade.old.nodes shade.new.nodes (ShadowEnds tree written)
+  pub becomes : NodesBecome shade.old.nodes shade.new.nodes (ShadowEnds tree written)
   pub calls : CallsMade tree shade written
   pub text : List ℕ
   pub own : Status

@@ -1,7 +1,7 @@
 //! A file system copied onto another image, and what is put of that.
 
 ghost use Rattle.std.specs.Prelude.{◌≡◌, ◌≤◌, [], IfOk, IsTrue, List, Some, ℕ};
-ghost use Rattle.fam_dup.specs.Findings.{class_of};
+ghost use Rattle.fam_dup.specs.Findings.{fault_class};
 ghost use Rattle.fam_format.specs.Params.{is_format};
 ghost use Rattle.fam_format.specs.declared.faults.SuperFault.TheVariants as super;
 ghost use Rattle.fam_format.specs.declared.faults.LogFault.TheVariants as log;
@@ -136,7 +136,7 @@ fn put_bad_log<K: Sink>(
 /// Puts why there is no copy, or that no memory is left to say so, and gives the status. That an image failed is put in
 /// any case.
 fn put_fault<K: Sink>(alloc: Global, fault: DupFault, out: &mut K) -> Status
-    ensures put { PutFault (class_of fault) (fault_line fault) (change K.state out.old out.new) result }
+    ensures put { PutFault (fault_class fault) (fault_line fault) (change K.state out.old out.new) result }
     ensures later { (K.state out.old).faults ≤ (K.state out.new).faults }
 {
     match fault {

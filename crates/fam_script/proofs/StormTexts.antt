@@ -8,7 +8,7 @@ use Rattle.fam_journal.specs.Notes.{Note}
 use Rattle.fam_outcomes.specs.Programs.{storm_line}
 use Rattle.fam_outcomes.specs.Texts.{line, number, render}
 use Rattle.fam_script.specs.declared.counts.Counts.{Counts}
-use Rattle.fam_script.specs.StormLines.{counts_text, front_text, storm_text}
+use Rattle.fam_script.specs.StormLines.{storm_counts_text, front_text, storm_text}
 
 -- five texts behind one another
 pub five : (a b c d e : List ℕ) → a ++ (b ++ (c ++ (d ++ e))) ≡ a ++ b ++ c ++ d ++ e
@@ -23,7 +23,7 @@ behind : (front a b c d e f g h : List ℕ) → front ++ (a ++ b ++ c ++ d ++ e 
 behind front a b c d e f g h = simp append_assoc refl
 
 -- the two parts are the whole
-pub whole : (seed size events : ℕ) (counts : Counts) (crc : ℕ) → front_text seed size events ++ counts_text counts crc ≡ storm_text seed size events counts crc
+pub whole : (seed size events : ℕ) (counts : Counts) (crc : ℕ) → front_text seed size events ++ storm_counts_text counts crc ≡ storm_text seed size events counts crc
 whole seed size events counts crc =
     behind (front_text seed size events) (codes " answers") (number counts.answers) (codes " refused") (number counts.refused) (codes " settled") (number counts.settled) (codes " crc") (number crc)
 

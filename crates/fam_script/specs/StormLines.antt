@@ -8,8 +8,8 @@ abbrev pub front_text : ℕ → ℕ → ℕ → List ℕ
 front_text seed size events = codes "storm" ++ number seed ++ number size ++ codes " events" ++ number events
 
 -- what is counted of notes, and the CRC-32 of their text
-abbrev pub counts_text : Counts → ℕ → List ℕ
-counts_text counts crc =
+abbrev pub storm_counts_text : Counts → ℕ → List ℕ
+storm_counts_text counts crc =
     codes " answers" ++ number counts.answers ++ codes " refused" ++ number counts.refused ++ codes " settled" ++ number counts.settled ++ codes " crc" ++ number crc
 
 -- the words of fam_journal's `storm_line`, for a script of so many events and a journal with these counts whose text has

@@ -4,7 +4,7 @@ ghost use Rattle.std.specs.Prelude.{◌≡◌, ◌++◌, ◌∷◌, [], IfOk, On
 ghost use Rattle.fam_crc.specs.Crc.{crc32};
 ghost use Rattle.fam_journal.specs.Names.{NamesHost, NameDeclared};
 ghost use Rattle.fam_outcomes.specs.Texts as text;
-ghost use Rattle.fam_script.specs.StormLines.{counts_text, front_text, storm_text};
+ghost use Rattle.fam_script.specs.StormLines.{storm_counts_text, front_text, storm_text};
 ghost use Rattle.fam_notes.specs.Notes.{note_view, notes_view};
 
 use crate::counts::Counts;
@@ -110,7 +110,7 @@ fn storm_front(alloc: Global, seed: u64, size: u64, events: u64) -> Result<Strin
 
 /// What is counted of a storm's notes, and the CRC-32 of their text.
 fn storm_back(alloc: Global, counts: &Counts, crc: u32) -> Result<String, AllocError>
-    ensures { IfOk result (λ s. string_bytes s ≡ counts_text counts.now crc) }
+    ensures { IfOk result (λ s. string_bytes s ≡ storm_counts_text counts.now crc) }
 {
     let answers = counts.answers;
     let refused = counts.refused;

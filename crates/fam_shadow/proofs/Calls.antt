@@ -11,7 +11,7 @@ use Rattle.fam_shadow.specs.declared.fault.ShadowFault.TheVariants as fault
 use Rattle.fam_shadow.specs.Calls.{CallsOf, LooksStop, PutsStop, WereMade}
 use Rattle.fam_shadow.specs.Nodes.{IsOneMore, Nodes, ShadeState}
 use Rattle.fam_shadow.specs.Shadows.{name_of, node_of}
-use Rattle.fam_shadow.specs.Passes.{AreCut, ArePut, AreSeen, CallStops, EntryFault, IsCutAt, calls_behind, with_entries}
+use Rattle.fam_shadow.specs.Passes.{EntriesPartlyPut, EntriesPut, AreSeen, CallStops, EntryFault, IsCutAt, calls_behind, with_entries}
 
 -- calls for these entries and then for those
 behind_both : (first then : List Entry) (calls : Option ℕ) → calls_behind then (calls_behind first calls) ≡ calls_behind (first ++ then) calls
@@ -48,7 +48,7 @@ module _ (entries : List Entry) (old now next : ShadeState) (e : Entry) (rest : 
       by_fault fault.OutOfMemory is stop = stop ∙ before.faults
 
   -- a put did
-  pub puts_stop : ArePut entries (e ∷ rest) old now → IsCutAt (node_of e) (name_of e) now.nodes next.nodes → PutsStop entries old next f
+  pub puts_stop : EntriesPut entries (e ∷ rest) old now → IsCutAt (node_of e) (name_of e) now.nodes next.nodes → PutsStop entries old next f
   puts_stop before cut = by_fault f is stop
     where
       by_fault : (f : ShadowFault) → EntryFault e now.faults next.faults f → CallStops now next f → PutsStop entries old next f
@@ -74,7 +74,7 @@ module _ (entries : List Entry) (old : ShadeState) where
 
   -- puts behind all looks
   pub puts_calls : (seen now : ShadeState) → WereMade entries old seen → seen.nodes ≡ old.nodes → (result : Result (Unit {0}) ShadowFault) → OnOk result (WereMade entries seen now)
-      → IfErr result (PutsStop entries seen now) → OnErr result (AreCut entries seen.nodes now.nodes) → CallsOf entries old now result
+      → IfErr result (PutsStop entries seen now) → OnErr result (EntriesPartlyPut entries seen.nodes now.nodes) → CallsOf entries old now result
   puts_calls seen now looked same (Ok done) made stop cut = record {
     calls = made.calls ∙ ap (calls_behind entries) looked.calls ∙ behind_both entries entries old.calls;
     faults = made.faults ∙ looked.faults;
@@ -90,4 +90,4 @@ module _ (entries : List Entry) (old : ShadeState) where
     rose = subst (λ (count : ℕ). Rose count now.faults) looked.faults stop.rose;
     cut = subst (λ (o : Option Nodes). IsCutAt (node_of stop.entry) (name_of stop.entry) (option_map (with_entries stop.done) o) now.nodes) same stop.cut;
   }
-  puts_calls seen now looked same (Err fault.OutOfMemory) made stop cut = (stop ∙ looked.faults, inr (subst (λ (o : Option Nodes). AreCut entries o now.nodes) same cut))
+  puts_calls seen now looked same (Err fault.OutOfMemory) made stop cut = (stop ∙ looked.faults, inr (subst (λ (o : Option Nodes). EntriesPartlyPut entries o now.nodes) same cut))

@@ -10,8 +10,8 @@ use Rattle.fam_shadow.specs.declared.fault.ShadowFault.{ShadowFault}
 use Rattle.fam_shadow.specs.declared.fault.ShadowFault.TheVariants as fault
 use Rattle.fam_shadow.specs.declared.node.Node.{Node}
 use Rattle.fam_shadow.specs.Nodes.{Nodes}
-use Rattle.fam_shadow.specs.Shadows.{Becomes, IsLeft, MayHold, ShadowEnds, clash_of, shadow}
-use Rattle.fam_shadow.specs.Passes.{AreCut, AreDistinct, PassFault, first_met, with_entries}
+use Rattle.fam_shadow.specs.Shadows.{NodesBecome, IsLeftInPart, MayHold, ShadowEnds, clash_of, shadow}
+use Rattle.fam_shadow.specs.Passes.{EntriesPartlyPut, AreDistinct, PassFault, first_met, with_entries}
 use Rattle.fam_shadow.proofs.Looks.{met_is}
 use Rattle.fam_shadow.proofs.Maps.{at_entries, shadow_at}
 use Rattle.fam_shadow.proofs.Puts.{cut_left, unchanged}
@@ -20,19 +20,19 @@ module _ (tree : Tree) (before now : ℕ) where
   abbrev entries : List Entry
   entries = map.values tree
 
-  left_by : (old new : Nodes) (f : ShadowFault) → PassFault entries before now f → IsLeft tree old new → ShadowEnds tree (Err f) old new
+  left_by : (old new : Nodes) (f : ShadowFault) → PassFault entries before now f → IsLeftInPart tree old new → ShadowEnds tree (Err f) old new
   left_by old new (fault.Clash name) is left = absurd is
   left_by old new (fault.ShadeFault name) is left = left
   left_by old new fault.OutOfMemory is left = left
 
   -- a fault of the looks
-  pub looks_end : (old new : Option Nodes) (f : ShadowFault) → PassFault entries before now f → new ≡ old → Becomes old new (ShadowEnds tree (Err f))
+  pub looks_end : (old new : Option Nodes) (f : ShadowFault) → PassFault entries before now f → new ≡ old → NodesBecome old new (ShadowEnds tree (Err f))
   looks_end old new f is same held told =
       (held, (same ∙ told, left_by held held f is (record { looked = inl refl; each = λ name. unchanged (map.get (shadow tree) name) (map.get held name) })))
 
   module _ (distinct : AreDistinct entries) where
     -- a clash
-    pub clash_ends : (old new : Option Nodes) (name : List ℕ) → new ≡ old → IfModelled old (λ held. Some name ≡ first_met entries held) → Becomes old new (ShadowEnds tree (Err (fault.Clash name)))
+    pub clash_ends : (old new : Option Nodes) (name : List ℕ) → new ≡ old → IfModelled old (λ held. Some name ≡ first_met entries held) → NodesBecome old new (ShadowEnds tree (Err (fault.Clash name)))
     clash_ends old new name same met held told = (held, (same ∙ told, (sym (met held told ∙ met_is entries distinct held), refl)))
 
     module _ (old new : Option Nodes) (clear : IfModelled old (λ held. first_met entries held ≡ None)) where
@@ -40,8 +40,8 @@ module _ (tree : Tree) (before now : ℕ) where
       no_clash held told = sym (met_is entries distinct held) ∙ clear held told
 
       -- the puts, done or cut
-      pub puts_end : (result : Result (Unit {0}) ShadowFault) → OnOk result (new ≡ option_map (with_entries entries) old) → OnErr result (AreCut entries old new) → IfErr result (PassFault entries before now)
-          → Becomes old new (ShadowEnds tree result)
+      pub puts_end : (result : Result (Unit {0}) ShadowFault) → OnOk result (new ≡ option_map (with_entries entries) old) → OnErr result (EntriesPartlyPut entries old new) → IfErr result (PassFault entries before now)
+          → NodesBecome old new (ShadowEnds tree result)
       puts_end (Ok done) put cut is held told = (
         with_entries entries held,
         (
@@ -54,7 +54,7 @@ module _ (tree : Tree) (before now : ℕ) where
         ),
       )
       puts_end (Err f) put cut is held told =
-          let some = cut_left entries held new distinct (subst (λ (o : Option Nodes). AreCut entries o new) told cut) in (
+          let some = cut_left entries held new distinct (subst (λ (o : Option Nodes). EntriesPartlyPut entries o new) told cut) in (
             some.left,
             (
               some.told,

@@ -8,7 +8,7 @@ use Rattle.fam_format.specs.Tree.{Tree}
 use Rattle.fam_shadow.specs.declared.node.Node.{Node}
 use Rattle.fam_shadow.specs.declared.node.Node.TheVariants.{Directory, File}
 use Rattle.fam_shadow.specs.Nodes.{Nodes}
-use Rattle.fam_shadow.specs.Shadows.{IsBegun, IsLeft, MayHold, Runs, RunsBy, clash_of, first_clash, is_clash, names_of, shadow}
+use Rattle.fam_shadow.specs.Shadows.{HoldsPrefix, IsLeftInPart, MayHold, Runs, RunsBy, clash_of, first_clash, is_clash, names_of, shadow}
 use Rattle.fam_shadow.proofs.Maps.{name_cmp-IsAntisymmetric}
 
 -- a node of its own kind is no clash
@@ -16,7 +16,7 @@ own_kind : (own : Node) → is_clash (Some own) (Some own) ≡ false
 own_kind Directory = refl
 own_kind (File bytes) = refl
 
-begun_kind : (own : Node) (now : Option Node) → IsBegun own now → is_clash (Some own) now ≡ false
+begun_kind : (own : Node) (now : Option Node) → HoldsPrefix own now → is_clash (Some own) now ≡ false
 begun_kind (File bytes) (Some (File now)) begun = refl
 begun_kind (File bytes) (Some Directory) begun = absurd begun
 begun_kind (File bytes) None begun = absurd begun
@@ -56,7 +56,7 @@ module _ (tree : Tree) where
   runs_once None old one other a b = same_map nat_list_cmp_total name_cmp-IsAntisymmetric other one (λ q. b q ∙ sym (a q))
   runs_once (Some name) old one other a b = b ∙ sym a
 
-  pub ends_alike : (old left one later : Nodes) → IsLeft tree old left → Runs tree old one → Runs tree left later → later ≡ one
+  pub ends_alike : (old left one later : Nodes) → IsLeftInPart tree old left → Runs tree old one → Runs tree left later → later ≡ one
   ends_alike old left one later is first again = by_looks is.looked
     where
       by_looks : (left ≡ old) ⊎ (clash_of tree old ≡ None) → later ≡ one

@@ -13,7 +13,7 @@ use Rattle.fam_media.specs.Files.{name_cmp}
 use Rattle.fam_shadow.specs.declared.node.Node.{Node}
 use Rattle.fam_shadow.specs.Nodes.{Nodes, with_node}
 use Rattle.fam_shadow.specs.Shadows.{name_of, named_nodes, node_of}
-use Rattle.fam_shadow.specs.Passes.{AreDistinct, IsNew, with_entries, with_entry}
+use Rattle.fam_shadow.specs.Passes.{AreDistinct, HasNewName, with_entries, with_entry_node}
 use Rattle.fam_shadow.proofs.OwnNames.{new_before}
 
 pub name_cmp-IsAntisymmetric : IsAntisymmetric name_cmp
@@ -40,16 +40,16 @@ module _ (name : List ℕ) (node : Node) (held : Nodes) where
   at_other q apart = at_any q ∙ ap (λ (b : Bool). cond b (Some node) (map.get held q)) (other_name q name apart)
 
 -- entries leave a name that is none of theirs
-pub unmet : (name : List ℕ) (entries : List Entry) (held : Nodes) → IsNew name entries → map.get (with_entries entries held) name ≡ map.get held name
+pub unmet : (name : List ℕ) (entries : List Entry) (held : Nodes) → HasNewName name entries → map.get (with_entries entries held) name ≡ map.get held name
 unmet name [] held new = refl
 unmet name (e ∷ entries) held new =
-    unmet name entries (with_entry held e) new.1 ∙ at_other (name_of e) (node_of e) held name (λ same. new.0 (sym same))
+    unmet name entries (with_entry_node held e) new.1 ∙ at_other (name_of e) (node_of e) held name (λ same. new.0 (sym same))
 
 -- the node that is found for a name in a list, the first one
 abbrev pub own_node : List ℕ → List Entry → Option Node
 own_node name entries = find name_cmp name (named_nodes entries)
 
-pub not_own : (name : List ℕ) (entries : List Entry) → IsNew name entries → own_node name entries ≡ None
+pub not_own : (name : List ℕ) (entries : List Entry) → HasNewName name entries → own_node name entries ≡ None
 not_own name [] new = refl
 not_own name (e ∷ entries) new =
     ap (λ (b : Bool). cond b (Some (node_of e)) (own_node name entries)) (other_name name (name_of e) (λ same. new.0 (sym same)))
@@ -68,7 +68,7 @@ behind own more held false none = refl
 pub at_entries : (entries : List Entry) (held : Nodes) (name : List ℕ) → AreDistinct entries → map.get (with_entries entries held) name ≡ option_or (own_node name entries) (map.get held name)
 at_entries [] held name distinct = refl
 at_entries (e ∷ entries) held name distinct =
-    at_entries entries (with_entry held e) name distinct.1
+    at_entries entries (with_entry_node held e) name distinct.1
     ∙ ap (option_or (own_node name entries)) (at_any (name_of e) (node_of e) held name)
     ∙ behind (node_of e) (own_node name entries) (map.get held name) (is_name name (name_of e))
     (λ is. subst (λ (q : List ℕ). own_node q entries ≡ None) (sym (same_name name (name_of e) is)) (not_own (name_of e) entries distinct.0))

@@ -17,7 +17,7 @@ use Rattle.fam_base.specs.PathOrder.{path_cmp}
 use Rattle.fam_base.proofs.EscapeLemmas.{escaped_once, escaped_visible}
 use Rattle.fam_tree.proofs.Printed.{path_fits}
 use Rattle.fam_shadow.specs.Shadows.{name_of}
-use Rattle.fam_shadow.specs.Passes.{AreDistinct, AreProper, IsNew}
+use Rattle.fam_shadow.specs.Passes.{AreDistinct, AreProper, HasNewName}
 
 -- a printed name is text
 pub name_is_text : (path : List ℕ) → is_path path ≡ true → IsUtf8 (escaped path)
@@ -32,7 +32,7 @@ apart a b path_a path_b less same =
     let tied : path_cmp a.path b.path ≡ Equal = ap (path_cmp a.path) (sym paths) ∙ tied_itself nat_list_cmp_total a.path in
     absurd (cc (less, tied))
 
-new_behind : (e : Entry) (entries : List Entry) → is_path e.path ≡ true → AreProper entries → AllByRecursion (λ y. path_cmp e.path y ≡ Less) (map (λ x. x.path) entries) → IsNew (name_of e) entries
+new_behind : (e : Entry) (entries : List Entry) → is_path e.path ≡ true → AreProper entries → AllByRecursion (λ y. path_cmp e.path y ≡ Less) (map (λ x. x.path) entries) → HasNewName (name_of e) entries
 new_behind e [] path proper less = tt
 new_behind e (x ∷ entries) path proper less = (apart e x path proper.0 less.0, new_behind e entries path proper.1 less.1)
 
@@ -45,10 +45,10 @@ distinct (e ∷ entries) proper sorted = (
 )
 
 -- an entry behind others has none of their names
-new_among : (name : List ℕ) (done : List Entry) (e : Entry) (rest : List Entry) → IsNew name (done ++ e ∷ rest) → name_of e ≢ name
+new_among : (name : List ℕ) (done : List Entry) (e : Entry) (rest : List Entry) → HasNewName name (done ++ e ∷ rest) → name_of e ≢ name
 new_among name [] e rest new = new.0
 new_among name (x ∷ done) e rest new = new_among name done e rest new.1
 
-pub new_before : (done : List Entry) (e : Entry) (rest : List Entry) → AreDistinct (done ++ e ∷ rest) → IsNew (name_of e) done
+pub new_before : (done : List Entry) (e : Entry) (rest : List Entry) → AreDistinct (done ++ e ∷ rest) → HasNewName (name_of e) done
 new_before [] e rest distinct = tt
 new_before (x ∷ done) e rest distinct = (λ same. new_among (name_of x) done e rest distinct.0 (sym same), new_before done e rest distinct.1)

@@ -9,14 +9,14 @@ use Rattle.fam_shadow.specs.declared.node.Node.{Node}
 use Rattle.fam_shadow.specs.declared.node.Node.TheVariants.{Directory, File}
 use Rattle.fam_shadow.specs.Nodes.{IsOneMore, Nodes, ShadeState, with_node}
 use Rattle.fam_shadow.specs.Shadows.{MayHold, is_clash, name_of, node_of}
-use Rattle.fam_shadow.specs.Passes.{AreCut, AreDistinct, ArePut, IsCutAt, IsNew, first_met, with_entries, with_entry}
+use Rattle.fam_shadow.specs.Passes.{EntriesPartlyPut, AreDistinct, EntriesPut, IsCutAt, HasNewName, first_met, with_entries, with_entry_node}
 use Rattle.fam_shadow.proofs.Calls.{one_behind}
 use Rattle.fam_shadow.proofs.OwnNames.{new_before}
 use Rattle.fam_shadow.proofs.Maps.{at_any, at_entries, is_name, own_node, own_node-append, own_node-here, same_name, unmet}
 
 one_more : (done : List Entry) (e : Entry) (old : Option Nodes) → option_map (with_node (name_of e) (node_of e)) (option_map (with_entries done) old) ≡ option_map (with_entries (done ++ e ∷ [])) old
 one_more done e None = refl
-one_more done e (Some held) = ap Some (sym (fold-append with_entry held done (e ∷ [])))
+one_more done e (Some held) = ap Some (sym (fold-append with_entry_node held done (e ∷ [])))
 
 no_clash : (done : List Entry) (e : Entry) (rest : List Entry) (held : Nodes) → first_met (done ++ e ∷ rest) held ≡ None → is_clash (Some (node_of e)) (map.get held (name_of e)) ≡ false
 no_clash [] e rest held none = by_test (is_clash (Some (node_of e)) (map.get held (name_of e))) none
@@ -31,8 +31,8 @@ no_clash (x ∷ done) e rest held none = no_clash done e rest held (by_test (is_
     by_test false h = h
 
 module _ (entries : List Entry) (old : ShadeState) where
-  module _ (e : Entry) (rest : List Entry) (now : ShadeState) (before : ArePut entries (e ∷ rest) old now) where
-    pub more_put : (next : ShadeState) → next.nodes ≡ option_map (with_node (name_of e) (node_of e)) now.nodes → IsOneMore now.calls next.calls → next.faults ≡ now.faults → ArePut entries rest old next
+  module _ (e : Entry) (rest : List Entry) (now : ShadeState) (before : EntriesPut entries (e ∷ rest) old now) where
+    pub more_put : (next : ShadeState) → next.nodes ≡ option_map (with_node (name_of e) (node_of e)) now.nodes → IsOneMore now.calls next.calls → next.faults ≡ now.faults → EntriesPut entries rest old next
     more_put next is call steady = record {
       done = before.done ++ e ∷ [];
       parts = before.parts ∙ sym (append_assoc before.done (e ∷ []) rest);
@@ -60,7 +60,7 @@ distinct_front : (done rest : List Entry) → AreDistinct (done ++ rest) → Are
 distinct_front [] rest distinct = tt
 distinct_front (e ∷ done) rest distinct = (new_front (name_of e) done rest distinct.0, distinct_front done rest distinct.1)
   where
-    new_front : (name : List ℕ) (front back : List Entry) → IsNew name (front ++ back) → IsNew name front
+    new_front : (name : List ℕ) (front back : List Entry) → HasNewName name (front ++ back) → HasNewName name front
     new_front name [] back new = tt
     new_front name (x ∷ front) back new = (new.0, new_front name front back new.1)
 
@@ -103,7 +103,7 @@ pub record IsCutLeft (entries : List Entry) (held : Nodes) (now : Option Nodes) 
   pub told : now ≡ Some left
   pub each : (q : List ℕ) → MayHold (own_node q entries) (map.get held q) (map.get left q)
 
-pub cut_left : (entries : List Entry) (held : Nodes) (now : Option Nodes) → AreDistinct entries → AreCut entries (Some held) now → IsCutLeft entries held now
+pub cut_left : (entries : List Entry) (held : Nodes) (now : Option Nodes) → AreDistinct entries → EntriesPartlyPut entries (Some held) now → IsCutLeft entries held now
 cut_left entries held now distinct cut =
     subst (λ (l : List Entry). IsCutLeft l held now) (sym cut.parts) (by_node (node_of cut.entry) refl cut.cut)
   where

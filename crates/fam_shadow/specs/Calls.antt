@@ -8,7 +8,7 @@ use Rattle.fam_media.specs.Causes.{Rose}
 use Rattle.fam_shadow.specs.declared.fault.ShadowFault.{ShadowFault}
 use Rattle.fam_shadow.specs.declared.fault.ShadowFault.TheVariants as fault
 use Rattle.fam_shadow.specs.Nodes.{ShadeState, ShadeChange}
-use Rattle.fam_shadow.specs.Passes.{AreCut, IsCutAt, calls_behind, with_entries}
+use Rattle.fam_shadow.specs.Passes.{EntriesPartlyPut, IsCutAt, calls_behind, with_entries}
 use Rattle.fam_shadow.specs.Shadows.{name_of, node_of}
 
 -- no call failed, and one was made for each of these entries
@@ -44,7 +44,7 @@ abbrev pub CallsOf : List Entry → ShadeState → ShadeState → Result (Unit {
 CallsOf entries before now (Ok done) = WereMade (entries ++ entries) before now
 CallsOf entries before now (Err (fault.Clash name)) = WereMade entries before now
 CallsOf entries before now (Err (fault.ShadeFault name)) = LookFailed entries before now name ⊎ PutFailed entries entries before now name
-CallsOf entries before now (Err fault.OutOfMemory) = (now.faults ≡ before.faults) × ((now.nodes ≡ before.nodes) ⊎ AreCut entries before.nodes now.nodes)
+CallsOf entries before now (Err fault.OutOfMemory) = (now.faults ≡ before.faults) × ((now.nodes ≡ before.nodes) ⊎ EntriesPartlyPut entries before.nodes now.nodes)
 
 -- so of a tree's entries, in byte order of their paths
 abbrev pub CallsMade : Tree → ShadeChange → Result (Unit {0}) ShadowFault → Type 0

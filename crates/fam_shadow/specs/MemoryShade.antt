@@ -22,10 +22,10 @@ abbrev pub next_kept : MemShadeState → Option ℕ
 next_kept s = planned s.plan s.calls
 
 -- the bytes of a name, None where no file has it
-abbrev pub bytes_in : Option Node → Option (List ℕ)
-bytes_in None = None
-bytes_in (Some Directory) = None
-bytes_in (Some (File bytes)) = Some bytes
+abbrev pub node_bytes : Option Node → Option (List ℕ)
+node_bytes None = None
+node_bytes (Some Directory) = None
+node_bytes (Some (File bytes)) = Some bytes
 
 -- after a call: it was counted, and where it failed a fault
 abbrev pub after_call : MemShadeState → MemShadeState

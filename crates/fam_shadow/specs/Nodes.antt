@@ -48,7 +48,7 @@ IsTornPut old new name bytes = (new ≡ old) ⊎ ((kept : ℕ) × (new ≡ optio
 
 -- the count of faults did not fall during a call: it rose where the call failed, and stayed where it was done and where no
 -- memory was left
-pub record IsCounted (before now : ℕ) (result : Result (Unit {0}) ShadeStop) : Type 0 where
+pub record CountsFaults (before now : ℕ) (result : Result (Unit {0}) ShadeStop) : Type 0 where
   pub later : before ≤ now
   pub failed : IsErrOf result stop.Failed → Rose before now
   pub memory : IsErrOf result stop.OutOfMemory → now ≡ before

@@ -24,22 +24,22 @@ abbrev pub AreProper : List Entry → Type 0
 AreProper entries = AllByRecursion (λ e. is_path e.path ≡ true) entries
 
 -- no two entries have one name
-abbrev pub IsNew : List ℕ → List Entry → Type 0
-IsNew name entries = AllByRecursion (λ e. name_of e ≢ name) entries
+abbrev pub HasNewName : List ℕ → List Entry → Type 0
+HasNewName name entries = AllByRecursion (λ e. name_of e ≢ name) entries
 
 -- all names differ
 abbrev pub AreDistinct : List Entry → Type 0
 AreDistinct [] = ⊤
-AreDistinct (e ∷ entries) = IsNew (name_of e) entries × AreDistinct entries
+AreDistinct (e ∷ entries) = HasNewName (name_of e) entries × AreDistinct entries
 
 -- of an entry of this kind, what was seen at its name is the other kind
-abbrev pub is_other : Kind → Look → Bool
-is_other kind.Directory look.Nothing = false
-is_other kind.Directory look.Directory = false
-is_other kind.Directory look.File = true
-is_other kind.File look.Nothing = false
-is_other kind.File look.Directory = true
-is_other kind.File look.File = false
+abbrev pub is_other_kind : Kind → Look → Bool
+is_other_kind kind.Directory look.Nothing = false
+is_other_kind kind.Directory look.Directory = false
+is_other_kind kind.Directory look.File = true
+is_other_kind kind.File look.Nothing = false
+is_other_kind kind.File look.Directory = true
+is_other_kind kind.File look.File = false
 
 -- the first of these entries at whose name the other kind stands
 abbrev pub first_met : List Entry → Nodes → Option (List ℕ)
@@ -47,12 +47,12 @@ first_met [] held = None
 first_met (e ∷ entries) held = if is_clash (Some (node_of e)) (map.get held (name_of e)) then Some (name_of e) else first_met entries held
 
 -- the nodes, with those of these entries
-abbrev pub with_entry : Nodes → Entry → Nodes
-with_entry held e = with_node (name_of e) (node_of e) held
+abbrev pub with_entry_node : Nodes → Entry → Nodes
+with_entry_node held e = with_node (name_of e) (node_of e) held
 
 -- with those of all of them
 abbrev pub with_entries : List Entry → Nodes → Nodes
-with_entries entries held = fold with_entry held entries
+with_entries entries held = fold with_entry_node held entries
 
 -- the count of calls, one more for each of these entries
 abbrev pub calls_behind : List Entry → Option ℕ → Option ℕ
@@ -69,7 +69,7 @@ pub record AreSeen (entries rest : List Entry) (old now : ShadeState) (seen : Op
   pub faults : now.faults ≡ old.faults
 
 -- these entries were put, and the rest is to come
-pub record ArePut (entries rest : List Entry) (old now : ShadeState) : Type 0 where
+pub record EntriesPut (entries rest : List Entry) (old now : ShadeState) : Type 0 where
   pub done : List Entry
   pub parts : entries ≡ done ++ rest
   pub is : now.nodes ≡ option_map (with_entries done) old.nodes
@@ -82,7 +82,7 @@ IsCutAt Directory name old now = now ≡ old
 IsCutAt (File bytes) name old now = IsTornPut old now name bytes
 
 -- some entries were put, up to one that wasn't
-pub record AreCut (entries : List Entry) (old now : Option Nodes) : Type 0 where
+pub record EntriesPartlyPut (entries : List Entry) (old now : Option Nodes) : Type 0 where
   pub done : List Entry
   pub entry : Entry
   pub rest : List Entry

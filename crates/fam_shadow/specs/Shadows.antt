@@ -71,20 +71,20 @@ abbrev pub IsShadowed : Tree → Nodes → Nodes → Type 0
 IsShadowed tree old new = (name : List ℕ) → map.get new name ≡ option_or (map.get (shadow tree) name) (map.get old name)
 
 -- the bytes of a file begin so
-abbrev pub IsBegun : Node → Option Node → Type 0
-IsBegun (File bytes) (Some (File now)) = (kept : ℕ) × (now ≡ take kept bytes)
-IsBegun (File bytes) (Some Directory) = ⊥
-IsBegun (File bytes) None = ⊥
-IsBegun Directory now = ⊥
+abbrev pub HoldsPrefix : Node → Option Node → Type 0
+HoldsPrefix (File bytes) (Some (File now)) = (kept : ℕ) × (now ≡ take kept bytes)
+HoldsPrefix (File bytes) (Some Directory) = ⊥
+HoldsPrefix (File bytes) None = ⊥
+HoldsPrefix Directory now = ⊥
 
 -- what may stand at a name behind a run that stopped, by its own node and what it held: what it held; and where it has an
 -- own node, that, or a prefix of its bytes
 abbrev pub MayHold : Option Node → Option Node → Option Node → Type 0
 MayHold None held now = now ≡ held
-MayHold (Some own) held now = (now ≡ held) ⊎ (now ≡ Some own) ⊎ IsBegun own now
+MayHold (Some own) held now = (now ≡ held) ⊎ (now ≡ Some own) ⊎ HoldsPrefix own now
 
 -- what a run that stopped leaves. It changes nothing where a name holds the other kind
-pub record IsLeft (tree : Tree) (old left : Nodes) : Type 0 where
+pub record IsLeftInPart (tree : Tree) (old left : Nodes) : Type 0 where
   pub looked : (left ≡ old) ⊎ (clash_of tree old ≡ None)
   pub each : (name : List ℕ) → MayHold (map.get (shadow tree) name) (map.get old name) (map.get left name)
 
@@ -103,12 +103,12 @@ Runs tree old new = RunsBy (clash_of tree old) tree old new
 abbrev pub ShadowEnds : Tree → Result (Unit {0}) ShadowFault → Nodes → Nodes → Type 0
 ShadowEnds tree (Ok done) old new = (clash_of tree old ≡ None) × IsShadowed tree old new
 ShadowEnds tree (Err (fault.Clash name)) old new = (clash_of tree old ≡ Some name) × (new ≡ old)
-ShadowEnds tree (Err (fault.ShadeFault name)) old new = IsLeft tree old new
-ShadowEnds tree (Err fault.OutOfMemory) old new = IsLeft tree old new
+ShadowEnds tree (Err (fault.ShadeFault name)) old new = IsLeftInPart tree old new
+ShadowEnds tree (Err fault.OutOfMemory) old new = IsLeftInPart tree old new
 
 -- where the nodes are told before, they are told after, and the two are so related
-abbrev pub Becomes : Option Nodes → Option Nodes → (Nodes → Nodes → Type 0) → Type 0
-Becomes before after P = (old : Nodes) → before ≡ Some old → (new : Nodes) × ((after ≡ Some new) × P old new)
+abbrev pub NodesBecome : Option Nodes → Option Nodes → (Nodes → Nodes → Type 0) → Type 0
+NodesBecome before after P = (old : Nodes) → before ≡ Some old → (new : Nodes) × ((after ≡ Some new) × P old new)
 
 -- a fault names an entry of these
 abbrev pub IsNamed : List Entry → List ℕ → Type 0

@@ -10,9 +10,9 @@ ghost use Rattle.fam_media.specs.Files.{name_cmp};
 ghost use Rattle.fam_media.specs.Outside.{IfModelled};
 ghost use Rattle.fam_shadow.specs.declared.node.Node.TheVariants as node;
 ghost use Rattle.fam_shadow.specs.MemoryShade as spec;
-ghost use Rattle.fam_shadow.specs.MemoryShade.{after_call, after_make_dir, after_put, bytes_in, empty_shade};
+ghost use Rattle.fam_shadow.specs.MemoryShade.{after_call, after_make_dir, after_put, node_bytes, empty_shade};
 ghost use Rattle.fam_shadow.specs.Nodes as nodes;
-ghost use Rattle.fam_shadow.specs.Nodes.{IsCall, IsCounted, IsOneMore, IsTornPut, look_at, with_node};
+ghost use Rattle.fam_shadow.specs.Nodes.{IsCall, CountsFaults, IsOneMore, IsTornPut, look_at, with_node};
 
 use crate::node::Node;
 use crate::shade::{Look, Shade, ShadeStop};
@@ -134,7 +134,7 @@ impl MemShade {
 
     /// The bytes of a name, and `None` exactly where no file has it.
     pub fn at(&self, name: &str) -> Option<&[u8]>
-        ensures { option_map (λ bytes. bytes.now) result ≡ bytes_in (map.get self.now.nodes name.now) }
+        ensures { option_map (λ bytes. bytes.now) result ≡ node_bytes (map.get self.now.nodes name.now) }
     {
         match self.node(name) {
             Some(Node::File(bytes)) => Some(bytes.bytes()),
@@ -210,7 +210,7 @@ impl Shade for MemShade {
 
         ensures made { OnOk result (Some self.new.nodes ≡ option_map (with_node name.now node.Directory) (Some self.old.nodes)) }
         ensures err { OnErr result (Some self.new.nodes ≡ Some self.old.nodes) }
-        ensures cause { IsCounted self.old.faults self.new.faults result }
+        ensures cause { CountsFaults self.old.faults self.new.faults result }
         ensures call { IsCall (Some self.old.calls) (Some self.new.calls) result }
 
         // It fails exactly where that was planned, and finds memory or changes nothing.
@@ -236,7 +236,7 @@ impl Shade for MemShade {
         ensures put { OnOk result (Some self.new.nodes ≡ option_map (with_node name.now (node.File bytes.now)) (Some self.old.nodes)) }
         ensures torn { IsErrOf result ShadeStop.Failed → IsTornPut (Some self.old.nodes) (Some self.new.nodes) name.now bytes.now }
         ensures memory { IsErrOf result ShadeStop.OutOfMemory → Some self.new.nodes ≡ Some self.old.nodes }
-        ensures cause { IsCounted self.old.faults self.new.faults result }
+        ensures cause { CountsFaults self.old.faults self.new.faults result }
         ensures call { IsCall (Some self.old.calls) (Some self.new.calls) result }
 
         // It fails exactly where that was planned, and finds memory or changes nothing.

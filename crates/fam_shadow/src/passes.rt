@@ -7,11 +7,11 @@ ghost use Rattle.fam_base.specs.Paths.{is_path};
 ghost use Rattle.fam_media.specs.Outside.{IfModelled};
 ghost use Rattle.fam_media.specs.States.{change};
 ghost use Rattle.fam_shadow.specs.Calls.{CallsMade, LooksStop, PutsStop, WereMade};
-ghost use Rattle.fam_shadow.specs.Nodes.{IsCall, IsCounted, IsOneMore, with_node};
+ghost use Rattle.fam_shadow.specs.Nodes.{IsCall, CountsFaults, IsOneMore, with_node};
 ghost use Rattle.fam_shadow.specs.Shadows as spec;
-ghost use Rattle.fam_shadow.specs.Shadows.{Becomes, FaultCaused, ShadowEnds, is_clash, node_of};
+ghost use Rattle.fam_shadow.specs.Shadows.{NodesBecome, FaultCaused, ShadowEnds, is_clash, node_of};
 ghost use Rattle.fam_shadow.specs.Passes as pass;
-ghost use Rattle.fam_shadow.specs.Passes.{AreCut, AreDistinct, CallStops, EntryFault, IsCutAt, PassFault, first_met, with_entries};
+ghost use Rattle.fam_shadow.specs.Passes.{EntriesPartlyPut, AreDistinct, CallStops, EntryFault, IsCutAt, PassFault, first_met, with_entries};
 
 use crate::fault::ShadowFault;
 use crate::names::{description, name_of};
@@ -22,7 +22,7 @@ use std::alloc::Global;
 
 /// Whether what was seen at the name of an entry of this kind is the other kind.
 fn is_other(kind: Kind, look: Look) -> bool
-    ensures { result ≡ pass.is_other kind look }
+    ensures { result ≡ pass.is_other_kind kind look }
 {
     match kind {
         Kind::Directory => look == Look::File,
@@ -88,7 +88,7 @@ fn put_node<D: Shade>(
     requires clear { IfModelled (D.state shade.old).nodes (λ held. is_clash (Some (node_of entry.now)) (map.get held name.now) ≡ false) }
     ensures put { OnOk result ((D.state shade.new).nodes ≡ option_map (with_node name.now (node_of entry.now)) (D.state shade.old).nodes) }
     ensures cut { OnErr result (IsCutAt (node_of entry.now) name.now (D.state shade.old).nodes (D.state shade.new).nodes) }
-    ensures cause { IsCounted (D.state shade.old).faults (D.state shade.new).faults result }
+    ensures cause { CountsFaults (D.state shade.old).faults (D.state shade.new).faults result }
     ensures call { IsCall (D.state shade.old).calls (D.state shade.new).calls result }
 {
     match entry.kind {
@@ -126,7 +126,7 @@ fn put_all<D: Shade>(alloc: Global, tree: &Tree, shade: &mut D) -> Result<(), Sh
     requires distinct { AreDistinct (map.values tree.now) }
     requires clear { IfModelled (D.state shade.old).nodes (λ held. first_met (map.values tree.now) held ≡ None) }
     ensures put { OnOk result ((D.state shade.new).nodes ≡ option_map (with_entries (map.values tree.now)) (D.state shade.old).nodes) }
-    ensures cut { OnErr result (AreCut (map.values tree.now) (D.state shade.old).nodes (D.state shade.new).nodes) }
+    ensures cut { OnErr result (EntriesPartlyPut (map.values tree.now) (D.state shade.old).nodes (D.state shade.new).nodes) }
     ensures fault { IfErr result (PassFault (map.values tree.now) (D.state shade.old).faults (D.state shade.new).faults) }
     ensures later { (D.state shade.old).faults ≤ (D.state shade.new).faults }
     ensures calls { OnOk result (WereMade (map.values tree.now) (D.state shade.old) (D.state shade.new)) }
@@ -147,7 +147,7 @@ fn put_all<D: Shade>(alloc: Global, tree: &Tree, shade: &mut D) -> Result<(), Sh
 /// what it held, its node, or a prefix of its bytes: the names before it were made, and none behind it. A later run ends
 /// as this one would have. No other name is touched.
 pub fn shadow<D: Shade>(alloc: Global, tree: &Tree, shade: &mut D) -> Result<(), ShadowFault>
-    ensures ends { Becomes (D.state shade.old).nodes (D.state shade.new).nodes (ShadowEnds tree.now result) }
+    ensures ends { NodesBecome (D.state shade.old).nodes (D.state shade.new).nodes (ShadowEnds tree.now result) }
     ensures cause { IfErr result (FaultCaused tree.now (D.state shade.old).faults (D.state shade.new).faults) }
     ensures calls { CallsMade tree.now (change D.state shade.old shade.new) result }
     ensures later { (D.state shade.old).faults ≤ (D.state shade.new).faults }

@@ -5,7 +5,7 @@ ghost use Rattle.std.specs.Option.{option_map};
 ghost use Rattle.fam_media.specs.Causes.{HasCause};
 ghost use Rattle.fam_media.specs.Outside.{IfModelled};
 ghost use Rattle.fam_shadow.specs.declared.node.Node.TheVariants as node;
-ghost use Rattle.fam_shadow.specs.Nodes.{IsCall, IsCounted, IsOneMore, IsTornPut, ShadeState, look_at, with_node};
+ghost use Rattle.fam_shadow.specs.Nodes.{IsCall, CountsFaults, IsOneMore, IsTornPut, ShadeState, look_at, with_node};
 
 use fam_media::Failed;
 
@@ -45,7 +45,7 @@ pub trait Shade {
 
         ensures made { OnOk result ((state self.new).nodes ≡ option_map (with_node name.now node.Directory) (state self.old).nodes) }
         ensures err { OnErr result ((state self.new).nodes ≡ (state self.old).nodes) }
-        ensures cause { IsCounted (state self.old).faults (state self.new).faults result }
+        ensures cause { CountsFaults (state self.old).faults (state self.new).faults result }
         ensures call { IsCall (state self.old).calls (state self.new).calls result };
 
     /// Makes the name a file of these bytes, in place of those that it has. Where that fails the name is as before, or
@@ -56,6 +56,6 @@ pub trait Shade {
         ensures put { OnOk result ((state self.new).nodes ≡ option_map (with_node name.now (node.File bytes.now)) (state self.old).nodes) }
         ensures torn { IsErrOf result ShadeStop.Failed → IsTornPut (state self.old).nodes (state self.new).nodes name.now bytes.now }
         ensures memory { IsErrOf result ShadeStop.OutOfMemory → (state self.new).nodes ≡ (state self.old).nodes }
-        ensures cause { IsCounted (state self.old).faults (state self.new).faults result }
+        ensures cause { CountsFaults (state self.old).faults (state self.new).faults result }
         ensures call { IsCall (state self.old).calls (state self.new).calls result };
 }

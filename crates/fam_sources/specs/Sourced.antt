@@ -19,7 +19,7 @@ use Rattle.fam_journal.specs.Events.{Ready, SourceSays, Unfit, copy_limit, sourc
 use Rattle.fam_grammar.specs.Sound.{IsSoundAsk}
 use Rattle.fam_journal.specs.Follows as journal
 use Rattle.fam_journal.specs.Follows.{IsShortOf}
-use Rattle.fam_sources.specs.Whole.{HoldsBytes}
+use Rattle.fam_sources.specs.Whole.{FilesHold}
 use Rattle.fam_sources.specs.declared.sourced.Given.{Given}
 use Rattle.fam_sources.specs.declared.sourced.Given.TheVariants as given
 use Rattle.fam_sources.specs.declared.sourced.SourceEnd.{SourceEnd}
@@ -73,15 +73,15 @@ IsGiven change copied name (given.Unfit cause) = IsAbsent change copied name cau
 IsGiven change copied name (given.Ended end) = (what : Ask) → source_of what ≡ Some name → IsEnded change copied what end
 
 -- what comes of the bytes of a listing, or of bytes that are none
-abbrev pub IsListed : List ℕ → Sourced → Type 0
-IsListed bytes (sourced.Ready cmd) =
+abbrev pub ReadsListing : List ℕ → Sourced → Type 0
+ReadsListing bytes (sourced.Ready cmd) =
     (entries : List Entry) × (cmd ≡ Check entries) × IsListing entries × ListingSays bytes (Ok entries)
-IsListed bytes (sourced.Unfit cause) = (line : ℕ) × (cause ≡ why.BadListing line) × ListingSays bytes (Err line)
-IsListed bytes (sourced.Ended end) = ⊥
+ReadsListing bytes (sourced.Unfit cause) = (line : ℕ) × (cause ≡ why.BadListing line) × ListingSays bytes (Err line)
+ReadsListing bytes (sourced.Ended end) = ⊥
 
 -- memory is wanted for a source alone, one that is there and within the limit
 abbrev pub WantsBytes : ShelfChange → ℕ → List ℕ → Type 0
-WantsBytes change copied name = HoldsBytes change.old.files name (λ bytes. copied + length bytes ≤ copy_limit)
+WantsBytes change copied name = FilesHold change.old.files name (λ bytes. copied + length bytes ≤ copy_limit)
 
 -- so of an ask: a plain one wants none
 abbrev pub WantsSource : ShelfChange → ℕ → Ask → Type 0

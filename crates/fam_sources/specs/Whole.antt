@@ -15,8 +15,8 @@ pub record Wanted : Type 0 where
   pub limit : ℕ
 
 -- where the files are modelled, this is the file's bytes
-abbrev pub HoldsBytes : Option Files → List ℕ → (List ℕ → Type 0) → Type 0
-HoldsBytes files name P = IfModelled files (λ files. (bytes : List ℕ) × (map.get files name ≡ Some bytes) × P bytes)
+abbrev pub FilesHold : Option Files → List ℕ → (List ℕ → Type 0) → Type 0
+FilesHold files name P = IfModelled files (λ files. (bytes : List ℕ) × (map.get files name ≡ Some bytes) × P bytes)
 
 -- bytes of others and those of a file, as one number of 64 bits
 abbrev pub sum_of : ℕ → ℕ → ℕ
@@ -30,12 +30,12 @@ WholeSays change w (Ok bytes) =
     (w.copied + length bytes ≤ w.limit) × IfModelled change.old.files (λ files. map.get files w.name ≡ Some bytes)
 WholeSays change w (Err NoFile) = IfModelled change.old.files (λ files. map.get files w.name ≡ None)
 WholeSays change w (Err (TooLong sum)) =
-    (w.limit < sum) × HoldsBytes change.old.files w.name (λ bytes. (sum ≡ sum_of w.copied (length bytes)) × (length bytes < 2 ^ 64))
+    (w.limit < sum) × FilesHold change.old.files w.name (λ bytes. (sum ≡ sum_of w.copied (length bytes)) × (length bytes < 2 ^ 64))
 WholeSays change w (Err Faulted) = Rose change.old.faults change.new.faults
 WholeSays change w (Err (Short size got)) =
     (got < size) × (w.copied + size ≤ w.limit) × Rose change.old.shorts change.new.shorts
-    × HoldsBytes change.old.files w.name (λ bytes. size ≡ length bytes)
-WholeSays change w (Err OutOfMemory) = HoldsBytes change.old.files w.name (λ bytes. w.copied + length bytes ≤ w.limit)
+    × FilesHold change.old.files w.name (λ bytes. size ≡ length bytes)
+WholeSays change w (Err OutOfMemory) = FilesHold change.old.files w.name (λ bytes. w.copied + length bytes ≤ w.limit)
 
 -- filling a place of so many bytes fails: the shelf does, or a read gave no byte
 abbrev pub FillFails : ShelfChange → List ℕ → ℕ → WholeFault → Type 0

@@ -4,7 +4,7 @@ ghost use Rattle.std.specs.Prelude.{◌≡◌, IfOk, OnErr};
 ghost use Rattle.fam_media.specs.Causes.{IsShelfSteady};
 ghost use Rattle.fam_media.specs.States.{change};
 ghost use Rattle.fam_journal.specs.declared.event.Ask.TheVariants as ask;
-ghost use Rattle.fam_sources.specs.Sourced.{IsGiven, IsListed, IsSourced, WantsBytes, WantsSource};
+ghost use Rattle.fam_sources.specs.Sourced.{IsGiven, ReadsListing, IsSourced, WantsBytes, WantsSource};
 
 use crate::whole::{WholeFault, read_whole};
 use fam_base::{
@@ -147,7 +147,7 @@ fn verify<S: Shelf>(
 
 /// Compare the tree with the listing that these bytes are.
 fn listed(alloc: Global, bytes: &[u8]) -> Result<Sourced, OutOfMemory>
-    ensures { IfOk result (IsListed bytes.now) }
+    ensures { IfOk result (ReadsListing bytes.now) }
 {
     match read_listing(alloc, bytes) {
         Ok(entries) => Ok(Sourced::Ready(Cmd::Check {

@@ -6,7 +6,7 @@ ghost use Rattle.fam_media.specs.Outside.{IfModelled};
 ghost use Rattle.fam_media.specs.Causes.{IsShelfSteady};
 ghost use Rattle.fam_media.specs.States.{change};
 ghost use Rattle.fam_sources.specs.declared.whole.WholeFault.TheVariants.{OutOfMemory};
-ghost use Rattle.fam_sources.specs.Whole.{FillFails, HoldsBytes, WholeSays};
+ghost use Rattle.fam_sources.specs.Whole.{FillFails, FilesHold, WholeSays};
 
 use fam_media::Shelf;
 use std::alloc::Global;
@@ -43,7 +43,7 @@ fn size_of<S: Shelf>(shelf: &mut S, name: &str, copied: u64, limit: u64) -> Resu
     requires { limit < 2 ^ 64 - 1 }
     ensures within { IfOk result (λ size. copied + size ≤ limit) }
     ensures size { IfOk result (λ size.
-        HoldsBytes (S.state shelf.old).files name.now (λ bytes. size ≡ length bytes)) }
+        FilesHold (S.state shelf.old).files name.now (λ bytes. size ≡ length bytes)) }
     ensures fault { IfErr result (λ fault. WholeSays (change S.state shelf.old shelf.new)
         (record { name = name.now; copied = copied; limit = limit }) (Err fault)) }
     ensures steady { IsShelfSteady (S.state shelf.old) (S.state shelf.new) }

@@ -17,7 +17,7 @@ use Rattle.fam_words.specs.declared.wanted.Shot.TheVariants as shot
 use Rattle.fam_words.specs.Calls as given
 use Rattle.fam_words.specs.Calls.{call_of}
 use Rattle.fam_words.proofs.UuidWords.{call_uuids}
-use Rattle.fam_top.specs.Calls.{HasOneShotUuids, HasCommandUuids, command_of, fs_or, host_or, shot_of}
+use Rattle.fam_top.specs.Calls.{HasOneShotUuids, HasCommandUuids, invoked_command, fs_or, host_or, shot_of}
 use Rattle.fam_top.specs.Fresh.{version4_of}
 use Rattle.fam_top.specs.Words.{invocation_named, shadow_host}
 
@@ -35,16 +35,16 @@ module _ (me random : List ℕ) (me_is : IsUuid me) (random_is : IsUuid (version
   shot_is (shot.Run what) is = tt
   shot_is (shot.Parents path attr) is = tt
 
-  invocation_is : (i : Invocation) → given.HasUuids i → HasCommandUuids (command_of me random i)
+  invocation_is : (i : Invocation) → given.HasUuids i → HasCommandUuids (invoked_command me random i)
   invocation_is (invocation.Single system what) is = (host_is system is.0, shot_is what is.1)
   invocation_is (invocation.Script file) is = tt
   invocation_is (invocation.Storm seed size prints) is = tt
 
-  call_is : (o : Option Call) → IfSome o (λ call. given.HasUuids call.invocation) → IfSome (option_map (command_of me random) (option_map (λ (call : Call). call.invocation) o)) HasCommandUuids
+  call_is : (o : Option Call) → IfSome o (λ call. given.HasUuids call.invocation) → IfSome (option_map (invoked_command me random) (option_map (λ (call : Call). call.invocation) o)) HasCommandUuids
   call_is None is = tt
   call_is (Some call) is = invocation_is call.invocation is
 
-  pub named_uuids : (words : List (List ℕ)) → IfSome (option_map (command_of me random) (invocation_named words)) HasCommandUuids
+  pub named_uuids : (words : List (List ℕ)) → IfSome (option_map (invoked_command me random) (invocation_named words)) HasCommandUuids
   unfolding invocation_named
   named_uuids words = call_is (call_of words) (call_uuids words)
 

@@ -33,10 +33,10 @@ shot_of random (shot.Run what) = Runs what
 shot_of random (shot.Parents path attr) = MakesParents path attr
 
 -- the command that an invocation is: on the host that it names, or this one
-abbrev pub command_of : List ℕ → List ℕ → Invocation → Command
-command_of me random (invocation.Single system what) = Single (host_or me system) (shot_of random what)
-command_of me random (invocation.Script file) = Script file
-command_of me random (invocation.Storm seed size prints) = Storm seed size prints
+abbrev pub invoked_command : List ℕ → List ℕ → Invocation → Command
+invoked_command me random (invocation.Single system what) = Single (host_or me system) (shot_of random what)
+invoked_command me random (invocation.Script file) = Script file
+invoked_command me random (invocation.Storm seed size prints) = Storm seed size prints
 
 -- the UUIDs of a command of its own are UUIDs: the host's, and that of a new file system, whose format is one that there is
 abbrev pub HasOneShotUuids : OneShot → Type 0
@@ -54,7 +54,7 @@ HasCommandUuids (Storm seed size prints) = ⊤
 -- command. Each command runs on hosts with caches and keeps a journal: the text is that of one journal, and the image that is
 -- left is where that journal leads
 pub record CallEnds (asked : Option Invocation) (me random : List ℕ) (out : Outside) (status : Status) : Type 0 where
-  pub ends : TopEnds script_events storm (option_map (command_of me random) asked) out status
+  pub ends : TopEnds script_events storm (option_map (invoked_command me random) asked) out status
   -- what the laws of runs ask for: an image that is modelled is one, the command's UUIDs are UUIDs, and its format is one
   pub image : IfModelled out.media.old.image IsImage
-  pub uuids : IfSome (option_map (command_of me random) asked) HasCommandUuids
+  pub uuids : IfSome (option_map (invoked_command me random) asked) HasCommandUuids

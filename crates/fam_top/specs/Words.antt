@@ -48,9 +48,9 @@ abbrev pub dup_request : List ℕ → DupCall → MkfsRequest
 dup_request random call = mkfs_request (fs_or random call.fs) call.unit call.log call.format call.force None
 
 -- the copy that a call asks for: on the host that it names, or this one
-abbrev pub copy_of : List ℕ → List ℕ → DupCall → CopyAsked
-copy_of me random call = copy_asked (host_or me call.system) (dup_request random call)
+abbrev pub asked_copy : List ℕ → List ℕ → DupCall → CopyAsked
+asked_copy me random call = copy_asked (host_or me call.system) (dup_request random call)
 
 -- that of the words, and `None` where they ask for none
 abbrev pub copy_named : List ℕ → List ℕ → List (List ℕ) → Option CopyAsked
-copy_named me random words = option_map (copy_of me random) (dup_call words)
+copy_named me random words = option_map (asked_copy me random) (dup_call words)

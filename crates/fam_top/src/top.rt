@@ -9,7 +9,7 @@ ghost use Rattle.fam_program.specs.Runs.{outside_of};
 ghost use Rattle.fam_storm.specs.Storm.{storm};
 ghost use Rattle.fam_words.specs.Calls.{IsSoundInvocation, IsSoundShot};
 ghost use Rattle.fam_top.specs.Calls as calls;
-ghost use Rattle.fam_top.specs.Calls.{CallEnds, command_of, shot_of};
+ghost use Rattle.fam_top.specs.Calls.{CallEnds, invoked_command, shot_of};
 ghost use Rattle.fam_top.specs.Words.{invocation_named};
 
 use crate::fresh::{fs_or, has_uuid};
@@ -88,7 +88,7 @@ fn run_invocation<M: Media, S: Shelf, K: Sink>(
     out: &mut K,
 ) -> Status
     requires sound { IsSoundInvocation invocation }
-    ensures ends { TopEnds script_events storm (Some (command_of me random invocation)) (outside_of M.size M.state
+    ensures ends { TopEnds script_events storm (Some (invoked_command me random invocation)) (outside_of M.size M.state
         media.old media.new (change S.state shelf.old shelf.new)
         (change K.state out.old out.new)) result }
     ensures steady { IsSteady M.size M.state media.old media.new }

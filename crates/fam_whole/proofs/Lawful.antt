@@ -19,7 +19,7 @@ use Rattle.fam_outcomes.specs.Runs.{HasRun, Outside, RunsOn}
 use Rattle.fam_outcomes.proofs.Faultless.{run_complete}
 use Rattle.fam_storm.specs.Storm.{storm}
 use Rattle.fam_words.specs.declared.wanted.Invocation.{Invocation}
-use Rattle.fam_top.specs.Calls.{CallEnds, HasOneShotUuids, HasCommandUuids, command_of}
+use Rattle.fam_top.specs.Calls.{CallEnds, HasOneShotUuids, HasCommandUuids, invoked_command}
 use Rattle.fam_whole.specs.Called.{IsLawful, OfRun, RunsLawfully}
 use Rattle.fam_whole.proofs.Shots.{IsSoundShot, shot_events_sound}
 
@@ -58,6 +58,6 @@ module _ (out : Outside) (files : Files) (start : Image) (told_start : out.media
 
 -- the run that the clause tells
 pub call_lawful : (asked : Option Invocation) (me random : List ℕ) (out : Outside) (given : Status) (files : Files) (start : Image) → (call : CallEnds asked me random out given) → out.media.old.image ≡ Some start → out.shelf.old.files ≡ Some files
-    → IsLawful out files start (option_map (command_of me random) asked) given call.ends.own call.ends.text call.ends.shows
+    → IsLawful out files start (option_map (invoked_command me random) asked) given call.ends.own call.ends.text call.ends.shows
 call_lawful asked me random out given files start call told_start told =
-    shown out files start told_start told (call.image start told_start) (option_map (command_of me random) asked) given call.ends.own call.ends.text call.uuids call.ends.shows
+    shown out files start told_start told (call.image start told_start) (option_map (invoked_command me random) asked) given call.ends.own call.ends.text call.uuids call.ends.shows

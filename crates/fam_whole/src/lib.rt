@@ -34,7 +34,7 @@ ghost use Rattle.fam_words.specs.declared.wanted.Invocation.{Invocation};
 ghost use Rattle.fam_words.specs.declared.wanted.Invocation.TheVariants as invocation;
 ghost use Rattle.fam_words.specs.declared.wanted.Shot.{Shot};
 ghost use Rattle.fam_words.specs.declared.wanted.Shot.TheVariants as shot;
-ghost use Rattle.fam_top.specs.Calls.{CallEnds, command_of, fs_or, host_or, shot_of};
+ghost use Rattle.fam_top.specs.Calls.{CallEnds, invoked_command, fs_or, host_or, shot_of};
 ghost use Rattle.fam_whole.specs.Called.{IsLawful};
 ghost use Rattle.fam_whole.specs.Alone.{AskEnds, CommandEnds, FormatsImage, ParentsEnd, ShotFront};
 ghost use Rattle.fam_whole.specs.Whole.{RunsAgree, AreRefusals, AreWhole, EndsExact, EndsFront, EndsNone, IsExact, UpToFault, WholeRun, commands_in, is_move};
@@ -92,7 +92,7 @@ pub fn a_run_is_exact_up_to_a_fault()
 pub fn what_a_call_runs_keeps_the_laws()
     ensures { (asked : Option Invocation) (me random : List ℕ) (out : Outside) (given : Status) (files : Files) (start : Image)
         → (call : CallEnds asked me random out given) → out.media.old.image ≡ Some start → out.shelf.old.files ≡ Some files
-        → IsLawful out files start (option_map (command_of me random) asked) given call.ends.own call.ends.text
+        → IsLawful out files start (option_map (invoked_command me random) asked) given call.ends.own call.ends.text
         call.ends.shows }
 {}
 

@@ -25,8 +25,8 @@ use Rattle.fam_rules.specs.Place.{line_bytes}
 use Rattle.fam_cache.specs.Runs.{over}
 use Rattle.fam_mkfs.specs.declared.make.MkfsEnd.{MkfsEnd}
 use Rattle.fam_mkfs.specs.declared.make.MkfsEnd.TheVariants as ended
-use Rattle.fam_mkfs.specs.Ends.{IsCut, IsFound, IsHaltedAsAsked, IsMadeAsAsked, MkfsEnds, Names}
-use Rattle.fam_mkfs.specs.Refusals.{end_of, refusal}
+use Rattle.fam_mkfs.specs.Ends.{IsCut, FindsSuper, IsHaltedAsAsked, IsMadeAsAsked, MkfsEnds, ReadsUuid}
+use Rattle.fam_mkfs.specs.Refusals.{refusal_end, refusal}
 use Rattle.fam_mkfs.specs.Parts.{IsElsewhere}
 use Rattle.fam_journal.specs.declared.refusal.Refusal.{Refusal}
 use Rattle.fam_journal.specs.declared.refusal.Refusal.TheVariants as why
@@ -38,7 +38,7 @@ use Rattle.fam_journal.specs.Shapes.{HostShaped, IsShaped, Pairs, shapes_behind,
 use Rattle.fam_journal.specs.Kept.{Held}
 use Rattle.fam_journal.specs.Machines.{HostState, Machines, machine_of, with_machine}
 use Rattle.fam_journal.specs.Members.{changed_at}
-use Rattle.fam_journal.specs.Names.{AreNamed}
+use Rattle.fam_journal.specs.ReadsUuid.{AreNamed}
 use Rattle.fam_journal.specs.Notes.{Cut, Made, Note, Refused}
 use Rattle.fam_journal.specs.View.{HostStandsAt, HostView, WorldStands, WorldView}
 use Rattle.fam_journal.specs.ByWorld.{number_in, refusal_in}
@@ -89,7 +89,7 @@ leaves_refused : (cause : Refusal) (c : call.Call) (start : Image) (told now : O
 leaves_refused (why.MediaFault at) c start told now old new none keeps = absurd cc
 leaves_refused other c start told now old new none keeps = keeps
 
-none_before : (o : Option EarlyRefusal) → option_map end_of o ≡ None → o ≡ None
+none_before : (o : Option EarlyRefusal) → option_map refusal_end o ≡ None → o ≡ None
 none_before None e = refl
 none_before (Some x) e = absurd cc
 
@@ -206,14 +206,14 @@ module _ (name : List ℕ) (request : MkfsRequest) (is_sound : IsSoundRequest re
       }
 
     -- a superblock stands there
-    module _ (id : List ℕ) (journal : new.journal ≡ old.journal ++ Refused name (why.HasSuper id) ∷ []) (found_is : IsFound p request.force id (over told view.cache) (over now cache)) where
+    module _ (id : List ℕ) (journal : new.journal ≡ old.journal ++ Refused name (why.HasSuper id) ∷ []) (found_is : FindsSuper p request.force id (over told view.cache) (over now cache)) where
       found_keeps : (start : Image) → CallKeeps c start told now old new
       found_keeps start state told_is held =
           let h = host start state told_is held in
           let same = machine_is start state told_is held in
           let ps = params_are start state told_is held in
           let m : IsMachine (operated_all read_ops (machine state.memory view.cache)) now cache = found_is.done.is state.memory told_is in
-          let names : Names p (machine state.memory view.cache) id = found_is.names state.memory told_is in
+          let names : ReadsUuid p (machine state.memory view.cache) id = found_is.names state.memory told_is in
           let z : Machine = operated_all read_ops (machine_of state h.0) in
           let zm : z ≡ operated_all read_ops (machine state.memory view.cache) = ap (λ (x : Machine). operated_all read_ops x) same in
           let left : Machines = left_by start state told_is held z in

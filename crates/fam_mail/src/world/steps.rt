@@ -8,7 +8,7 @@ ghost use Rattle.fam_rules.specs.Written.{file_line};
 ghost use Rattle.fam_mail.specs.Boxes.{capacity_of};
 ghost use Rattle.std.specs.Prelude.{OnOk, false};
 ghost use Rattle.fam_mail.specs.Calls.{CountEnds, FinishEnds, HostCounts, HostFinishes, HostNotes, HostStays, HostStepped, MailHostFits, IfMailStepped, MailSteps, MailWorldFits, left_in, notes_of_turn};
-ghost use Rattle.fam_mail.specs.Tasks.{ends_task};
+ghost use Rattle.fam_mail.specs.Tasks.{ends_mail_task};
 ghost use Rattle.fam_mail.specs.World.{mail_host};
 
 use super::MailWorld;
@@ -25,7 +25,7 @@ use fam_media::Media;
 fn note_turn(journal: &mut Vec<MailNote>, name: &HostName, turn: Turn) -> bool
     requires room { vec_len journal.old + 2 ≤ vec_capacity journal.old }
     ensures noted { journal.new.items ≡ journal.old.items ++ notes_of_turn name.now turn }
-    ensures over { result ≡ ends_task turn }
+    ensures over { result ≡ ends_mail_task turn }
 {
     match turn {
         Turn::Go => false,

@@ -4,8 +4,8 @@ use Rattle.std.specs.Prelude.{◌&&◌, Bool, true, false, IfErr, IsTrue, OnOk, 
 use Rattle.std.proofs.lemmas.Bool.{false≢true}
 use Rattle.fam_base.specs.declared.entry.Params.{Params}
 use Rattle.fam_dup.specs.declared.fault.DupFault.{DupFault}
-use Rattle.fam_dup.specs.Ends.{AreAsked, DupEnds, IsAskedIn, IsCaused, NamesLine, from_counted, to_counted}
-use Rattle.fam_dup.specs.Findings.{FaultClass, class_of}
+use Rattle.fam_dup.specs.Ends.{AreAsked, DupEnds, IsAskedIn, IsDupCaused, NamesLine, from_counted, to_counted}
+use Rattle.fam_dup.specs.Findings.{FaultClass, fault_class}
 use Rattle.fam_format.specs.Params.{is_format, is_log_length, is_unit}
 use Rattle.fam_journal.specs.declared.refusal.Refusal.TheVariants as why
 use Rattle.fam_machine.specs.declared.request.MkfsRequest.{MkfsRequest}
@@ -58,7 +58,7 @@ module _ (wanted : Option CopyAsked) (out : CopyOutside) (given : Status) (from 
 
 -- the count of an image that counts exactly
 counted : (behind : FaultClass → ℕ → ℕ) (ended : Result ℕ DupFault) (exact : Bool) (old new : ℕ) → OnOk ended (exact ≡ true → new ≡ old)
-    → IfErr ended (λ fault. exact ≡ true → new ≡ behind (class_of fault) old) → exact ≡ true → new ≡ counted_behind behind ended old
+    → IfErr ended (λ fault. exact ≡ true → new ≡ behind (fault_class fault) old) → exact ≡ true → new ≡ counted_behind behind ended old
 counted behind (Ok count) exact old new quiet told is = quiet is
 counted behind (Err fault) exact old new quiet told is = told is
 
@@ -68,12 +68,12 @@ module _ (copy : CopyAsked) (out : CopyOutside) (given : Status) (good : is_geom
     pub asked : IfErr ended (λ fault. IfModelled out.from.old.image (λ source. IfModelled out.to.old.image (λ old. IsAskedIn source old out.to.new.image p copy.request.force fault)))
     pub quiet_from : OnOk ended (out.from_exact ≡ true → out.from.new.faults ≡ out.from.old.faults)
     pub quiet_to : OnOk ended (out.to_exact ≡ true → out.to.new.faults ≡ out.to.old.faults)
-    pub counted_from : IfErr ended (λ fault. out.from_exact ≡ true → out.from.new.faults ≡ from_counted (class_of fault) out.from.old.faults)
-    pub counted_to : IfErr ended (λ fault. out.to_exact ≡ true → out.to.new.faults ≡ to_counted (class_of fault) out.to.old.faults)
+    pub counted_from : IfErr ended (λ fault. out.from_exact ≡ true → out.from.new.faults ≡ from_counted (fault_class fault) out.from.old.faults)
+    pub counted_to : IfErr ended (λ fault. out.to_exact ≡ true → out.to.new.faults ≡ to_counted (fault_class fault) out.to.old.faults)
 
   pub copy_tried : (ended : Result ℕ DupFault)
       → OfImages out (λ source old new. DupEnds source old new p copy.request.force ended)
-      → IfErr ended (λ fault. IsCaused out.from.old.faults out.from.new.faults out.to.old.faults out.to.new.faults fault)
+      → IfErr ended (λ fault. IsDupCaused out.from.old.faults out.from.new.faults out.to.old.faults out.to.new.faults fault)
       → IfErr ended (λ fault. NamesLine out.from_lines out.lines fault)
       → Told ended
       → PutDup ended out.sink given

@@ -6,7 +6,7 @@ use Rattle.fam_grammar.specs.Scripts.{script_events}
 use Rattle.fam_shadow.specs.declared.fault.ShadowFault.{ShadowFault}
 use Rattle.fam_shadow.specs.declared.fault.ShadowFault.TheVariants as why
 use Rattle.fam_shadow.specs.Calls.{CallsMade}
-use Rattle.fam_shadow.specs.Shadows.{Becomes, FaultCaused, ShadowEnds}
+use Rattle.fam_shadow.specs.Shadows.{NodesBecome, FaultCaused, ShadowEnds}
 use Rattle.fam_storm.specs.Storm.{storm}
 use Rattle.fam_outcomes.specs.declared.status.Status.{Status}
 use Rattle.fam_outcomes.specs.declared.status.Status.TheVariants as status
@@ -55,7 +55,7 @@ module _ (out : Outside) (shade : ShadeChange) (given : Status) (later : NoneFal
   module _ (name me : List ℕ) (journal : List Note) where
     -- the tree that was shown
     shadowed : HasStopped out (alone_events name me logplay) journal → (m : ℕ) (tree : Tree) → shown_tree journal ≡ Some (m, tree) → (written : Result (Unit {0}) ShadowFault)
-        → Becomes shade.old.nodes shade.new.nodes (ShadowEnds tree written) → IfErr written (FaultCaused tree shade.old.faults shade.new.faults) → CallsMade tree shade written
+        → NodesBecome shade.old.nodes shade.new.nodes (ShadowEnds tree written) → IfErr written (FaultCaused tree shade.old.faults shade.new.faults) → CallsMade tree shade written
         → Put (shadow_status written) (shadow_text m written) out.sink given ⊎ Put status.OutOfMemory memory_line out.sink given → ShadowTop (Some me) out shade given
     shadowed x m tree shown written becomes caused calls (inl put) = record {
       text = shadow_text m written;
@@ -73,7 +73,7 @@ module _ (out : Outside) (shade : ShadeChange) (given : Status) (later : NoneFal
     }
 
     pub shadowed_top : (ended : Result (Unit {0}) EventFault) → ShotEnded ended out (alone_events name me logplay) journal → IsOk ended → (m : ℕ) (tree : Tree) → shown_tree journal ≡ Some (m, tree) → (written : Result (Unit {0}) ShadowFault)
-        → Becomes shade.old.nodes shade.new.nodes (ShadowEnds tree written) → IfErr written (FaultCaused tree shade.old.faults shade.new.faults) → CallsMade tree shade written
+        → NodesBecome shade.old.nodes shade.new.nodes (ShadowEnds tree written) → IfErr written (FaultCaused tree shade.old.faults shade.new.faults) → CallsMade tree shade written
         → Put (shadow_status written) (shadow_text m written) out.sink given ⊎ Put status.OutOfMemory memory_line out.sink given → ShadowTop (Some me) out shade given
     shadowed_top (Ok done) x ok = shadowed x
     shadowed_top (Err fault) x ok = absurd (cc (ok))

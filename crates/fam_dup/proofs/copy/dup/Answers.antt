@@ -7,8 +7,8 @@ use Rattle.fam_format.specs.Layout.{least_lines}
 use Rattle.fam_rules.specs.Place.{line_bytes}
 use Rattle.fam_rules.specs.Written.{put_lines}
 use Rattle.fam_dup.specs.Ends.{NamesLine}
-use Rattle.fam_dup.specs.Findings.{class_of, finding}
-use Rattle.fam_dup.specs.Lines.{AreCut, AreCutAt, copy_puts}
+use Rattle.fam_dup.specs.Findings.{fault_class, finding}
+use Rattle.fam_dup.specs.Lines.{LinesPartlyPut, AreCutAt, copy_puts}
 use Rattle.fam_dup.proofs.Cutting.{cut_others, cut_reads, cut_some}
 use Rattle.fam_dup.proofs.Failing.{failure_cause, failure_later}
 use Rattle.fam_dup.proofs.Finding.{copied_to, entries_or, failed_ends, free_to, large_from, left_alone, names_found, small_from, sound_from, wanted_memory}
@@ -32,8 +32,8 @@ returns-in_err-source-clause-ends g c =
       old,
       is,
       (
-        names_found (class_of c.in_err-source.field-0.0) _ _ (large_from source old p force enough) (c.in_err-source.ensures.fault source told (entries_or source old p force)),
-        left_alone source old old p force (class_of c.in_err-source.field-0.0) refl,
+        names_found (fault_class c.in_err-source.field-0.0) _ _ (large_from source old p force enough) (c.in_err-source.ensures.fault source told (entries_or source old p force)),
+        left_alone source old old p force (fault_class c.in_err-source.field-0.0) refl,
       ),
     ))
 
@@ -49,8 +49,8 @@ returns-in_err-check_target-clause-ends g c =
       old,
       e.same ∙ is,
       (
-        names_found (class_of c.in_err-check_target.field-0.0) _ _ (sound_from source old p force s.params s.entries enough (c.in_ok-source.ensures.told source told)) (e.fault old is _),
-        left_alone source old old p force (class_of c.in_err-check_target.field-0.0) refl,
+        names_found (fault_class c.in_err-check_target.field-0.0) _ _ (sound_from source old p force s.params s.entries enough (c.in_ok-source.ensures.told source told)) (e.fault old is _),
+        left_alone source old old p force (fault_class c.in_err-check_target.field-0.0) refl,
       ),
     ))
 
@@ -66,8 +66,8 @@ returns-in_err-copies-clause-ends g c =
       old,
       t.same ∙ is,
       (
-        names_found (class_of c.in_err-copies.field-0.0) _ _ (free_to source old p force s.params s.entries enough (c.in_ok-source.ensures.told source told) (t.free old is)) (c.in_err-copies.ensures.fault s.entries),
-        left_alone source old old p force (class_of c.in_err-copies.field-0.0) refl,
+        names_found (fault_class c.in_err-copies.field-0.0) _ _ (free_to source old p force s.params s.entries enough (c.in_ok-source.ensures.told source told) (t.free old is)) (c.in_err-copies.ensures.fault s.entries),
+        left_alone source old old p force (fault_class c.in_err-copies.field-0.0) refl,
       ),
     ))
 
@@ -77,7 +77,7 @@ returns-in_err-buffer-clause-ends g c =
     rw (q.1, q.2) (λ source told old is. (
       old,
       c.in_ok-check_target.ensures.same ∙ is,
-      wanted_memory source old c.args.params.now c.args.force (class_of c.in_err-buffer.field-0.0) (finding source old c.args.params.now c.args.force) c.in_err-buffer.ensures.full,
+      wanted_memory source old c.args.params.now c.args.force (fault_class c.in_err-buffer.field-0.0) (finding source old c.args.params.now c.args.force) c.in_err-buffer.ensures.full,
     ))
 
 pub write_copy-requires-clause-copies : goal.write_copy-requires-clause-copies
@@ -104,10 +104,10 @@ returns-in_err-write_copy-clause-ends g c =
     (subst (λ (o : Option Image). AreCutAt (IsStep s.entries k.entries c.in_err-write_copy.field-0.0) (copy_puts (line_at source) k.params s.entries k.entries) o new) (t.same ∙ is) (e.puts source (c.in_ok-source.ensures.same ∙ told))) in
     let cut = at_cut.cut in
     let after = cut_some (copy_puts (line_at source) p s.entries k.entries) old new cut in
-    let left : AreCut (copy_puts (line_at source) p s.entries k.entries) (Some old) (Some after.0) = subst (λ (o : Option Image). AreCut (copy_puts (line_at source) p s.entries k.entries) (Some old) o) after.1 cut in (
+    let left : LinesPartlyPut (copy_puts (line_at source) p s.entries k.entries) (Some old) (Some after.0) = subst (λ (o : Option Image). LinesPartlyPut (copy_puts (line_at source) p s.entries k.entries) (Some old) o) after.1 cut in (
       after.0,
       after.1,
-      failed_ends source old after.0 p force (class_of c.in_err-write_copy.field-0.0) (finding source old p force) _ _ _ _ e.failed
+      failed_ends source old after.0 p force (fault_class c.in_err-write_copy.field-0.0) (finding source old p force) _ _ _ _ e.failed
           (inr (record {
             entries = s.entries;
             copies = k.entries;
@@ -122,8 +122,8 @@ pub returns-in_err-write_copy-clause-cause : goal.returns-in_err-write_copy-clau
 returns-in_err-write_copy-clause-cause g c =
     let q = err_from_is_err_and c.from_residual-in_err-write_copy.result c.from_residual-in_err-write_copy.ensures.1 in
     rw (q.1, q.2)
-    (failure_cause _ _ _ _ (class_of c.in_err-write_copy.field-0.0)
-    (failure_later _ _ _ _ _ _ (class_of c.in_err-write_copy.field-0.0) c.in_ok-source.ensures.steady.later c.in_ok-check_target.ensures.steady.later c.in_err-write_copy.ensures.failed))
+    (failure_cause _ _ _ _ (fault_class c.in_err-write_copy.field-0.0)
+    (failure_later _ _ _ _ _ _ (fault_class c.in_err-write_copy.field-0.0) c.in_ok-source.ensures.steady.later c.in_ok-check_target.ensures.steady.later c.in_err-write_copy.ensures.failed))
 
 pub returns-clause-ends : goal.returns-clause-ends
 returns-clause-ends g c = λ source told old is.
@@ -209,53 +209,53 @@ returns-in_err-source-clause-counted_to g c =
     let f = c.in_err-source.field-0.0 in
     let e = c.in_err-source.ensures in
     let q = err_from_is_err_and c.from_residual.result c.from_residual.ensures.1 in
-    rw (q.1, q.2) (λ exact. to_unasked _ _ _ (class_of f) e.cause)
+    rw (q.1, q.2) (λ exact. to_unasked _ _ _ (fault_class f) e.cause)
 
 pub returns-in_err-check_target-clause-counted_from : goal.returns-in_err-check_target-clause-counted_from
 returns-in_err-check_target-clause-counted_from g c =
     let f = c.in_err-check_target.field-0.0 in
     let e = c.in_err-check_target.ensures in
     let q = err_from_is_err_and c.from_residual-in_err-check_target.result c.from_residual-in_err-check_target.ensures.1 in
-    rw (q.1, q.2) (λ exact. c.in_ok-source.ensures.quiet exact ∙ from_unasked _ _ _ (class_of f) e.cause)
+    rw (q.1, q.2) (λ exact. c.in_ok-source.ensures.quiet exact ∙ from_unasked _ _ _ (fault_class f) e.cause)
 
 pub returns-in_err-copies-clause-counted_from : goal.returns-in_err-copies-clause-counted_from
 returns-in_err-copies-clause-counted_from g c =
     let f = c.in_err-copies.field-0.0 in
     let e = c.in_err-copies.ensures in
     let q = err_from_is_err_and c.from_residual-in_err-copies.result c.from_residual-in_err-copies.ensures.1 in
-    rw (q.1, q.2) (λ exact. c.in_ok-source.ensures.quiet exact ∙ own_from _ (class_of f) e.own)
+    rw (q.1, q.2) (λ exact. c.in_ok-source.ensures.quiet exact ∙ own_from _ (fault_class f) e.own)
 
 pub returns-in_err-copies-clause-counted_to : goal.returns-in_err-copies-clause-counted_to
 returns-in_err-copies-clause-counted_to g c =
     let f = c.in_err-copies.field-0.0 in
     let e = c.in_err-copies.ensures in
     let q = err_from_is_err_and c.from_residual-in_err-copies.result c.from_residual-in_err-copies.ensures.1 in
-    rw (q.1, q.2) (λ exact. c.in_ok-check_target.ensures.quiet exact ∙ own_to _ (class_of f) e.own)
+    rw (q.1, q.2) (λ exact. c.in_ok-check_target.ensures.quiet exact ∙ own_to _ (fault_class f) e.own)
 
 pub returns-in_err-buffer-clause-counted_from : goal.returns-in_err-buffer-clause-counted_from
 returns-in_err-buffer-clause-counted_from g c =
     let f = c.in_err-buffer.field-0.0 in
     let e = c.in_err-buffer.ensures in
     let q = err_from_is_err_and c.from_residual-in_err-buffer.result c.from_residual-in_err-buffer.ensures.1 in
-    rw (q.1, q.2) (λ exact. c.in_ok-source.ensures.quiet exact ∙ wanted_from _ (class_of f) e.full)
+    rw (q.1, q.2) (λ exact. c.in_ok-source.ensures.quiet exact ∙ wanted_from _ (fault_class f) e.full)
 
 pub returns-in_err-buffer-clause-counted_to : goal.returns-in_err-buffer-clause-counted_to
 returns-in_err-buffer-clause-counted_to g c =
     let f = c.in_err-buffer.field-0.0 in
     let e = c.in_err-buffer.ensures in
     let q = err_from_is_err_and c.from_residual-in_err-buffer.result c.from_residual-in_err-buffer.ensures.1 in
-    rw (q.1, q.2) (λ exact. c.in_ok-check_target.ensures.quiet exact ∙ wanted_to _ (class_of f) e.full)
+    rw (q.1, q.2) (λ exact. c.in_ok-check_target.ensures.quiet exact ∙ wanted_to _ (fault_class f) e.full)
 
 pub returns-in_err-write_copy-clause-counted_from : goal.returns-in_err-write_copy-clause-counted_from
 returns-in_err-write_copy-clause-counted_from g c =
     let f = c.in_err-write_copy.field-0.0 in
     let e = c.in_err-write_copy.ensures in
     let q = err_from_is_err_and c.from_residual-in_err-write_copy.result c.from_residual-in_err-write_copy.ensures.1 in
-    rw (q.1, q.2) (λ exact. e.counted_from exact ∙ ap (from_counted (class_of f)) (c.in_ok-source.ensures.quiet exact))
+    rw (q.1, q.2) (λ exact. e.counted_from exact ∙ ap (from_counted (fault_class f)) (c.in_ok-source.ensures.quiet exact))
 
 pub returns-in_err-write_copy-clause-counted_to : goal.returns-in_err-write_copy-clause-counted_to
 returns-in_err-write_copy-clause-counted_to g c =
     let f = c.in_err-write_copy.field-0.0 in
     let e = c.in_err-write_copy.ensures in
     let q = err_from_is_err_and c.from_residual-in_err-write_copy.result c.from_residual-in_err-write_copy.ensures.1 in
-    rw (q.1, q.2) (λ exact. e.counted_to exact ∙ ap (to_counted (class_of f)) (c.in_ok-check_target.ensures.quiet exact))
+    rw (q.1, q.2) (λ exact. e.counted_to exact ∙ ap (to_counted (fault_class f)) (c.in_ok-check_target.ensures.quiet exact))

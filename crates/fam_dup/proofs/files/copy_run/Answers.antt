@@ -7,7 +7,7 @@ use Rattle.fam_dup.specs.Lines.{AreCutAt, ArePut, bytes_in}
 use Rattle.fam_dup.specs.Runs.{part_puts, run_puts}
 use Rattle.fam_dup.specs.Ends.{IsFileStep}
 use Rattle.fam_dup.proofs.Naming.{file_step}
-use Rattle.fam_dup.specs.Findings.{class_of}
+use Rattle.fam_dup.specs.Findings.{fault_class}
 use Rattle.fam_dup.proofs.Asking.{to_kept}
 use Rattle.fam_dup.proofs.RunPuts.{parts_before, run_parts}
 use Rattle.fam_dup.proofs.files.copy_run.Goals as goal
@@ -61,4 +61,4 @@ returns-in_err-read_parts-clause-counted_to g c =
     let f = c.in_err-read_parts.field-0.0 in
     let e = c.in_err-read_parts.ensures in
     let q = err_from_is_err_and c.from_residual.result c.from_residual.ensures.1 in
-    rw (q.1, q.2) (λ exact. to_kept _ (class_of f) e.failed)
+    rw (q.1, q.2) (λ exact. to_kept _ (fault_class f) e.failed)

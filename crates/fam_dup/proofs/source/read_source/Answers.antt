@@ -7,7 +7,7 @@ use Rattle.fam_replay.proofs.Sources.{by_header, by_superblock}
 use Rattle.fam_rules.specs.Place.{line_bytes}
 use Rattle.fam_dup.specs.declared.fault.DupFault.{DupFault}
 use Rattle.fam_dup.specs.Ends.{FailsFromAt, IsCausedByFrom, IsReadAt, NamesLine, from_counted, of_read}
-use Rattle.fam_dup.specs.Findings.{Names, class_of, from_or}
+use Rattle.fam_dup.specs.Findings.{Names, fault_class, from_or}
 use Rattle.fam_dup.proofs.Failing.{from_later}
 use Rattle.fam_dup.proofs.Finding.{names_found}
 use Rattle.fam_dup.proofs.Naming.{from_among, read_among, read_caused, read_counts, read_names, read_within}
@@ -17,7 +17,7 @@ pub returns-in_err-params-clause-fault : goal.returns-in_err-params-clause-fault
 returns-in_err-params-clause-fault g c =
     let p = err_from_is_err_and c.from_residual.result c.from_residual.ensures.1 in
     rw (p.1, p.2) (λ image told rest.
-    names_found (class_of c.in_err-params.field-0.0) _ _
+    names_found (fault_class c.in_err-params.field-0.0) _ _
     (ap (λ (r : Reading). from_or r rest) (by_superblock image (g.M.Media.size c.args.from.now) (g.met.M.Media.modelled c.args.from.now image told)))
     (c.in_err-params.ensures.fault image told rest))
 
@@ -35,8 +35,8 @@ returns-in-Ok-clause-told g c = λ image told.
 pub returns-in-Err-clause-fault : goal.returns-in-Err-clause-fault
 returns-in-Err-clause-fault g c = λ image told rest.
     let params = c.in_ok-params.ensures in
-    subst (λ (f : DupFault). Names (class_of f) (from_or (reading image) rest)) (sym c.fault_of_read.ensures)
-    (names_found (class_of (of_read c.in-Err.fault)) _ _
+    subst (λ (f : DupFault). Names (fault_class f) (from_or (reading image) rest)) (sym c.fault_of_read.ensures)
+    (names_found (fault_class (of_read c.in-Err.fault)) _ _
     (ap (λ (r : Reading). from_or r rest) (by_header image (g.M.Media.size c.args.from.now) c.in_ok-params.params (g.met.M.Media.modelled c.args.from.now image told) (params.told image told)))
     (read_names c.in-Err.fault _ rest (c.in-Err.ensures.fault image (params.same ∙ told))))
 
@@ -51,14 +51,14 @@ returns-in-Err-clause-asked g c = λ image told.
 pub returns-in-Err-clause-cause : goal.returns-in-Err-clause-cause
 returns-in-Err-clause-cause g c =
     let params = c.in_ok-params.ensures in
-    subst (λ (f : DupFault). IsCausedByFrom (g.M.Media.state c.args.from.now).faults (g.M.Media.state c.read_behind.new.media).faults (class_of f)) (sym c.fault_of_read.ensures)
-    (from_later _ _ _ (class_of (of_read c.in-Err.fault)) params.steady.later (read_caused _ _ c.in-Err.fault c.in-Err.ensures.cause))
+    subst (λ (f : DupFault). IsCausedByFrom (g.M.Media.state c.args.from.now).faults (g.M.Media.state c.read_behind.new.media).faults (fault_class f)) (sym c.fault_of_read.ensures)
+    (from_later _ _ _ (fault_class (of_read c.in-Err.fault)) params.steady.later (read_caused _ _ c.in-Err.fault c.in-Err.ensures.cause))
 
 pub returns-in-Err-clause-counted : goal.returns-in-Err-clause-counted
 returns-in-Err-clause-counted g c = λ exact.
     let params = c.in_ok-params.ensures in
-    subst (λ (f : DupFault). (g.M.Media.state c.read_behind.new.media).faults ≡ from_counted (class_of f) (g.M.Media.state c.args.from.now).faults) (sym c.fault_of_read.ensures)
-    (read_counts _ _ c.in-Err.fault (c.in-Err.ensures.counted exact) ∙ ap (from_counted (class_of (of_read c.in-Err.fault))) (params.quiet exact))
+    subst (λ (f : DupFault). (g.M.Media.state c.read_behind.new.media).faults ≡ from_counted (fault_class f) (g.M.Media.state c.args.from.now).faults) (sym c.fault_of_read.ensures)
+    (read_counts _ _ c.in-Err.fault (c.in-Err.ensures.counted exact) ∙ ap (from_counted (fault_class (of_read c.in-Err.fault))) (params.quiet exact))
 
 pub returns-in-Err-clause-line : goal.returns-in-Err-clause-line
 returns-in-Err-clause-line g c =

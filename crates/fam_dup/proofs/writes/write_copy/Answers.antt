@@ -6,7 +6,7 @@ use Rattle.fam_format.specs.Super.{magic_line}
 use Rattle.fam_rules.specs.Written.{Put, zero_line}
 use Rattle.fam_dup.specs.Lines.{AreCutAt, ArePut, copy_puts, files_puts, head_puts, slots_puts}
 use Rattle.fam_dup.specs.Ends.{IsStep, IsToStep, to_counted}
-use Rattle.fam_dup.specs.Findings.{class_of}
+use Rattle.fam_dup.specs.Findings.{fault_class}
 use Rattle.fam_dup.proofs.Asking.{from_kept}
 use Rattle.fam_dup.proofs.Passing.{cut_as, ends_as}
 use Rattle.fam_dup.proofs.Chains.{copy_parts, cut_1, cut_2, cut_3, cut_4, ends_5}
@@ -96,49 +96,49 @@ returns-in_err-write_to-clause-counted_from g c =
     let f = c.in_err-write_to.field-0.0 in
     let e = c.in_err-write_to.ensures in
     let q = err_from_is_err_and c.from_residual.result c.from_residual.ensures.1 in
-    rw (q.1, q.2) (λ exact. from_kept _ (class_of f) e.failed.0)
+    rw (q.1, q.2) (λ exact. from_kept _ (fault_class f) e.failed.0)
 
 pub returns-in_err-copy_files-clause-counted_to : goal.returns-in_err-copy_files-clause-counted_to
 returns-in_err-copy_files-clause-counted_to g c =
     let f = c.in_err-copy_files.field-0.0 in
     let e = c.in_err-copy_files.ensures in
     let q = err_from_is_err_and c.from_residual-in_err-copy_files.result c.from_residual-in_err-copy_files.ensures.1 in
-    rw (q.1, q.2) (λ exact. e.counted_to exact ∙ ap (to_counted (class_of f)) (c.in_ok-write_to.ensures.quiet exact))
+    rw (q.1, q.2) (λ exact. e.counted_to exact ∙ ap (to_counted (fault_class f)) (c.in_ok-write_to.ensures.quiet exact))
 
 pub returns-in_err-write_slots-clause-counted_from : goal.returns-in_err-write_slots-clause-counted_from
 returns-in_err-write_slots-clause-counted_from g c =
     let f = c.in_err-write_slots.field-0.0 in
     let e = c.in_err-write_slots.ensures in
     let q = err_from_is_err_and c.from_residual-in_err-write_slots.result c.from_residual-in_err-write_slots.ensures.1 in
-    rw (q.1, q.2) (λ exact. c.in_ok-copy_files.ensures.quiet_from exact ∙ from_kept _ (class_of f) e.failed.0)
+    rw (q.1, q.2) (λ exact. c.in_ok-copy_files.ensures.quiet_from exact ∙ from_kept _ (fault_class f) e.failed.0)
 
 pub returns-in_err-write_slots-clause-counted_to : goal.returns-in_err-write_slots-clause-counted_to
 returns-in_err-write_slots-clause-counted_to g c =
     let f = c.in_err-write_slots.field-0.0 in
     let e = c.in_err-write_slots.ensures in
     let q = err_from_is_err_and c.from_residual-in_err-write_slots.result c.from_residual-in_err-write_slots.ensures.1 in
-    rw (q.1, q.2) (λ exact. e.counted exact ∙ ap (to_counted (class_of f)) (c.in_ok-copy_files.ensures.quiet_to exact ∙ c.in_ok-write_to.ensures.quiet exact))
+    rw (q.1, q.2) (λ exact. e.counted exact ∙ ap (to_counted (fault_class f)) (c.in_ok-copy_files.ensures.quiet_to exact ∙ c.in_ok-write_to.ensures.quiet exact))
 
 pub returns-in_err-write_head-clause-counted_from : goal.returns-in_err-write_head-clause-counted_from
 returns-in_err-write_head-clause-counted_from g c =
     let f = c.in_err-write_head.field-0.0 in
     let e = c.in_err-write_head.ensures in
     let q = err_from_is_err_and c.from_residual-in_err-write_head.result c.from_residual-in_err-write_head.ensures.1 in
-    rw (q.1, q.2) (λ exact. c.in_ok-copy_files.ensures.quiet_from exact ∙ from_kept _ (class_of f) e.failed.0)
+    rw (q.1, q.2) (λ exact. c.in_ok-copy_files.ensures.quiet_from exact ∙ from_kept _ (fault_class f) e.failed.0)
 
 pub returns-in_err-write_head-clause-counted_to : goal.returns-in_err-write_head-clause-counted_to
 returns-in_err-write_head-clause-counted_to g c =
     let f = c.in_err-write_head.field-0.0 in
     let e = c.in_err-write_head.ensures in
     let q = err_from_is_err_and c.from_residual-in_err-write_head.result c.from_residual-in_err-write_head.ensures.1 in
-    rw (q.1, q.2) (λ exact. e.counted exact ∙ ap (to_counted (class_of f)) (c.in_ok-write_slots.ensures.quiet exact ∙ c.in_ok-copy_files.ensures.quiet_to exact ∙ c.in_ok-write_to.ensures.quiet exact))
+    rw (q.1, q.2) (λ exact. e.counted exact ∙ ap (to_counted (fault_class f)) (c.in_ok-write_slots.ensures.quiet exact ∙ c.in_ok-copy_files.ensures.quiet_to exact ∙ c.in_ok-write_to.ensures.quiet exact))
 
 pub returns-clause-counted_from : goal.returns-clause-counted_from
 returns-clause-counted_from g c =
-    IfErr-weaker c.write_to-2.result _ _ (λ f failed exact. c.in_ok-copy_files.ensures.quiet_from exact ∙ from_kept _ (class_of f) failed.0) c.write_to-2.ensures.failed
+    IfErr-weaker c.write_to-2.result _ _ (λ f failed exact. c.in_ok-copy_files.ensures.quiet_from exact ∙ from_kept _ (fault_class f) failed.0) c.write_to-2.ensures.failed
 
 pub returns-clause-counted_to : goal.returns-clause-counted_to
 returns-clause-counted_to g c =
     IfErr-weaker c.write_to-2.result _ _
-    (λ f counted exact. counted exact ∙ ap (to_counted (class_of f)) (c.in_ok-write_head.ensures.quiet exact ∙ c.in_ok-write_slots.ensures.quiet exact ∙ c.in_ok-copy_files.ensures.quiet_to exact ∙ c.in_ok-write_to.ensures.quiet exact))
+    (λ f counted exact. counted exact ∙ ap (to_counted (fault_class f)) (c.in_ok-write_head.ensures.quiet exact ∙ c.in_ok-write_slots.ensures.quiet exact ∙ c.in_ok-copy_files.ensures.quiet_to exact ∙ c.in_ok-write_to.ensures.quiet exact))
     c.write_to-2.ensures.counted

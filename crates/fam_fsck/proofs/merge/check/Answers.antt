@@ -4,7 +4,7 @@ use Rattle.std.specs.FinMap.{len-entries}
 use Rattle.std.proofs.lemmas.List.{length-map}
 use Rattle.fam_base.specs.declared.entry.Entry.{Entry}
 use Rattle.fam_tree.specs.Iter.{tree_iter_rest}
-use Rattle.fam_fsck.specs.Merge.{compared, no_difference}
+use Rattle.fam_fsck.specs.Merge.{compared_lists, no_difference}
 use Rattle.fam_fsck.proofs.Merged.{compared_is}
 use Rattle.fam_fsck.proofs.MergeRoom.{HasRoom, one_compared, one_room, passed_left, passed_room}
 use Rattle.fam_fsck.proofs.merge.check.Goals as goal
@@ -16,7 +16,7 @@ loop-entry-init c =
     let many : length (tree_iter_rest c.into_iter-entry-iterator.result) ≡ c.len-most.result =
     ap (λ (l : List Entry). length l) rest ∙ length-map (finmap.entries tree) (λ e. e.1) ∙ sym (len-entries tree) ∙ sym c.len-most.ensures in
     record {
-      told = ap (λ (l : List Entry). compared no_difference l c.args.listing.now) rest;
+      told = ap (λ (l : List Entry). compared_lists no_difference l c.args.listing.now) rest;
       room = record { missing = omega (arith, many, c.len-most.type_inv); extra = search rules; changed = search rules };
     }
 
@@ -40,7 +40,7 @@ loop-entry-preserved c =
     let room = subst (λ (l : List Entry). HasRoom c.loop-entry.checked l c.loop-entry.rest.now) given c.loop-entry.invariant.room in
     record {
       told = one_compared c.loop-entry.checked c.pass-rest.new.checked c.meet-rest.new.checked t ts c.loop-entry.rest.now c.pass-rest.result.now c.meet-rest.result.now c.pass-rest.ensures.counted c.pass-rest.ensures.rest c.meet-rest.ensures.counted c.meet-rest.ensures.rest
-          ∙ ap (λ (l : List Entry). compared c.loop-entry.checked l c.loop-entry.rest.now) (sym given) ∙ c.loop-entry.invariant.told;
+          ∙ ap (λ (l : List Entry). compared_lists c.loop-entry.checked l c.loop-entry.rest.now) (sym given) ∙ c.loop-entry.invariant.told;
       room = one_room c.loop-entry.checked c.pass-rest.new.checked c.meet-rest.new.checked t ts c.loop-entry.rest.now c.pass-rest.result.now c.meet-rest.result.now c.pass-rest.ensures.counted c.pass-rest.ensures.rest c.meet-rest.ensures.counted c.meet-rest.ensures.rest room;
     }
 
@@ -48,5 +48,5 @@ pub returns : goal.returns
 returns c =
     let done : tree_iter_rest c.loop-entry.entry-iterator ≡ [] = c.in-None.ensures.steps.0 in
     c.pass_all.ensures
-    ∙ ap (λ (l : List Entry). compared c.loop-entry.checked l c.loop-entry.rest.now) (sym done) ∙ c.loop-entry.invariant.told
+    ∙ ap (λ (l : List Entry). compared_lists c.loop-entry.checked l c.loop-entry.rest.now) (sym done) ∙ c.loop-entry.invariant.told
     ∙ compared_is c.args.tree.now c.args.listing.now c.iter-entry-items.ensures.own c.iter-entry-items.ensures.order c.requires

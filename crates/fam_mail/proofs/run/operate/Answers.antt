@@ -8,7 +8,7 @@ use Rattle.fam_media.specs.Outside.{IfModelled}
 use Rattle.fam_machine.specs.Cuts.{HasFailed}
 use Rattle.fam_machine.specs.Operations.{IsWithin, machine}
 use Rattle.fam_mail.specs.Running.{Around, LinesFit, TaskOperated, around}
-use Rattle.fam_mail.specs.Tasks.{PhaseFits, MailTask, ends_task, left_of, task_op, next_task, task_turn}
+use Rattle.fam_mail.specs.Tasks.{PhaseFits, MailTask, ends_mail_task, left_of, task_op, next_task, mail_turn}
 use Rattle.fam_mail.specs.declared.turn.Turn.{Turn}
 use Rattle.fam_mail.proofs.Falling.{falls}
 use Rattle.fam_mail.proofs.Running.{failed_fit, lines_fit, op_within}
@@ -54,10 +54,10 @@ perform-requires-clause-within g c =
     let size = g.M.Media.size c.args.media.now in
     subst (IsWithin size) (sym c.next-op.ensures) (op_within (file_line c.args.entry.now) size c.args.task.now c.requires.within c.args.task.now.phase c.is_sound.ensures.fits)
 
-nearer : (t next : MailTask) (turn : Turn) (word : ℕ) → PhaseFits t.phase t → turn ≡ task_turn word t → (ends_task turn ≡ false → next ≡ next_task word t) → ends_task turn ≡ false
+nearer : (t next : MailTask) (turn : Turn) (word : ℕ) → PhaseFits t.phase t → turn ≡ mail_turn word t → (ends_mail_task turn ≡ false → next ≡ next_task word t) → ends_mail_task turn ≡ false
     → left_of next < left_of t
 nearer t next turn word fits is goes on =
-    subst (λ (x : MailTask). left_of x < left_of t) (sym (goes on)) (falls t.phase t word fits (ap ends_task (sym is) ∙ on))
+    subst (λ (x : MailTask). left_of x < left_of t) (sym (goes on)) (falls t.phase t word fits (ap ends_mail_task (sym is) ∙ on))
 
 pub returns-in-Ok-clause-falls : goal.returns-in-Ok-clause-falls
 returns-in-Ok-clause-falls g c = nearer c.args.task.now c.digest.new.self c.in-Ok.turn 0 c.is_sound.ensures.fits c.in-Ok.ensures.turn c.in-Ok.ensures.goes

@@ -4,7 +4,7 @@ use Rattle.fam_format.specs.Tree.{Tree, replay}
 use Rattle.fam_format.specs.Units.{units_in, is_used}
 use Rattle.fam_alloc.specs.Taken.{holds}
 use Rattle.fam_fsck.specs.declared.found.Found.{Found}
-use Rattle.fam_fsck.specs.Found.{Finds, applied_of, entries_of, found_as, tree_after, LiesWithin}
+use Rattle.fam_fsck.specs.Found.{Finds, applied_of, found_entries, found_as, tree_after, LiesWithin}
 use Rattle.fam_fsck.proofs.Surveys.{lies_within, placed_more, tree_more, used_more}
 use Rattle.fam_fsck.proofs.findings.Findings.add.Goals as goal
 
@@ -47,6 +47,6 @@ invariant_of-self-2 c =
       used = λ u. c.cover.ensures.value u
           ∙ ap (λ (b : Bool). b || holds (units_in p.unit e.extents) u) (c.self.invariant.used u)
           ∙ used_more p own.found c.args.number e fault u
-          ∙ ap (λ (fs : List Found). is_used p (entries_of fs) u) (sym c.in_ok-fault.ensures.found);
+          ∙ ap (λ (fs : List Found). is_used p (found_entries fs) u) (sym c.in_ok-fault.ensures.found);
       overlap = c.least_overlap-self-inside.ensures p own.found fault refl c.in_ok-fault.ensures.found c.self.invariant.used c.self.invariant.overlap;
     }

@@ -3,7 +3,7 @@ use Rattle.std.specs.Prelude.{slice_get}
 use Rattle.std.proofs.lemmas.Option.{slice_get_read}
 use Rattle.fam_base.specs.declared.entry.Entry.{Entry}
 use Rattle.fam_fsck.specs.declared.found.Found.{Found}
-use Rattle.fam_fsck.specs.Found.{marked}
+use Rattle.fam_fsck.specs.Found.{with_mark}
 use Rattle.fam_fsck.proofs.FoundLists.{found_at, found_within}
 use Rattle.fam_fsck.proofs.found_list.FoundList.at.Goals as goal
 
@@ -25,4 +25,4 @@ returns c =
     ap (λ (l : List Found). slice_get l c.args.place) (sym c.self.view_is)
     ∙ found_at own.entries own.marks.items c.args.place mark c.self.invariant
     (slice_get_read own.marks.items (length own.marks.items) c.args.place mark refl (omega (arith, within, c.self.invariant)) c.index-mark.ensures)
-    ∙ ap (λ (e : Entry). Some (marked e mark)) (sym c.at.ensures)
+    ∙ ap (λ (e : Entry). Some (with_mark e mark)) (sym c.at.ensures)
