@@ -46,7 +46,7 @@ abbrev pub met : Entry → Checked → List Entry → Checked
 met t c [] = with_missing c t
 met t c (e ∷ more) = if path_eq e.path t.path then with_pair c t e else with_missing c t
 
--- the listing listing_after it
+-- the listing behind it
 abbrev pub listing_after : Entry → List Entry → List Entry
 listing_after t [] = []
 listing_after t (e ∷ more) = if path_eq e.path t.path then more else e ∷ more
