@@ -7,3 +7,4 @@ pub mod Runs
 pub mod SentRuns
 pub mod Shed
 pub mod BroughtRuns
+pub mod OwnMoves

@@ -13,9 +13,11 @@ mod blocks;
 mod cache;
 mod copies;
 mod fault;
+mod own_moves;
 mod perform;
 mod renewal;
 mod sending;
 
 pub use cache::HostCache;
 pub use fault::{CacheFault, FenceFailed, OperationFault};
+pub use own_moves::OwnMove;

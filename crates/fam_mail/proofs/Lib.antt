@@ -14,7 +14,6 @@ pub mod Standing
 pub mod Outcomes
 pub mod Readying
 pub mod Finishing
-pub mod Shifting
 pub mod MovedOn
 pub mod Checking
 pub mod Places

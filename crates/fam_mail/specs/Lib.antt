@@ -13,5 +13,4 @@ pub mod Machines
 pub mod Follows
 pub mod Happens
 pub mod RunLaws
-pub mod Moves
 pub mod Checks

@@ -6,7 +6,6 @@ pub mod WithoutMedia
 pub mod Untouched
 pub mod Rows
 pub mod Moving
-pub mod Shifting
 pub mod MakeShapes
 pub mod Making
 pub mod StepShapes

@@ -1,6 +1,5 @@
 pub mod View
 pub mod Answers
-pub mod Moves
 pub mod Steps
 pub mod Turns
 pub mod Makes

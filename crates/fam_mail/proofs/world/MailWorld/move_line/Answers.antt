@@ -13,7 +13,7 @@ use Rattle.fam_media.specs.States.{MediaChange, change}
 use Rattle.fam_rules.specs.Written.{file_line}
 use Rattle.fam_mail.specs.Boxes.{capacity_of}
 use Rattle.fam_mail.specs.Calls.{MailHostFits, IfMailAnswered, IsFreeHost, MovesLine, MailWorldFits, capacity_in, file_line_refusal}
-use Rattle.fam_mail.specs.Moves.{cache_move}
+use Rattle.fam_cache.specs.OwnMoves.{move_of}
 use Rattle.fam_mail.specs.World.{MailHost, MailView, mail_host, mail_view}
 use Rattle.fam_mail.specs.declared.note.MailFault.{MailFault}
 use Rattle.fam_mail.specs.declared.note.MailNote.{MailNote}
@@ -36,7 +36,7 @@ returns-in-Ok-shift-clause-answered g c =
     let items = i.hosts.items in
     let at = c.in-Ok.at in
     let x = c.index_mut.result.now in
-    let y = record x { cache = c.shift.new.cache } in
+    let y = record x { cache = c.shift.new.self } in
     let told : MediaChange = change g.M.Media.state c.args.media.now c.shift.new.media in
     let v : MailView = mail_view i.entry items i.journal.items in
     let new : MailView = mail_view i.entry (set items at y) c.make_room.new.journal.items in
@@ -45,7 +45,7 @@ returns-in-Ok-shift-clause-answered g c =
     subst (λ (n : ℕ). IsFreeHost c.args.name.now (file_line_refusal c.args.line n) v at) c.capacity.ensures (c.in-Ok.ensures.placed i.entry i.journal.items) in
     let place : c.file_line-place.result.0 ≡ file_line i.entry c.args.line = c.file_line-place.ensures.value in
     let same : c.make_room.new.journal.items ≡ i.journal.items ++ [] = ◌∙◌ {A = List MailNote} c.make_room.ensures.same (sym (append-nil i.journal.items)) in
-    subst (λ (w : MailView). MovesLine c.args.name.now c.args.line (cache_move c.args.what) told None w new) c.self.view_is (
+    subst (λ (w : MailView). MovesLine c.args.name.now c.args.line (move_of c.args.what) told None w new) c.self.view_is (
       free_call c.args.name.now (file_line_refusal c.args.line (capacity_in v)) v at free,
       record {
         at = at;
@@ -55,7 +55,7 @@ returns-in-Ok-shift-clause-answered g c =
         next = mail_host y;
         notes = [];
         does = record {
-          done = subst (λ (l : ℕ). IfModelled told.old.image (λ image. IsMachine (moved (cache_move c.args.what) l (machine image x.cache.lines)) told.new.image c.shift.new.cache.lines)) place
+          done = subst (λ (l : ℕ). IfModelled told.old.image (λ image. IsMachine (moved (move_of c.args.what) l (machine image x.cache.lines)) told.new.image c.shift.new.self.lines)) place
               c.in-Ok-shift.ensures.moved;
           later = c.shift.ensures.steady.later;
           next_is = refl;
@@ -78,10 +78,10 @@ returns-in-Ok-shift-clause-fits g c =
     let fits : MailWorldFits lines (mail_view i.entry items i.journal.items) = subst (MailWorldFits lines) (sym c.self.view_is) c.requires.fits in
     let below : c.file_line-place.result.0 < lines = subst (λ (l : ℕ). l < lines) (sym c.file_line-place.ensures.value)
     (fits.place c.args.line (omega (arith, c.in-Ok.ensures.below, c.capacity.ensures))) in
-    let here : MailHostFits lines capacity (record (mail_host x) { cache = c.shift.new.cache.lines }) =
-    host_fits lines capacity c.file_line-place.result.0 (mail_host x) c.shift.new.cache.lines below c.shift.ensures.held (fits.host at (mail_host x) (map_at mail_host items at x at_is)) in
-    fits_set i.entry items i.journal.items c.make_room.new.journal.items at x (record x { cache = c.shift.new.cache }) lines (g.M.Media.size c.shift.new.media) c.shift.ensures.steady.size at_is
-    fits (subst (λ (n : ℕ). MailHostFits n capacity (record (mail_host x) { cache = c.shift.new.cache.lines })) (sym c.shift.ensures.steady.size) here)
+    let here : MailHostFits lines capacity (record (mail_host x) { cache = c.shift.new.self.lines }) =
+    host_fits lines capacity c.file_line-place.result.0 (mail_host x) c.shift.new.self.lines below c.shift.ensures.held (fits.host at (mail_host x) (map_at mail_host items at x at_is)) in
+    fits_set i.entry items i.journal.items c.make_room.new.journal.items at x (record x { cache = c.shift.new.self }) lines (g.M.Media.size c.shift.new.media) c.shift.ensures.steady.size at_is
+    fits (subst (λ (n : ℕ). MailHostFits n capacity (record (mail_host x) { cache = c.shift.new.self.lines })) (sym c.shift.ensures.steady.size) here)
 
 pub returns-in-Err-Failed-clause-answered : goal.returns-in-Err-Failed-clause-answered
 returns-in-Err-Failed-clause-answered g c =
@@ -89,7 +89,7 @@ returns-in-Err-Failed-clause-answered g c =
     let items = i.hosts.items in
     let at = c.in-Ok.at in
     let x = c.index_mut.result.now in
-    let y = record x { cache = c.shift.new.cache } in
+    let y = record x { cache = c.shift.new.self } in
     let told : MediaChange = change g.M.Media.state c.args.media.now c.shift.new.media in
     let v : MailView = mail_view i.entry items i.journal.items in
     let new : MailView = mail_view i.entry (set items at y) c.refused-in-Err-Failed.new.journal.items in
@@ -99,9 +99,9 @@ returns-in-Err-Failed-clause-answered g c =
     let value : c.file_line-place.result.0 ≡ file_line i.entry c.args.line = c.file_line-place.ensures.value in
     let place : c.file_line-place.result ≡ line_no (file_line i.entry c.args.line) = ap (λ (l : ℕ). line_no l) value in
     let failed = c.in-Err-Failed.is ∙ ap (λ (f : CacheFault). Err f) c.in-Err-Failed.field-0-is in
-    subst (λ (w : MailView). IfMailAnswered {T = Unit {0}} (Err c.refused-in-Err-Failed.result) (λ answered. MovesLine c.args.name.now c.args.line (cache_move c.args.what) told answered w new))
+    subst (λ (w : MailView). IfMailAnswered {T = Unit {0}} (Err c.refused-in-Err-Failed.result) (λ answered. MovesLine c.args.name.now c.args.line (move_of c.args.what) told answered w new))
     c.self.view_is
-    (subst (λ (f : MailFault). IfMailAnswered {T = Unit {0}} (Err f) (λ answered. MovesLine c.args.name.now c.args.line (cache_move c.args.what) told answered v new))
+    (subst (λ (f : MailFault). IfMailAnswered {T = Unit {0}} (Err f) (λ answered. MovesLine c.args.name.now c.args.line (move_of c.args.what) told answered v new))
     (sym c.refused-in-Err-Failed.ensures.given)
     (inr (
       free_call c.args.name.now (file_line_refusal c.args.line (capacity_in v)) v at free,
@@ -110,7 +110,7 @@ returns-in-Err-Failed-clause-answered g c =
         host = mail_host x;
         number = free.number;
         host_is = map_at mail_host items at x at_is;
-        failed = subst (λ (l : ℕ). IfModelled told.old.image (λ image. FailsTo l (λ through memory. failed_move (cache_move c.args.what) through memory (cell_at x.cache.lines l)) image
+        failed = subst (λ (l : ℕ). IfModelled told.old.image (λ image. FailsTo l (λ through memory. failed_move (move_of c.args.what) through memory (cell_at x.cache.lines l)) image
             told.new.image)) value (c.shift.ensures.failed failed);
         rose = c.shift.ensures.rose failed;
         later = c.shift.ensures.steady.later;
@@ -133,10 +133,10 @@ returns-in-Err-Failed-clause-fits g c =
     let fits : MailWorldFits lines (mail_view i.entry items i.journal.items) = subst (MailWorldFits lines) (sym c.self.view_is) c.requires.fits in
     let below : c.file_line-place.result.0 < lines = subst (λ (l : ℕ). l < lines) (sym c.file_line-place.ensures.value)
     (fits.place c.args.line (omega (arith, c.in-Ok.ensures.below, c.capacity.ensures))) in
-    let here : MailHostFits lines capacity (record (mail_host x) { cache = c.shift.new.cache.lines }) =
-    host_fits lines capacity c.file_line-place.result.0 (mail_host x) c.shift.new.cache.lines below c.shift.ensures.held (fits.host at (mail_host x) (map_at mail_host items at x at_is)) in
-    fits_set i.entry items i.journal.items c.refused-in-Err-Failed.new.journal.items at x (record x { cache = c.shift.new.cache }) lines (g.M.Media.size c.shift.new.media)
-    c.shift.ensures.steady.size at_is fits (subst (λ (n : ℕ). MailHostFits n capacity (record (mail_host x) { cache = c.shift.new.cache.lines })) (sym c.shift.ensures.steady.size) here)
+    let here : MailHostFits lines capacity (record (mail_host x) { cache = c.shift.new.self.lines }) =
+    host_fits lines capacity c.file_line-place.result.0 (mail_host x) c.shift.new.self.lines below c.shift.ensures.held (fits.host at (mail_host x) (map_at mail_host items at x at_is)) in
+    fits_set i.entry items i.journal.items c.refused-in-Err-Failed.new.journal.items at x (record x { cache = c.shift.new.self }) lines (g.M.Media.size c.shift.new.media)
+    c.shift.ensures.steady.size at_is fits (subst (λ (n : ℕ). MailHostFits n capacity (record (mail_host x) { cache = c.shift.new.self.lines })) (sym c.shift.ensures.steady.size) here)
 
 pub shift-requires : goal.shift-requires
 shift-requires g c =

@@ -10,7 +10,7 @@ use Rattle.fam_journal.specs.View.{WorldView}
 use Rattle.fam_notes.specs.declared.note.Note.{Note as Kept}
 use Rattle.fam_journal.specs.CallRecords.{MediaCall}
 use Rattle.fam_world.specs.Answers.{IfAnswered, IsFree, IsRefused}
-use Rattle.fam_world.specs.Moves.{move_of}
+use Rattle.fam_cache.specs.OwnMoves.{move_of}
 use Rattle.fam_world.specs.View.{host_view, notes_view, world_view}
 use Rattle.fam_world.proofs.Members.{map_at, map_same, map_set}
 use Rattle.fam_world.proofs.Moving.{media_refused, move_failed_call, moved_call, with_cache}
@@ -38,11 +38,11 @@ returns-in-Ok-shift-clause-answered g c =
     let at_is = slice_get_read items (length items) at x refl (omega (arith, c.in-Ok.ensures.within)) c.index_mut.ensures.value in
     let asked : call.Call = call.Moves c.args.name.now c.args.line.0 (move_of c.args.what) in
     let free : IsFree asked (g.M.Media.size c.args.media.now) old at = subst (λ n. IsFree asked n old at) c.lines.ensures.count (c.in-Ok.ensures.placed (move_of c.args.what) old.journal) in
-    let new : WorldView = world_view (set items at (record x { cache = c.shift.new.cache })) c.make_room.new.journal.items in
+    let new : WorldView = world_view (set items at (record x { cache = c.shift.new.self })) c.make_room.new.journal.items in
     subst (λ (w : WorldView). MediaCall asked (g.M.Media.size c.args.media.now) None (change g.M.Media.state c.args.media.now c.shift.new.media) w new) c.self.view_is
     (moved_call c.args.name.now c.args.line.0 at (move_of c.args.what) (g.M.Media.size c.args.media.now) old (host_view x) free.number free.free (map_at host_view items at x at_is)
     (g.M.Media.state c.args.media.now).image (g.M.Media.state c.shift.new.media).image (g.M.Media.state c.args.media.now).faults (g.M.Media.state c.shift.new.media).faults _ (g.met.M.Media.modelled c.args.media.now)
-    c.shift.new.cache.lines (map_set host_view (with_cache c.shift.new.cache.lines) items at _ x at_is refl) (ap notes_view c.make_room.ensures.same)
+    c.shift.new.self.lines (map_set host_view (with_cache c.shift.new.self.lines) items at _ x at_is refl) (ap notes_view c.make_room.ensures.same)
     (subst (λ n. c.args.line.0 < n) c.lines.ensures.count c.in-Ok.ensures.inside) c.shift.ensures.held c.shift.ensures.steady.later c.in-Ok-shift.ensures.moved)
 
 pub returns-in-Err-Failed-clause-answered : goal.returns-in-Err-Failed-clause-answered
@@ -55,7 +55,7 @@ returns-in-Err-Failed-clause-answered g c =
     let asked : call.Call = call.Moves c.args.name.now c.args.line.0 (move_of c.args.what) in
     let free : IsFree asked (g.M.Media.size c.args.media.now) old at = subst (λ n. IsFree asked n old at) c.lines.ensures.count (c.in-Ok.ensures.placed (move_of c.args.what) old.journal) in
     let failed = c.in-Err-Failed.is ∙ ap (λ (f : CacheFault). Err f) c.in-Err-Failed.field-0-is in
-    let new : WorldView = world_view (set items at (record x { cache = c.shift.new.cache })) c.refused-in-Err-Failed.new.journal.items in
+    let new : WorldView = world_view (set items at (record x { cache = c.shift.new.self })) c.refused-in-Err-Failed.new.journal.items in
     subst (λ (w : WorldView). IfAnswered {T = Unit {0}} (Err c.refused-in-Err-Failed.result) (λ answered. MediaCall asked (g.M.Media.size c.args.media.now) answered (change g.M.Media.state c.args.media.now c.shift.new.media) w new)) c.self.view_is
     (refused_told c.refused-in-Err-Failed.result (why.MediaFault c.args.line) _ c.refused-in-Err-Failed.ensures.given
     (move_failed_call c.args.name.now c.args.line.0 at (move_of c.args.what) (g.M.Media.size c.args.media.now) old (host_view x) free.number free.free (map_at host_view items at x at_is)

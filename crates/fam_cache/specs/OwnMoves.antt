@@ -1,11 +1,11 @@
--- Moves of a cache, as the code has them.
+-- The moves of a cache by itself, as the code has them.
 use Rattle.std.specs.Prelude.{Result, Ok, Err}
 use Rattle.fam_cache.specs.declared.fault.CacheFault.{CacheFault}
 use Rattle.fam_cache.specs.declared.fault.CacheFault.TheVariants as cache_fault
 use Rattle.fam_machine.specs.HostMoves.{Move, Evict, Leak, Fetch}
 use Rattle.fam_media.specs.declared.media.Failed.{Failed}
-use Rattle.fam_world.specs.declared.world.moves.OwnMove.{OwnMove}
-use Rattle.fam_world.specs.declared.world.moves.OwnMove.TheVariants as own
+use Rattle.fam_cache.specs.declared.own_moves.OwnMove.{OwnMove}
+use Rattle.fam_cache.specs.declared.own_moves.OwnMove.TheVariants as own
 
 -- the move that it is
 abbrev pub move_of : OwnMove → Move

@@ -6,14 +6,14 @@ use Rattle.fam_cache.specs.States.{CacheState}
 use Rattle.fam_cache.specs.Effects.{FailsTo}
 use Rattle.fam_machine.specs.Caches.{cell_at}
 use Rattle.fam_machine.specs.HostMoves.{failed_move}
-use Rattle.fam_world.specs.declared.world.moves.OwnMove.{OwnMove}
-use Rattle.fam_world.specs.Moves.{move_of}
-use Rattle.fam_world.proofs.Shifting.{evict_held, failed_sent, fetch_failed, fetch_held, fetch_moved, leak_done}
-use Rattle.fam_world.proofs.world.moves.shift.Goals as goal
+use Rattle.fam_cache.specs.declared.own_moves.OwnMove.{OwnMove}
+use Rattle.fam_cache.specs.OwnMoves.{move_of}
+use Rattle.fam_cache.proofs.Shifting.{evict_held, failed_sent, fetch_failed, fetch_held, fetch_moved, leak_done}
+use Rattle.fam_cache.proofs.cache.HostCache.shift.Goals as goal
 
 pub returns-in-Evict-clause-failed : goal.returns-in-Evict-clause-failed
 returns-in-Evict-clause-failed g c is =
-    subst (λ (w : OwnMove). IfModelled (g.M.Media.state c.args.media.now).image (λ image. FailsTo c.args.line.0 (λ through memory. failed_move (move_of w) through memory (cell_at c.args.cache.now.lines c.args.line.0)) image (g.M.Media.state c.evict.new.media).image)) (sym c.in-Evict.is)
+    subst (λ (w : OwnMove). IfModelled (g.M.Media.state c.args.media.now).image (λ image. FailsTo c.args.line.0 (λ through memory. failed_move (move_of w) through memory (cell_at c.args.self.now.lines c.args.line.0)) image (g.M.Media.state c.evict.new.media).image)) (sym c.in-Evict.is)
     (failed_sent c.evict.result _ c.evict.ensures.torn (subst (λ r. IsErrOf r cache_fault.Failed) c.sends.ensures is))
 
 pub returns-in-Evict-clause-held : goal.returns-in-Evict-clause-held
@@ -25,7 +25,7 @@ returns-in-Leak-clause-moved g c =
 
 pub returns-in-Leak-clause-failed : goal.returns-in-Leak-clause-failed
 returns-in-Leak-clause-failed g c is =
-    subst (λ (w : OwnMove). IfModelled (g.M.Media.state c.args.media.now).image (λ image. FailsTo c.args.line.0 (λ through memory. failed_move (move_of w) through memory (cell_at c.args.cache.now.lines c.args.line.0)) image (g.M.Media.state c.leak.new.media).image)) (sym c.in-Leak.is)
+    subst (λ (w : OwnMove). IfModelled (g.M.Media.state c.args.media.now).image (λ image. FailsTo c.args.line.0 (λ through memory. failed_move (move_of w) through memory (cell_at c.args.self.now.lines c.args.line.0)) image (g.M.Media.state c.leak.new.media).image)) (sym c.in-Leak.is)
     (failed_sent c.leak.result _ c.leak.ensures.torn (subst (λ r. IsErrOf r cache_fault.Failed) c.sends-in-Leak.ensures is))
 
 pub returns-in-Fetch-clause-moved : goal.returns-in-Fetch-clause-moved
