@@ -12,7 +12,7 @@ use Rattle.fam_format.specs.Log.{gate_fault, log_fault}
 use Rattle.fam_format.specs.Reading.{BadHeader, Lines, NoSuperblock, Reading, gate_in, read_below, read_log, read_slots, read_super, super_in}
 use Rattle.fam_format.specs.Super.{magic, magic_fault, super_body_of, super_of}
 use Rattle.fam_format.specs.Stop.{stop}
-use Rattle.fam_replay.specs.Sources.{Tells, of_log, of_super}
+use Rattle.fam_replay.specs.Sources.{ReadsHead, Tells, of_log, of_super}
 use Rattle.fam_replay.specs.declared.fault.ReadFault.{ReadFault}
 
 -- lines 0, 1 and 2 tell the superblock
@@ -61,6 +61,10 @@ module _ (lines : Lines) (p : Params) where
       ∙ ap (λ (n : ℕ). read_below lines p (gate_fault n p)) (sym at)
       ∙ ap (read_below lines p) within
       ∙ ap (λ (n : ℕ). read_slots lines p 0 n []) (sym at)
+
+  -- so both read
+  pub head_reads : (header : List ℕ) (gate : ℕ) → header ≡ lines log_line → log_fault header p ≡ None → gate ≡ gate_in lines → gate_fault gate p ≡ None → ReadsHead lines p
+  head_reads header gate is none at within = record { header = no_fault_of header is none; gate = ap (λ (n : ℕ). gate_fault n p) (sym at) ∙ within }
 
   -- the gate has one
   pub by_gate : (header : List ℕ) (gate : ℕ) (fault : LogFault) → header ≡ lines log_line → log_fault header p ≡ None → gate ≡ gate_in lines → gate_fault gate p ≡ Some fault

@@ -1,13 +1,13 @@
 -- What an image reads as, step by step.
-use Rattle.std.proofs.Common.{◌≡◌, ℕ, suc, ◌+◌, ◌-◌, ◌*◌, ◌<◌, List, [], length, Ok, sym, ap, subst, ◌∙◌, arith}
+use Rattle.std.proofs.Common.{◌≡◌, ℕ, suc, ◌+◌, ◌-◌, ◌*◌, ◌<◌, List, [], length, Ok, sym, ap, subst, ◌∙◌, inr, arith}
 use Rattle.fam_base.specs.declared.entry.Params.{Params}
 use Rattle.fam_base.specs.declared.entry.Entry.{Entry}
 use Rattle.fam_base.specs.Image.{Image, line_at}
 use Rattle.fam_format.specs.Layout.{log_line}
 use Rattle.fam_format.specs.Log.{log_fault}
-use Rattle.fam_format.specs.Reading.{Lines, Reading, read_log, read_slots, read_super, reading, reading_of, super_in}
+use Rattle.fam_format.specs.Reading.{Lines, Reading, gate_in, read_log, read_slots, read_super, reading, reading_of, super_in}
 use Rattle.fam_rules.specs.Place.{line_bytes}
-use Rattle.fam_replay.specs.Sources.{FailsAt, IsOfSlot, IsOfSlots, Tells}
+use Rattle.fam_replay.specs.Sources.{FailsAt, IsOfLog, IsOfSlot, IsOfSlots, ReadsHead, Tells}
 use Rattle.fam_replay.specs.declared.fault.ReadFault.{ReadFault}
 use Rattle.fam_replay.specs.declared.fault.ReadFault.TheVariants as fault
 
@@ -32,6 +32,11 @@ fails_among P Q more (fault.BadLog field found wanted) fails = tt
 fails_among P Q more (fault.BadEntry seq reason) fails = tt
 fails_among P Q more (fault.MediaFault line) fails = more line.0 fails
 fails_among P Q more fault.OutOfMemory fails = tt
+
+-- a line of the slots, behind a head that reads
+pub slots_of_log : (lines : Lines) (p q : Params) (count at : ℕ) → q ≡ p → count ≡ gate_in lines → ReadsHead lines p → IsOfSlots lines q count at → IsOfLog lines p at
+slots_of_log lines p q count at params is head line =
+    inr (head, subst (λ (n : ℕ). IsOfSlots lines p n at) is (subst (λ (r : Params). IsOfSlots lines r count at) params line))
 
 -- the slots that are left, by what a plan has
 pub slots_left : (memory : Lines) (p q : Params) (count slot : ℕ) (entries : List Entry) → q ≡ p → length entries ≡ slot → slot < count → read_slots memory p 0 count [] ≡ read_slots memory p slot (count - slot) entries

@@ -8,7 +8,7 @@ use Rattle.fam_format.specs.declared.faults.LogFault.{LogFault}
 use Rattle.fam_format.specs.declared.faults.LogFault.TheVariants as log
 use Rattle.fam_format.specs.declared.faults.Reason.{Reason}
 use Rattle.fam_format.specs.Layout.{gate_line, geometry, log_line, slot_line}
-use Rattle.fam_format.specs.Log.{log_fault}
+use Rattle.fam_format.specs.Log.{gate_fault, log_fault}
 use Rattle.fam_format.specs.Reading.{Lines, Reading, BadHeader, BadSlot, NoSuperblock, Sound, gate_in, read_slots, super_in}
 use Rattle.fam_format.specs.Super.{magic}
 use Rattle.fam_media.specs.Causes.{Rose}
@@ -86,10 +86,15 @@ pub record IsOfSlots (lines : Lines) (p : Params) (count at : ℕ) : Type 0 wher
   pub sound : read_slots lines p 0 slot [] ≡ Sound p before
   pub line : IsOfSlot p slot at
 
--- a line of the log with these parameters: of its head, or of a slot below what the gate's line says, behind slots that all read.
--- That a reading with a bad header, or with a gate above the slots, ends before them isn't asked here
+-- header and gate read
+pub record ReadsHead (lines : Lines) (p : Params) : Type 0 where
+  pub header : log_fault (lines log_line) p ≡ None
+  pub gate : gate_fault (gate_in lines) p ≡ None
+
+-- a line of the log with these parameters: of its head, or, behind a head that reads, of a slot below the gate, behind slots that
+-- all read and join
 abbrev pub IsOfLog : Lines → Params → ℕ → Type 0
-IsOfLog lines p at = IsOfHead lines p at ⊎ IsOfSlots lines p (gate_in lines) at
+IsOfLog lines p at = IsOfHead lines p at ⊎ (ReadsHead lines p × IsOfSlots lines p (gate_in lines) at)
 
 -- a line that a reading may ask for: of the superblock, or of the log behind one that reads
 abbrev pub IsAskedFor : Lines → ℕ → ℕ → Type 0

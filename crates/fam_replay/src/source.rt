@@ -11,7 +11,7 @@ ghost use Rattle.fam_media.specs.Causes.{IsSteady, Rose};
 ghost use Rattle.fam_media.specs.Outside.{IfModelled};
 ghost use Rattle.fam_plan.specs.Faults.{reason_of};
 ghost use Rattle.fam_rules.specs.Place.{line_bytes};
-ghost use Rattle.fam_replay.specs.Sources.{FailsAt, IsAskedFor, IsCounted, IsOfHead, IsOfLog, IsOfSlot, IsOfSlots, IsOfSuper, IsReadCaused, Tells, of_log, of_slot, of_super};
+ghost use Rattle.fam_replay.specs.Sources.{FailsAt, IsAskedFor, IsCounted, IsOfHead, IsOfLog, IsOfSlot, IsOfSlots, IsOfSuper, IsReadCaused, ReadsHead, Tells, of_log, of_slot, of_super};
 ghost use Rattle.fam_replay.specs.declared.fault.ReadFault.TheVariants as fault;
 
 use crate::fault::ReadFault;
@@ -131,6 +131,7 @@ fn read_count<M: Media>(media: &mut M, params: &Params) -> Result<u64, ReadFault
         read.read_log (line_at image) params.now (log_fault (line_at image log_line) params.now) ≡ read.read_slots (line_at image) params.now 0 count [])) }
     ensures few { IfOk result (λ count. count ≤ params.now.slots) }
     ensures gate { IfOk result (λ count. IfModelled (M.state media.old).image (λ image. count ≡ gate_in (line_at image))) }
+    ensures head { OnOk result (IfModelled (M.state media.old).image (λ image. ReadsHead (line_at image) params.now)) }
     ensures asked { IfErr result (λ fault. IfModelled (M.state media.old).image (λ image. FailsAt (IsOfHead (line_at image) params.now) fault)) }
     ensures fault { IfErr result (λ fault. IfModelled (M.state media.old).image (λ image.
         Tells fault (read.read_log (line_at image) params.now (log_fault (line_at image log_line) params.now)))) }

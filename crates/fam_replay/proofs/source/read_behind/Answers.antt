@@ -1,8 +1,11 @@
 use Rattle.std.proofs.Common.{◌≡◌, [], sym, ap, ◌∙◌}
+use Rattle.std.proofs.lemmas.Result.{err_from_is_err_and}
 use Rattle.fam_base.specs.declared.entry.Params.{Params}
 use Rattle.fam_base.specs.Image.{line_at}
 use Rattle.fam_format.specs.Reading.{Sound, read_slots}
+use Rattle.fam_replay.specs.Sources.{IsOfLog, IsOfSlots}
 use Rattle.fam_replay.proofs.Exits.{Held, held_on}
+use Rattle.fam_replay.proofs.Sources.{fails_among, slots_of_log}
 use Rattle.fam_replay.proofs.source.read_behind.Goals as goal
 
 pub returns : goal.returns
@@ -29,3 +32,13 @@ returns g c =
       same = both.same;
       steady = both.steady;
     }
+
+-- a slot failed
+pub returns-in_err-read_slots-clause-asked : goal.returns-in_err-read_slots-clause-asked
+returns-in_err-read_slots-clause-asked g c =
+    let one = c.in_ok-count.ensures in
+    let p = err_from_is_err_and c.from_residual-in_err-read_slots.result c.from_residual-in_err-read_slots.ensures.1 in
+    rw (p.1, p.2) (λ image told.
+    fails_among (IsOfSlots (line_at image) c.in_ok-plan.plan.params c.in_ok-count.count) (IsOfLog (line_at image) c.args.params.now)
+    (λ at line. slots_of_log (line_at image) c.args.params.now c.in_ok-plan.plan.params c.in_ok-count.count at c.in_ok-plan.ensures.params (one.gate image told) (one.head image told) line)
+    c.in_err-read_slots.field-0.0 (c.in_err-read_slots.ensures.asked image (one.same ∙ told)))

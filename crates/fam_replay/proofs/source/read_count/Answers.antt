@@ -3,7 +3,7 @@ use Rattle.std.proofs.lemmas.Result.{err_from_is_err_and}
 use Rattle.fam_base.specs.Image.{line_at}
 use Rattle.fam_replay.specs.Sources.{IsOfHead}
 use Rattle.fam_replay.proofs.Exits.{Held, fails_nowhere, fails_there, fell_on, held_on, line_failed, log_other, stopped, tells_nothing}
-use Rattle.fam_replay.proofs.Heads.{by_gate, by_header_line, count_told, no_fault_of, tells_log}
+use Rattle.fam_replay.proofs.Heads.{by_gate, by_header_line, count_told, head_reads, no_fault_of, tells_log}
 use Rattle.fam_replay.proofs.source.read_count.Goals as goal
 
 pub returns-in_err-header : goal.returns-in_err-header
@@ -16,6 +16,7 @@ returns-in_err-header g c =
       told = tt;
       few = tt;
       gate = tt;
+      head = tt;
       asked = λ image told. fails_there (IsOfHead (line_at image) c.args.params.now) f _ e.failed (inl refl);
       fault = λ image told. tells_nothing f _ _ e.failed;
       cause = fell.cause;
@@ -36,6 +37,7 @@ returns-in-Err g c =
       told = tt;
       few = tt;
       gate = tt;
+      head = tt;
       asked = λ image told. fails_nowhere (IsOfHead (line_at image) c.args.params.now) f (log_other f c.in-Err.fault is);
       fault = λ image told. tells_log f c.in-Err.fault _ is (by_header_line (line_at image) c.args.params.now c.in_ok-header.header c.in-Err.fault (c.in_ok-header.ensures.words image told) c.in-Err.ensures);
       cause = fell.cause;
@@ -58,6 +60,7 @@ returns-in_err-gate g c =
       told = tt;
       few = tt;
       gate = tt;
+      head = tt;
       asked = λ image told. fails_there (IsOfHead (line_at image) c.args.params.now) f _ e.failed (inr (no_fault_of (line_at image) c.args.params.now c.in_ok-header.header (c.in_ok-header.ensures.words image told) c.in_default.ensures, refl));
       fault = λ image told. tells_nothing f _ _ e.failed;
       cause = fell.cause;
@@ -80,6 +83,7 @@ returns-in-Err-read_gate g c =
       told = tt;
       few = tt;
       gate = tt;
+      head = tt;
       asked = λ image told. fails_nowhere (IsOfHead (line_at image) c.args.params.now) f (log_other f c.in-Err-read_gate.fault is);
       fault = λ image told. tells_log f c.in-Err-read_gate.fault _ is (by_gate (line_at image) c.args.params.now c.in_ok-header.header _ c.in-Err-read_gate.fault (c.in_ok-header.ensures.words image told) c.in_default.ensures (ap (λ (l : List ℕ). get_or l 0 0) (c.in_ok-gate.ensures.words image (one.same ∙ told))) c.in-Err-read_gate.ensures.fault);
       cause = fell.cause;
@@ -99,6 +103,7 @@ returns g c =
       told = λ image told. count_told (line_at image) c.args.params.now c.in_ok-header.header _ (c.in_ok-header.ensures.words image told) c.in_default.ensures (ap (λ (l : List ℕ). get_or l 0 0) (c.in_ok-gate.ensures.words image (one.same ∙ told))) c.in_default-read_gate.ensures.fault;
       few = c.in_default-read_gate.ensures.within;
       gate = λ image told. (ap (λ (l : List ℕ). get_or l 0 0) (c.in_ok-gate.ensures.words image (one.same ∙ told)));
+      head = λ image told. head_reads (line_at image) c.args.params.now c.in_ok-header.header _ (c.in_ok-header.ensures.words image told) c.in_default.ensures (ap (λ (l : List ℕ). get_or l 0 0) (c.in_ok-gate.ensures.words image (one.same ∙ told))) c.in_default-read_gate.ensures.fault;
       asked = tt;
       fault = tt;
       cause = tt;
