@@ -1,13 +1,13 @@
 //! The test of a box, by the media alone.
 
-ghost use Rattle.std.specs.Prelude.{ℕ, ◌≡◌, ◌<◌, ◌≤◌, IfErr, OnOk, Err};
+ghost use Rattle.std.specs.Prelude.{ℕ, ◌≡◌, ◌<◌, ◌≤◌, IfErr, OnOk, Err, true};
 ghost use Rattle.fam_base.specs.Image.{line_at};
 ghost use Rattle.fam_media.specs.Causes.{IsSteady, Rose};
 ghost use Rattle.fam_media.specs.Outside.{IfModelled};
 ghost use Rattle.fam_rules.specs.Place.{IsProperEntry};
 ghost use Rattle.fam_rules.specs.Written.{file_line};
 ghost use Rattle.fam_mail.specs.Boxes.{IsBox, box_of, capacity_of};
-ghost use Rattle.fam_mail.specs.Checks.{IfFailed, IfWrong, IsReadLine};
+ghost use Rattle.fam_mail.specs.Checks.{IfFailed, IfWrong, IsBoxCounted, IsReadLine};
 
 use crate::record::wrong_word;
 use fam_base::{Entry, LineNo};
@@ -48,6 +48,10 @@ pub fn check_box<M: Media>(media: &mut M, entry: &Entry) -> Result<(), BoxFault>
     ensures cause { IfErr result (λ fault. IfFailed fault (λ line. Rose (M.state media.old).faults (M.state media.new).faults)) }
     ensures line { IfErr result (λ fault. IfFailed fault (λ line. IsReadLine (file_line entry.now) (capacity_of entry.now.size)
         (M.state media.old).image line.0)) }
+
+    // A media that counts exactly has failed once where the fault tells it, and never else.
+    ensures quiet { OnOk result (M.exact ≡ true → (M.state media.new).faults ≡ (M.state media.old).faults) }
+    ensures counted { IfErr result (λ fault. M.exact ≡ true → IsBoxCounted (M.state media.old).faults (M.state media.new).faults fault) }
     ensures same { (M.state media.new).image ≡ (M.state media.old).image }
     ensures steady { IsSteady M.size M.state media.old media.new }
 {

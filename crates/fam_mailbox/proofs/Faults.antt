@@ -1,5 +1,5 @@
 -- Why no event is run, by what was read.
-use Rattle.std.proofs.Common.{◌≡◌, ℕ, ◌+◌, ◌≤◌, ◌<◌, List, length, Option, Some, Result, Ok, Err, subst, inl, inr, arith}
+use Rattle.std.proofs.Common.{◌≡◌, ℕ, ◌+◌, ◌≤◌, ◌<◌, ◌∙◌, Bool, true, List, ap, length, Option, Some, Result, Ok, Err, subst, inl, inr, arith}
 use Rattle.std.specs.Prelude.{IfErr, IfOk}
 use Rattle.std.specs.FinMap as map
 use Rattle.fam_base.specs.Image.{Image, line_at}
@@ -11,17 +11,18 @@ use Rattle.fam_format.specs.Reading as read
 use Rattle.fam_format.specs.Reading.{Reading, reading}
 use Rattle.fam_format.specs.Tree.{replay}
 use Rattle.fam_mail.specs.Boxes.{box_of, capacity_of}
-use Rattle.fam_mail.specs.Checks.{IfFailed, IfWrong, IsReadLine}
+use Rattle.fam_mail.specs.Checks.{IfFailed, IfWrong, IsBoxCounted, IsReadLine}
 use Rattle.fam_mail.specs.declared.check.BoxFault.{BoxFault}
 use Rattle.fam_mail.specs.declared.check.BoxFault.TheVariants as check
 use Rattle.fam_mail.specs.declared.check.WrongBox.TheVariants as wrong
 use Rattle.fam_media.specs.Causes.{Rose}
 use Rattle.fam_media.specs.Outside.{IfModelled}
+use Rattle.fam_media.specs.Plans.{one_more}
 use Rattle.fam_media.specs.States.{MediaChange}
 use Rattle.fam_rules.specs.Written.{file_line}
 use Rattle.fam_mailbox.specs.declared.fault.LookFault.{LookFault}
 use Rattle.fam_mailbox.specs.declared.fault.LookFault.TheVariants as fault
-use Rattle.fam_mailbox.specs.Lookups.{HasEntries, HasFile, IsLookCaused, IsNoFile, IsSo, box_look}
+use Rattle.fam_mailbox.specs.Lookups.{HasEntries, HasFile, IsLookCaused, IsLookCounted, IsNoFile, IsSo, box_look}
 
 -- a count that rose has risen from what it was before
 rose_later : (first before now : ℕ) → first ≤ before → Rose before now → Rose first now
@@ -50,7 +51,25 @@ pub no_files : (path : List ℕ) (told : Option Image) (params : Params) (entrie
 no_files path told params entries (Ok e) has none = tt
 no_files path told params entries (Err f) has none = λ image is. let h = has image is in no_file_so path image params entries f h.enough h.reads none
 
+-- where no file stands there, nothing has failed
+no_file_counted : (entries : List Entry) (path : List ℕ) (before now : ℕ) (f : LookFault) → IsNoFile entries path f → now ≡ before → IsLookCounted before now f
+no_file_counted entries path before now (fault.NotFound m) none quiet = quiet
+no_file_counted entries path before now (fault.IsDirectory m) none quiet = quiet
+no_file_counted entries path before now e none quiet = absurd none
+
+-- where no entry is told
+pub no_files_counted : (entries : List Entry) (path : List ℕ) (exact : Bool) (before now : ℕ) (r : Result Entry LookFault) → IfErr r (IsNoFile entries path) → (exact ≡ true → now ≡ before)
+    → IfErr r (λ f. exact ≡ true → IsLookCounted before now f)
+no_files_counted entries path exact before now (Ok e) none quiet = tt
+no_files_counted entries path exact before now (Err f) none quiet = λ is. no_file_counted entries path before now f none (quiet is)
+
 -- The box.
+
+-- a fault of a box is counted as one of the look, behind calls that went well
+pub box_counted : (before then now : ℕ) (f : BoxFault) → then ≡ before → IsBoxCounted then now f → IsLookCounted before now (box_look f)
+box_counted before then now (check.Wrong (wrong.BadBox gate capacity)) quiet counted = counted ∙ quiet
+box_counted before then now (check.Wrong (wrong.BadRecord i)) quiet counted = counted ∙ quiet
+box_counted before then now (check.MediaFault line) quiet counted = counted ∙ ap one_more quiet
 
 -- a fault of a box is so of the image
 pub box_so : (path : List ℕ) (image : Image) (told : Option Image) (entry : Entry) (f : BoxFault) → told ≡ Some image → HasFile path image entry → 128 ≤ entry.size

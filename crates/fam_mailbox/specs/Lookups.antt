@@ -23,6 +23,7 @@ use Rattle.fam_mail.specs.declared.check.BoxFault.TheVariants as check
 use Rattle.fam_mail.specs.declared.check.WrongBox.{WrongBox}
 use Rattle.fam_mail.specs.declared.check.WrongBox.TheVariants as wrong
 use Rattle.fam_media.specs.Causes.{Rose}
+use Rattle.fam_media.specs.Plans.{one_more}
 use Rattle.fam_media.specs.States.{MediaChange}
 use Rattle.fam_outcomes.specs.declared.status.Status.{Status}
 use Rattle.fam_outcomes.specs.declared.status.Status.TheVariants as status
@@ -130,6 +131,21 @@ IsLookCaused lines media (fault.BadBox gate capacity) = ⊤
 IsLookCaused lines media (fault.BadRecord i) = ⊤
 IsLookCaused lines media (fault.MediaFault at) = Rose media.old.faults media.new.faults × (at.0 < lines)
 IsLookCaused lines media fault.OutOfMemory = ⊤
+
+-- a media that counts exactly has counted one fault where a fault tells that it failed, and none where another one came
+abbrev pub IsLookCounted : ℕ → ℕ → LookFault → Type 0
+IsLookCounted before now (fault.ImageSmall n) = now ≡ before
+IsLookCounted before now (fault.NoSuper word) = now ≡ before
+IsLookCounted before now (fault.BadSuper field found wanted) = now ≡ before
+IsLookCounted before now (fault.BadLog field found wanted) = now ≡ before
+IsLookCounted before now (fault.BadEntry seq reason) = now ≡ before
+IsLookCounted before now (fault.NotFound m) = now ≡ before
+IsLookCounted before now (fault.IsDirectory m) = now ≡ before
+IsLookCounted before now (fault.BoxSmall size) = now ≡ before
+IsLookCounted before now (fault.BadBox gate capacity) = now ≡ before
+IsLookCounted before now (fault.BadRecord i) = now ≡ before
+IsLookCounted before now (fault.MediaFault at) = now ≡ one_more before
+IsLookCounted before now fault.OutOfMemory = now ≡ before
 
 -- Parts of the look.
 

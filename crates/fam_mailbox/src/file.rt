@@ -1,6 +1,6 @@
 //! The file at a path of an image, and the box in it.
 
-ghost use Rattle.std.specs.Prelude.{◌≡◌, ◌*◌, ◌<◌, ◌≤◌, ℕ, IfErr, IfOk, List, Ok, Some, length};
+ghost use Rattle.std.specs.Prelude.{◌≡◌, ◌*◌, ◌<◌, ◌≤◌, ℕ, IfErr, IfOk, List, Ok, OnOk, Some, length, true};
 ghost use Rattle.std.specs.FinMap as map;
 ghost use Rattle.fam_base.specs.Image.{Image, line_at};
 ghost use Rattle.fam_base.specs.declared.entry.Kind.TheVariants as kind;
@@ -11,10 +11,10 @@ ghost use Rattle.fam_mail.specs.Boxes.{IsBox, capacity_of};
 ghost use Rattle.fam_media.specs.Causes.{IsSteady};
 ghost use Rattle.fam_media.specs.Outside.{IfModelled};
 ghost use Rattle.fam_media.specs.States.{MediaChange, change};
-ghost use Rattle.fam_replay.specs.Sources.{FailsAt, IsAskedFor, IsReadCaused, Tells};
+ghost use Rattle.fam_replay.specs.Sources.{FailsAt, IsAskedFor, IsCounted, IsReadCaused, Tells};
 ghost use Rattle.fam_rules.specs.Place.{line_bytes};
 ghost use Rattle.fam_rules.specs.Written.{file_line};
-ghost use Rattle.fam_mailbox.specs.Lookups.{HasFile, IsLookCaused, IsNoFile, IsFilePlaced, IsFilePlacedIn, IsSo, box_look, read_look};
+ghost use Rattle.fam_mailbox.specs.Lookups.{HasFile, IsLookCaused, IsLookCounted, IsNoFile, IsFilePlaced, IsFilePlacedIn, IsSo, box_look, read_look};
 
 use crate::fault::LookFault;
 use fam_base::{Entry, Kind, Path};
@@ -35,6 +35,7 @@ fn entries_fault(fault: ReadFault) -> LookFault
         → FailsAt (IsAskedFor (line_at image) (line_bytes * length image)) fault → IsSo path image result }
     ensures cause { (lines : ℕ) (media : MediaChange) → IsReadCaused media.old.faults media.new.faults fault
         → FailsAt (λ at. at < lines) fault → IsLookCaused lines media result }
+    ensures counted { (before now : ℕ) → IsCounted before now fault → IsLookCounted before now result }
 {
     match fault {
         ReadFault::NoSuper(word) => LookFault::NoSuper(word),
@@ -86,6 +87,8 @@ fn find_file<M: Media>(alloc: Global, media: &mut M, path: &Path) -> Result<Entr
     ensures placed { IfOk result (IsFilePlaced (M.size media.old)) }
     ensures fault { IfErr result (λ fault. IfModelled (M.state media.old).image (λ image. IsSo path.now image fault)) }
     ensures cause { IfErr result (IsLookCaused (M.size media.old) (change M.state media.old media.new)) }
+    ensures quiet { OnOk result (M.exact ≡ true → (M.state media.new).faults ≡ (M.state media.old).faults) }
+    ensures counted { IfErr result (λ fault. M.exact ≡ true → IsLookCounted (M.state media.old).faults (M.state media.new).faults fault) }
     ensures same { (M.state media.new).image ≡ (M.state media.old).image }
     ensures steady { IsSteady M.size M.state media.old media.new }
 {
@@ -122,6 +125,10 @@ pub fn find_box<M: Media>(alloc: Global, media: &mut M, path: &Path) -> Result<E
         IsBox (file_line entry) (capacity_of entry.size) (line_at image))) }
     ensures fault { IfErr result (λ fault. IfModelled (M.state media.old).image (λ image. IsSo path.now image fault)) }
     ensures cause { IfErr result (IsLookCaused (M.size media.old) (change M.state media.old media.new)) }
+
+    // A media that counts exactly has failed once where the fault tells it, and never else.
+    ensures quiet { OnOk result (M.exact ≡ true → (M.state media.new).faults ≡ (M.state media.old).faults) }
+    ensures counted { IfErr result (λ fault. M.exact ≡ true → IsLookCounted (M.state media.old).faults (M.state media.new).faults fault) }
     ensures same { (M.state media.new).image ≡ (M.state media.old).image }
     ensures steady { IsSteady M.size M.state media.old media.new }
 {

@@ -26,6 +26,7 @@ loop-i-preserved g c =
       size_is = c.in-Ok-read.ensures.size ∙ inv.size_is;
       same = c.in-Ok-read.ensures.same ∙ inv.same;
       later = omega (arith, inv.later, c.in-Ok-read.ensures.cause.later);
+      quiet = λ exact. c.in-Ok-read.ensures.counted exact ∙ inv.quiet exact;
       room = inv.room;
       gate_is = inv.gate_is;
       right = λ image told.

@@ -2,8 +2,8 @@ use Rattle.std.proofs.Common.{◌<◌, ◌∙◌, ℕ, arith, refl, subst, sym}
 use Rattle.fam_mail.specs.Boxes.{capacity_of}
 use Rattle.fam_media.specs.States.{change}
 use Rattle.fam_rules.specs.Written.{file_line}
-use Rattle.fam_mailbox.specs.Lookups.{IsLookCaused, IsSo}
-use Rattle.fam_mailbox.proofs.Faults.{box_caused, box_so}
+use Rattle.fam_mailbox.specs.Lookups.{IsLookCaused, IsLookCounted, IsSo}
+use Rattle.fam_mailbox.proofs.Faults.{box_caused, box_counted, box_so}
 use Rattle.fam_mailbox.proofs.Found.{lines_within}
 use Rattle.fam_mailbox.proofs.file.find_box.Goals as goal
 
@@ -34,3 +34,9 @@ returns-in-Err-check_box-clause-fault g c = λ image is.
     subst (IsSo c.args.path.now image) (sym c.box_fault.ensures)
     (box_so c.args.path.now image (g.M.Media.state c.find_file.new.media).image c.in-Ok.entry c.in-Err-check_box.fault (c.find_file.ensures.same ∙ is)
     (c.in-Ok.ensures.found image is) (omega (arith, c.if-entry-lt-LEAST_BOX.false)) c.in-Err-check_box.ensures.wrong c.in-Err-check_box.ensures.line)
+
+pub returns-in-Err-check_box-clause-counted : goal.returns-in-Err-check_box-clause-counted
+returns-in-Err-check_box-clause-counted g c = λ exact.
+    subst (IsLookCounted (g.M.Media.state c.args.media.now).faults (g.M.Media.state c.check_box.new.media).faults) (sym c.box_fault.ensures)
+    (box_counted (g.M.Media.state c.args.media.now).faults (g.M.Media.state c.find_file.new.media).faults (g.M.Media.state c.check_box.new.media).faults c.in-Err-check_box.fault
+    (c.in-Ok.ensures.quiet exact) (c.in-Err-check_box.ensures.counted exact))
