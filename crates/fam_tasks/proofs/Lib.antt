@@ -10,6 +10,7 @@ pub mod GateTurns
 pub mod HeaderTurns
 pub mod FileTurns
 pub mod Keeping
+pub mod KeptAnew
 pub mod Rest
 pub mod WholeLine
 pub mod SlotLine

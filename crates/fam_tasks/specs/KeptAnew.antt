@@ -1,5 +1,9 @@
--- The answers behind which a host may keep anew what its task has read.
-use Rattle.std.specs.Prelude.{Bool, true, false}
+-- What a host keeps anew behind an answer, of what its task has read.
+use Rattle.std.specs.Prelude.{◌≡◌, Bool, true, false, length, Option, Some, None, option_map}
+use Rattle.fam_commands.specs.Keeping.{read_by}
+use Rattle.fam_commands.specs.Kept.{Kept}
+use Rattle.fam_commands.specs.Task.{Task}
+use Rattle.fam_rules.specs.Reply.{Reply, Appended, NotAppended, Played, Mounted, Same, Differs, Length, Bytes, NotFound, IsDirectory, Checks, Reports, NoSuperblock, BadHeader, BadSlot}
 use Rattle.fam_tasks.specs.declared.answer.Answer.{Answer}
 use Rattle.fam_tasks.specs.declared.answer.Answer.TheVariants as answer
 
@@ -29,3 +33,22 @@ is_keeping (answer.IsDirectory m) = false
 is_keeping (answer.Differs m offset found wanted) = false
 is_keeping (answer.Length m size wanted) = false
 is_keeping (answer.MediaFault line) = false
+
+-- a task that stood so has replied, and this is kept anew: behind a mount the parameters and all entries that it has read, as many
+-- as the reply says; the same behind a logplay where its host kept something, and else nothing; nothing behind any other reply
+abbrev pub KeepsAnew : Reply → Task → Option Kept → Type 0
+KeepsAnew (Played m tree) t anew = (m ≡ length t.entries) × (anew ≡ option_map (λ (k : Kept). read_by t) t.kept)
+KeepsAnew (Mounted m) t anew = (m ≡ length t.entries) × (anew ≡ Some (read_by t))
+KeepsAnew (Appended seq) t anew = anew ≡ None
+KeepsAnew (NotAppended refused) t anew = anew ≡ None
+KeepsAnew (Same m) t anew = anew ≡ None
+KeepsAnew (Differs m offset found wanted) t anew = anew ≡ None
+KeepsAnew (Length m size wanted) t anew = anew ≡ None
+KeepsAnew (Bytes m bytes) t anew = anew ≡ None
+KeepsAnew (NotFound m) t anew = anew ≡ None
+KeepsAnew (IsDirectory m) t anew = anew ≡ None
+KeepsAnew (Checks m checked) t anew = anew ≡ None
+KeepsAnew (Reports report) t anew = anew ≡ None
+KeepsAnew (NoSuperblock fault) t anew = anew ≡ None
+KeepsAnew (BadHeader fault) t anew = anew ≡ None
+KeepsAnew (BadSlot seq reason) t anew = anew ≡ None

@@ -4,14 +4,16 @@
 //! command goes on with that (`BeginsWith`): a slot that has the same words is found again, and nothing is copied. A
 //! listing, whose entries are kept themselves, leaves nothing of the kind.
 
-ghost use Rattle.std.specs.Prelude.{◌≡◌, ◌&&◌, ◌<◌, [], IfOk, IfSome, Some, length, nat_le, nat_lt};
+ghost use Rattle.std.specs.Prelude.{◌≡◌, ◌&&◌, ◌<◌, [], IfOk, IfSome, None, Some, length, nat_le, nat_lt};
 ghost use Rattle.fam_commands.specs.Kept.{AllJoin, is_same_params};
+ghost use Rattle.fam_format.specs.Tree.{replay};
 ghost use Rattle.fam_replay.specs.Replay.{IsReplayOf};
 ghost use Rattle.fam_tasks.specs.History.{BeginsWith, MayResume};
 
 use fam_base::{Boxed, OutOfMemory, Params};
 use fam_plan::Plan;
 use fam_replay::Replica;
+use fam_tree::Tree;
 use std::alloc::Global;
 use std::marker::Model;
 
@@ -128,6 +130,17 @@ impl Kept {
             return None;
         }
         Some(read.into_inner())
+    }
+
+    /// The tree of the entries, where there are any.
+    pub fn tree(&self) -> Option<&Tree>
+        ensures some { IfSome result (λ tree. tree.now ≡ replay self.now.entries) }
+        ensures none { result ≡ None → self.now.entries ≡ [] }
+    {
+        match &self.plan {
+            Some(plan) => Some(plan.tree()),
+            None => None,
+        }
     }
 
     /// How many entries are kept.

@@ -1,6 +1,6 @@
 //! A task: a command, its phase, and what it has read. Its turns stand in the files of `task/`.
 
-ghost use Rattle.std.specs.Prelude.{ℕ, ◌≡◌, ◌≢◌, ◌-◌, ◌≤◌, ◌<◌, nat_lt, if◌then◌else◌, true, false, None, Some, IfOk, OnErr, OnOk, length, option_map};
+ghost use Rattle.std.specs.Prelude.{ℕ, ◌≡◌, ◌≢◌, ◌-◌, ◌≤◌, ◌<◌, nat_lt, if◌then◌else◌, true, false, None, Option, Some, IfOk, OnErr, OnOk, length, option_map};
 ghost use Rattle.fam_base.specs.Commands.{IsSoundCmd};
 ghost use Rattle.fam_base.specs.declared.line.LineNo.{LineNo};
 ghost use Rattle.fam_format.specs.Layout.{geometry, least_lines};
@@ -9,12 +9,14 @@ ghost use Rattle.fam_commands.specs.declared.phase.Phase.TheVariants as at;
 ghost use Rattle.fam_commands.specs.Task as spec;
 ghost use Rattle.fam_commands.specs.Kept.{IsKept, Kept};
 ghost use Rattle.fam_commands.specs.Task.{mounted, op_of, starting};
-ghost use Rattle.fam_commands.specs.Turns.{turn_of};
+ghost use Rattle.fam_commands.specs.Turns.{Ends, turn_of};
 ghost use Rattle.fam_commands.specs.Classes.{is_fsck};
 ghost use Rattle.fam_machine.specs.Operations.{IsWithin};
 ghost use Rattle.fam_tasks.specs.declared.answer.Answer.TheVariants.{MediaFault};
 ghost use Rattle.fam_tasks.specs.declared.answer.Turn.TheVariants.{Done, Go};
-ghost use Rattle.fam_tasks.specs.KeptAnew.{is_keeping};
+ghost use Rattle.fam_rules.specs.Reply.{Reply};
+ghost use Rattle.fam_tasks.specs.Answers.{reply_of};
+ghost use Rattle.fam_tasks.specs.KeptAnew.{KeepsAnew, is_keeping};
 ghost use Rattle.fam_tasks.specs.Survey.{ShowWants};
 ghost use Rattle.fam_tasks.specs.Sound.{most_lines, HasSuper, IsFileLine, IsLine, IsSound, IsWantedLine};
 ghost use Rattle.fam_tasks.specs.Tells.{Keeps, Tells, WantsMemory, is_digest, is_reading};
@@ -232,11 +234,16 @@ impl Task {
     }
 
     /// What the host keeps anew behind a task that gave this answer: Some exactly where it is Mounted, or Played of a host that
-    /// keeps something, with the parameters that the task read and the first entries, as many as the answer says (`Keeps`).
-    /// It takes no memory.
+    /// keeps something, with the parameters that the task read and the first entries, as many as the answer says. It takes no
+    /// memory. A logplay of another host has moved its tree into its answer: who wants both mounts, by the same operations, and
+    /// takes the tree from there (`Kept::tree`).
     pub fn into_kept(mut self, answer: &Answer) -> Option<Kept>
         ensures kept { is_keeping answer.now ≡ true → result ≡ self.kept }
         ensures none { is_keeping answer.now ≡ false → result ≡ None }
+
+        // So it is of what the task has read, where this is its own answer.
+        ensures anew { (t : spec.Task) (word : Option ℕ) (reply : Reply) → turn_of t word ≡ Ends reply → Keeps t (turn_of t word) self
+            → reply_of answer.now ≡ Some reply → KeepsAnew reply t result }
     {
         if !is_keeping(answer) {
             return None;

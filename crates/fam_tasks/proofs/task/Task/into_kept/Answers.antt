@@ -1,0 +1,12 @@
+use Rattle.std.proofs.Common.{None, refl, sym, ◌∙◌}
+use Rattle.fam_tasks.proofs.KeptAnew.{kept_anew}
+use Rattle.fam_tasks.proofs.task.Task.into_kept.Goals as goal
+
+pub returns-then-not-is_keeping-clause-anew : goal.returns-then-not-is_keeping-clause-anew
+returns-then-not-is_keeping-clause-anew c = λ t word reply ends keeps is.
+    kept_anew t c.args.self word reply c.args.answer.now None ends keeps is (λ keeping. absurd (let other = sym c.is_keeping.ensures ∙ c.if-not-is_keeping.true in cc)) (λ other. refl)
+
+pub returns-clause-anew : goal.returns-clause-anew
+returns-clause-anew c = λ t word reply ends keeps is.
+    kept_anew t c.args.self word reply c.args.answer.now c.take_parts-kept.result.0 ends keeps is (λ keeping. c.take_parts-kept.ensures)
+    (λ other. absurd (let keeping = sym c.is_keeping.ensures ∙ c.if-not-is_keeping.false in cc))
