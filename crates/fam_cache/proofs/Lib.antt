@@ -14,3 +14,4 @@ pub mod SentRunLemmas
 pub mod Shedding
 pub mod BroughtRunLemmas
 pub mod SetRuns
+pub mod CleanRuns
