@@ -15,3 +15,4 @@ pub mod Shedding
 pub mod BroughtRunLemmas
 pub mod SetRuns
 mod Shifting
+pub mod CleanRuns

@@ -52,7 +52,8 @@ brought_here first lines (suc n) cache k below =
           ∙ brought_here first lines n cache k (omega arith)
     ]
 
-brought_other : (first : ℕ) (lines : List (List ℕ)) (n : ℕ) (cache : Cache) (q : ℕ) → (q < first) ⊎ (first + n ≤ q) → cell_at (brought_run first lines n cache) q ≡ cell_at cache q
+-- a line before or behind them
+pub brought_other : (first : ℕ) (lines : List (List ℕ)) (n : ℕ) (cache : Cache) (q : ℕ) → (q < first) ⊎ (first + n ≤ q) → cell_at (brought_run first lines n cache) q ≡ cell_at cache q
 brought_other first lines zero cache q outside = refl
 brought_other first lines (suc n) cache q outside =
     let apart : (q < first) ⊎ (first + n + 1 ≤ q) = elim outside [ inl below ↦ inl below | inr behind ↦ inr (omega arith) ] in

@@ -24,7 +24,7 @@ mod runs;
 pub(crate) use asked::asked_run;
 use fam_base::{Line, OutOfMemory};
 use fam_machine::Cell;
-pub(crate) use runs::{empty_block, lacks_none, set_run};
+pub(crate) use runs::{are_clean, empty_block, lacks_none, set_run};
 use std::alloc::Global;
 
 /// So many blocks at most, so that all their lines can be counted: more than any memory has.

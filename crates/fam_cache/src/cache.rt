@@ -23,6 +23,7 @@ ghost use Rattle.fam_cache.specs.Blocks.{AskedWithin, IsBlockOf, IsKept, IsSpot,
 ghost use Rattle.fam_cache.specs.Shed.{IsShed};
 
 mod bringing;
+mod rows;
 
 use crate::blocks::{
     Blocks, absent_lines, ask_copy, copy, dirty_lines_of, drop_copy, empty, has_room, held_at,

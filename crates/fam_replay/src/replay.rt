@@ -208,9 +208,19 @@ impl Replay {
         self.replica = take_over(&mut self.kept, self.keeps, params, gate);
     }
 
+    /// How many slots have words that are kept, behind those that were found, once a slot was read. No contract hangs on it:
+    /// it tells how far it is worth to look.
+    #[inline(always)]
+    pub fn kept_ahead(&self) -> u64 {
+        match &self.replica {
+            Some(replica) => replica.kept_ahead(),
+            None => 0,
+        }
+    }
+
     /// Whether the words of the next slot are those that are kept of it. Then its entry joins those that were found.
     #[inline(always)]
-    fn find(&mut self, params: &Params, gate: u64, words: &[u64]) -> bool
+    pub fn find(&mut self, params: &Params, gate: u64, words: &[u64]) -> bool
         requires { IsReplayOf params.now gate self.old }
         ensures found { result ≡ true → FindsNext params.now words.now (entries_in self.old) (entries_in self.new) }
         ensures other { result ≡ false → entries_in self.new ≡ entries_in self.old }

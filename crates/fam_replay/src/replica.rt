@@ -233,6 +233,13 @@ impl Replica {
         self.plan.params() == params && self.plan.count() <= gate
     }
 
+    /// How many slots have words that are kept, behind those that were found.
+    #[inline(always)]
+    pub(crate) fn kept_ahead(&self) -> u64 {
+        let end = self.first.saturating_add(self.slots.len() as u64);
+        end.saturating_sub(self.found)
+    }
+
     /// Whether the next slot has the words that are kept of it. Then its entry is found: it joins those before it.
     #[inline(always)]
     pub(crate) fn find(&mut self, words: &[u64]) -> bool
