@@ -3,3 +3,4 @@ pub mod Callers
 pub mod Cutting
 pub mod LittleEndian
 pub mod Lines
+pub mod Rows

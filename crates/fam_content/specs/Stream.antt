@@ -1,5 +1,5 @@
 -- What a stream of lines stands for.
-use Rattle.std.specs.Prelude.{ℕ, ◌≡◌, ◌*◌, ◌<◌, Option, Some, None, List}
+use Rattle.std.specs.Prelude.{ℕ, ◌≡◌, ◌+◌, ◌*◌, ◌^◌, ◌<◌, Option, Some, None, List, [], length, slice_index, slice_index_or}
 use Rattle.fam_base.specs.declared.cmd.Content.{Content}
 use Rattle.fam_base.specs.declared.cmd.Content.TheVariants.{Zero, Seed, Bytes}
 use Rattle.fam_rules.specs.Content.{stream_state}
@@ -21,3 +21,18 @@ pub record HasLineLeft (stream : ContentStream) (content : Content) (size : ℕ)
   pub given : ℕ
   pub stands : StreamStandsFor stream content given
   pub left : 64 * given < size
+
+-- line k of a run of lines
+abbrev pub line_in : List (List ℕ) → ℕ → List ℕ
+line_in lines k = slice_index_or lines k []
+
+-- eight words
+pub record IsLine (words : List ℕ) : Type 0 where
+  pub count : length words ≡ 8
+  pub fits : (w : ℕ) → slice_index words w < 2 ^ 64
+
+-- so many lines that it has not given: the last of them begins below the size
+pub record HasLinesLeft (stream : ContentStream) (content : Content) (size count : ℕ) : Type 0 where
+  pub given : ℕ
+  pub stands : StreamStandsFor stream content given
+  pub left : 64 * (given + count) < size + 64

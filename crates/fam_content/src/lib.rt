@@ -18,7 +18,7 @@ mod stream;
 
 pub use bytes::{are_bytes, holds_bytes};
 pub use difference::compare;
-pub use file_lines::{file_line, lines_of};
+pub use file_lines::{file_line, lines_in_row, lines_of};
 pub use places::place;
 pub use prefix::first_bytes;
 pub use stream::ContentStream;

@@ -55,3 +55,33 @@ pub fn place(entry: &Entry, offset: u64) -> u64
         MapKind::Striped { chunk } => striped_place(entry.extents.as_slice(), chunk, offset),
     }
 }
+
+/// How many bytes from byte `offset` on stand one behind another in the extents laid end to end.
+fn simple_row(extents: &[Extent], offset: u64) -> u64
+    ensures { (d : ℕ) → d < result
+        → places.simple_place extents.now (offset + d) ≡ places.simple_place extents.now offset + d }
+{
+    let mut left = offset;
+    for extent in extents {
+        if left < extent.length {
+            return extent.length - left;
+        }
+        left -= extent.length;
+    }
+    0
+}
+
+/// How many bytes of the file from byte `offset` on stand one behind another on the device, as far as its extent or its
+/// chunk goes.
+pub(crate) fn bytes_in_row(entry: &Entry, offset: u64) -> u64
+    requires file { places.IsProperEntry entry.now }
+    requires below { offset < entry.now.size }
+
+    ensures { (d : ℕ) → d < result → places.place entry.now (offset + d) ≡ places.place entry.now offset + d }
+{
+    match entry.map {
+        MapKind::Empty => 0,
+        MapKind::Simple => simple_row(entry.extents.as_slice(), offset),
+        MapKind::Striped { chunk } => chunk - offset % chunk,
+    }
+}

@@ -1,0 +1,11 @@
+use Rattle.std.proofs.Common.{◌≡◌, ◌+◌, ◌*◌, ◌<◌, ℕ, slice_index}
+use Rattle.fam_rules.specs.Content.{byte_in}
+use Rattle.fam_content.specs.Stream.{line_in, IsLine}
+use Rattle.fam_content.proofs.stream.given_lines.Given as goal
+
+-- the bytes of the lines so far
+abbrev pub invariant-lines : goal.invariant-lines
+invariant-lines l = record {
+  bytes : (k b : ℕ) → k < l.k → b < 64 → byte_in (line_in l.lines k) b ≡ slice_index l.bytes (l.start + 64 * k + b);
+  whole : (k : ℕ) → k < l.k → IsLine (line_in l.lines k);
+}
