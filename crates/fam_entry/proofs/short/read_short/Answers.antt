@@ -1,4 +1,4 @@
-use Rattle.std.proofs.Common.{◌≡◌, Result, Ok, Err, sym, ap, ◌∙◌}
+use Rattle.std.proofs.Common.{Result, Ok, Err, sym, ap, ◌∙◌}
 use Rattle.std.proofs.lemmas.Result.{err_from_is_err_and}
 use Rattle.fam_base.specs.Paths.{is_path}
 use Rattle.fam_base.specs.declared.entry.Entry.{Entry}
