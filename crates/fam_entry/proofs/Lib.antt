@@ -7,4 +7,5 @@ pub mod PathField
 pub mod BareMap
 pub mod LongNames
 pub mod Refusals
+pub mod ShortSlots
 pub mod HeaderParts

@@ -16,14 +16,14 @@ use Rattle.fam_format.specs.Words.{byte_from, bytes_from}
 use Rattle.fam_format.proofs.WordRounds.{le_byte}
 use Rattle.fam_entry.proofs.Filling.{filled_bytes}
 
-module _ (a n m : ℕ) (xs ys : List ℕ) (long : length xs ≡ 512) (within : a + m ≤ 512) (size : n ≡ m) (count : length ys ≡ m) where
+module _ {whole : ℕ} (a n m : ℕ) (xs ys : List ℕ) (long : length xs ≡ whole) (within : a + m ≤ whole) (size : n ≡ m) (count : length ys ≡ m) where
   put_size : put_mid a n xs ys ≡ put_mid a m xs ys
   put_size = ap (λ (k : ℕ). put_mid a k xs ys) size
 
   -- as many bytes as before
-  pub put_length : length (put_mid a n xs ys) ≡ 512
+  pub put_length : length (put_mid a n xs ys) ≡ whole
   put_length =
-      let all : length (put_mid a m xs ys) ≡ 512 =
+      let all : length (put_mid a m xs ys) ≡ whole =
       omega (arith, length-append (take a xs) (ys ++ drop m (drop a xs)), length-append ys (drop m (drop a xs)), length-take-le a xs (omega arith), length-drop m (drop a xs), length-drop a xs) in
       ap length put_size ∙ all
 
@@ -87,7 +87,7 @@ path_field words bytes len few long each zeros path =
     }
 
 -- what is in the field is the path of the words
-pub path_read : (words bytes : List ℕ) (len : ℕ) → slice_index words 6 ≡ len → len ≤ 512 → length bytes ≡ 512 → ((k : ℕ) → k < len → get_or bytes k 0 ≡ byte_from path_word words k) → take len bytes ≡ path_of words
+pub path_read : {whole : ℕ} (words bytes : List ℕ) (len : ℕ) → slice_index words 6 ≡ len → len ≤ whole → length bytes ≡ whole → ((k : ℕ) → k < len → get_or bytes k 0 ≡ byte_from path_word words k) → take len bytes ≡ path_of words
 path_read words bytes len is few long each =
     filled_bytes path_word words bytes len (omega arith) each ∙ ap (λ (n : ℕ). bytes_from path_word words n) (sym is)
 

@@ -1,2 +1,3 @@
 pub mod Tests
 pub mod Header
+pub mod Short

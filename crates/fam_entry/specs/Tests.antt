@@ -2,7 +2,9 @@
 use Rattle.std.specs.Prelude.{ℕ, ◌≡◌, ◌-◌, ◌^◌, ◌<◌, ◌≤◌, Bool, IsTrue, length, Option, Some, None, Result, Ok, Err, List, slice_index, take}
 use Rattle.fam_base.specs.Paths.{IsPathField}
 use Rattle.fam_base.specs.declared.entry.Entry.{Entry}
-use Rattle.fam_format.specs.Slot.{fields_of, path_of}
+use Rattle.fam_base.specs.declared.entry.Params.{Params}
+use Rattle.fam_format.specs.Layout.{geometry}
+use Rattle.fam_format.specs.Slot.{attribute_fault, crc_fault, fields_of, kind_fault, path_of, seq_fault}
 use Rattle.fam_format.specs.declared.faults.Reason.{Reason}
 
 -- a test passes where there is no fault, and otherwise names the fault
@@ -28,6 +30,16 @@ pub record HasFields (words bytes : List ℕ) : Type 0 where
 pub record HasZeros (words : List ℕ) (has_gap : Bool) (end : ℕ) : Type 0 where
   pub gap : IsTrue has_gap → (k : ℕ) → 7 ≤ k → k < 42 → slice_index words k ≡ 0
   pub behind : (k : ℕ) → end ≤ k → k < length words - 1 → slice_index words k ≡ 0
+
+-- a slot's words pass the tests before that of the path
+pub record PassFront (p : Params) (words : List ℕ) (seq : ℕ) : Type 0 where
+  pub crc : crc_fault (geometry p) words ≡ None
+  pub number : seq_fault words seq ≡ None
+  pub kind : kind_fault words ≡ None
+  pub attributes : attribute_fault words ≡ None
+  pub mode : slice_index words 3 < 2 ^ 32
+  pub uid : slice_index words 4 < 2 ^ 32
+  pub gid : slice_index words 5 < 2 ^ 32
 
 -- the entry that a slot's words tell where a test of them passes, and otherwise the reason against them
 abbrev pub read_as : List ℕ → Result (Unit {0}) Reason → Result Entry Reason

@@ -16,7 +16,7 @@ use fam_base::{Entry, Extent, Extents, Kind, MapKind, PATH_LIMIT, Path};
 use fam_format::Reason;
 use fam_tree::EntryRef;
 
-fn kind_of(word: u64) -> Kind
+pub(crate) fn kind_of(word: u64) -> Kind
     ensures { result ≡ slots.kind_of word }
 {
     if word == FILE_KIND {
@@ -141,7 +141,7 @@ fn is_long_name(bytes: &[u8]) -> bool
 
 /// Whether bytes are a path. Most are one long name, and that is seen eight bytes at a time.
 #[inline(always)]
-fn are_path(bytes: &[u8]) -> bool
+pub(crate) fn are_path(bytes: &[u8]) -> bool
     ensures { result ≡ is_path bytes.now }
 {
     is_long_name(bytes) || Path::is_path(bytes)

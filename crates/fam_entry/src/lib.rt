@@ -12,10 +12,12 @@ mod log;
 mod map_rule;
 mod places;
 mod reading;
+mod short;
 mod slot;
 
 pub use fam_format::{LogFault, LogField, Reason};
 pub use fields::{bare_entry, borrowed_entry, checked_entry, checked_extents};
 pub use log::{read_log, spell_log};
 pub use reading::{check_entry, read_entry};
+pub use short::{is_short, read_short, short_path};
 pub use slot::{Slot, spell};

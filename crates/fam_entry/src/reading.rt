@@ -1,6 +1,6 @@
 //! Reading of a slot: a test for each reason, in the order of the reasons. The first that fails decides.
 
-ghost use Rattle.std.specs.Prelude.{◌≡◌, ◌+◌, ◌-◌, ◌<◌, ◌≤◌, ◌^◌, ℕ, false, MatchResult, IfOk, OnOk, Ok, Err, length, slice_index};
+ghost use Rattle.std.specs.Prelude.{◌≡◌, ◌+◌, ◌-◌, ◌<◌, ◌≤◌, ◌^◌, ℕ, false, MatchResult, IfErr, IfOk, OnOk, Ok, Err, length, slice_index};
 ghost use Rattle.std.specs.Bool.{OnTrue};
 ghost use Rattle.std.specs.List.{list_any, range_with_len};
 ghost use Rattle.fam_format.specs.Layout.{Geometry, geometry};
@@ -8,7 +8,7 @@ ghost use Rattle.fam_format.specs.Params.{SoundParams};
 ghost use Rattle.fam_format.specs.Slot as slots;
 ghost use Rattle.fam_format.specs.SuperLaws.{IsWords};
 ghost use Rattle.fam_base.specs.declared.entry.Entry.{Entry};
-ghost use Rattle.fam_entry.specs.Tests.{HasFields, HasZeros, NamesFault, read_as};
+ghost use Rattle.fam_entry.specs.Tests.{HasFields, HasZeros, NamesFault, PassFront, read_as};
 
 use crate::fields::{borrowed_entry, check_path, checked_entry, checked_extents};
 use crate::map_rule::is_map;
@@ -221,7 +221,7 @@ fn saw_rest(words: &[u64], seen: &Summed) -> bool
     true
 }
 
-fn check_rest(words: &[u64], seen: &Summed) -> Result<(), Reason>
+pub(crate) fn check_rest(words: &[u64], seen: &Summed) -> Result<(), Reason>
     requires long { 64 ≤ length words.now }
     requires seen { HasZeros words.now seen.now.has_gap seen.now.end }
     ensures { (g : Geometry) → length words.now ≡ g.words → NamesFault result (slots.rest_fault g words.now) }
@@ -267,6 +267,23 @@ fn fits_map(words: &[u64], field: &[u8; PATH_LIMIT], params: &Params) -> bool
     is_map(params, &borrowed_entry(words, field, extents.as_slice()))
 }
 
+/// The tests before that of the path: checksum, number, kind, and mode, uid and gid.
+pub(crate) fn check_front(words: &[u64], seq: u64, params: &Params) -> Result<Summed, Reason>
+    requires { length words.now ≡ (geometry params.now).words }
+    ensures passed { OnOk result (PassFront params.now words.now seq) }
+    ensures fault { IfErr result (λ reason. slots.entry_of params.now words.now seq ≡ Err reason) }
+    ensures words { IsWords (geometry params.now).words words.now }
+    ensures zeros { IfOk result (λ seen. HasZeros words.now seen.has_gap seen.end) }
+{
+    // The contract alone speaks of them.
+    let _ = params;
+    let seen = check_crc(words)?;
+    check_seq(words, seq)?;
+    check_kind(words)?;
+    check_attributes(words)?;
+    Ok(seen)
+}
+
 /// Whether the words have an entry with this number, whose path is put into a field of zeros.
 #[tactic(auto, unfolding(fam_format::specs::Slot::entry_of))]
 fn check(
@@ -284,10 +301,7 @@ fn check(
     ensures fields { OnOk result (HasFields words.now field.new) }
     ensures words { IsWords (geometry params.now).words words.now }
 {
-    let seen = check_crc(words)?;
-    check_seq(words, seq)?;
-    check_kind(words)?;
-    check_attributes(words)?;
+    let seen = check_front(words, seq, params)?;
     check_path(words, shape_of(params.format).path_limit, field)?;
     if !are_map_words(words) {
         return Err(Reason::Map);

@@ -9,6 +9,7 @@ ghost use Rattle.fam_format.specs.Layout.{geometry};
 ghost use Rattle.fam_format.specs.Params.{SoundParams};
 ghost use Rattle.fam_format.specs.Slot.{entry_of, fields_of, Proper};
 ghost use Rattle.fam_format.specs.Tree.{join_fault, replay};
+ghost use Rattle.fam_entry.specs.Short.{IsShort};
 ghost use Rattle.fam_entry.specs.Tests.{HasFields};
 ghost use Rattle.fam_rules.specs.Decide.{decide, wish_of};
 ghost use Rattle.fam_plan.specs.Needs.{NeedsUnits};
@@ -17,7 +18,10 @@ ghost use Rattle.fam_replay.specs.Replay.{entries_in, HasFoundAll, IsAgainst, Is
 
 use crate::replica::{Replica, reason_or_memory};
 use fam_base::{Cmd, Entry, OutOfMemory, PATH_LIMIT, Params, Path};
-use fam_entry::{bare_entry, borrowed_entry, check_entry, checked_entry, checked_extents};
+use fam_entry::{
+    bare_entry, borrowed_entry, check_entry, checked_entry, checked_extents, is_short, read_short,
+    short_path,
+};
 use fam_format::Reason;
 use fam_plan::{Plan, first_entry_fault, first_entry_refusal};
 use fam_rules::Refused;
@@ -324,8 +328,37 @@ impl Replay {
         self.join(params, gate, words, &entry)
     }
 
-    /// Reads the words of the next slot as an entry's.
-    fn judge(
+    /// Reads the words of the next slot as an entry's, which have a short path and no map.
+    #[inline(always)]
+    fn judge_short(
+        &mut self,
+        params: &Params,
+        gate: u64,
+        words: &[u64],
+    ) -> Result<Option<Reason>, OutOfMemory>
+        requires sound { SoundParams params.now }
+        requires count { length words.now ≡ (geometry params.now).words }
+        requires long { 64 ≤ length words.now }
+        requires short { IsShort words.now }
+        requires fits { IsReplayOf params.now gate self.old }
+        requires gate { gate ≤ params.now.slots }
+        requires left { length (entries_in self.old) < gate }
+        ensures reads { IfOk result (λ reason.
+            ReadsNext reason params.now words.now (entries_in self.old) (entries_in self.new)) }
+        ensures fits { IsReplayOf params.now gate self.new }
+        ensures err { OnErr result (entries_in self.new ≡ entries_in self.old) }
+        ensures want { OnErr result (JoinsNext params.now words.now (entries_in self.old)) }
+    {
+        let path = short_path(words);
+        match read_short(words, self.count(), params, &path) {
+            Ok(entry) => self.join(params, gate, words, &entry),
+            Err(reason) => Ok(Some(reason)),
+        }
+    }
+
+    /// Reads the words of the next slot as an entry's, whatever path and map they have.
+    #[inline(never)]
+    fn judge_long(
         &mut self,
         params: &Params,
         gate: u64,
@@ -347,6 +380,30 @@ impl Replay {
             Ok(()) => self.join_checked(params, gate, words, &field),
             Err(reason) => Ok(Some(reason)),
         }
+    }
+
+    /// Reads the words of the next slot as an entry's. Most have a short path, and no map.
+    fn judge(
+        &mut self,
+        params: &Params,
+        gate: u64,
+        words: &[u64],
+    ) -> Result<Option<Reason>, OutOfMemory>
+        requires sound { SoundParams params.now }
+        requires count { length words.now ≡ (geometry params.now).words }
+        requires fits { IsReplayOf params.now gate self.old }
+        requires gate { gate ≤ params.now.slots }
+        requires left { length (entries_in self.old) < gate }
+        ensures reads { IfOk result (λ reason.
+            ReadsNext reason params.now words.now (entries_in self.old) (entries_in self.new)) }
+        ensures fits { IsReplayOf params.now gate self.new }
+        ensures err { OnErr result (entries_in self.new ≡ entries_in self.old) }
+        ensures want { OnErr result (JoinsNext params.now words.now (entries_in self.old)) }
+    {
+        if is_short(words) {
+            return self.judge_short(params, gate, words);
+        }
+        self.judge_long(params, gate, words)
     }
 
     /// Reads the words of the next slot, which the gate counts: its entry joins those that were found, or the reason

@@ -3,6 +3,7 @@ pub mod Rows
 pub mod Borrowed
 pub mod Chunks
 pub mod Lines
+pub mod FirstWords
 pub mod NextExtent
 pub mod Faults
 pub mod Keyed

@@ -1,8 +1,11 @@
 //! Entries and trees in print. `specs/Lines.antt` has the forms.
 
-ghost use Rattle.std.specs.Prelude.{◌≡◌, [], ◌∷◌, ◌++◌, OnOk, IfOk, length};
+ghost use Rattle.std.specs.Prelude.{◌≡◌, [], ◌∷◌, ◌++◌, OnOk, IfOk, IfSome, length};
 ghost use Rattle.std.specs.Fmt.{decimal};
 ghost use Rattle.std.specs.List.{flat_map};
+ghost use Rattle.std.specs.Bool.{OnTrue};
+ghost use Rattle.fam_base.specs.declared.entry.Entry.{Entry};
+ghost use Rattle.fam_tree.specs.FirstWords.{IsToldBy, first_words};
 ghost use Rattle.fam_tree.specs.Lines.{kind_letter, octal_digit, mode_text, space, extent_text, extents_text, map_text, entry_line, listing_line, listing};
 ghost use Rattle.fam_tree.specs.NextExtent.{next_text};
 ghost use Rattle.fam_tree.specs.Runs.{AreWithin, run_of};
@@ -10,8 +13,9 @@ ghost use Rattle.fam_tree.specs.Runs.{AreWithin, run_of};
 use crate::chunks::Chunks;
 use crate::entry_ref::EntryRef;
 use crate::tree::Tree;
-use fam_base::{Entry, Extent, Kind, MapKind, OutOfMemory, escape};
+use fam_base::{Entry, Extent, Kind, MapKind, OutOfMemory, escape, put_bytes};
 use std::alloc::Global;
+use std::marker::Model;
 
 fn put_byte(byte: u8, into: &mut Vec<u8>) -> Result<(), OutOfMemory>
     ensures { OnOk result (into.new.items ≡ into.old.items ++ byte ∷ []) }
@@ -123,8 +127,9 @@ fn put_map(map: MapKind, extents: &[Extent], into: &mut Vec<u8>) -> Result<(), O
     }
 }
 
-pub(crate) fn put_entry(entry: &EntryRef<'_>, into: &mut Vec<u8>) -> Result<(), OutOfMemory>
-    ensures { OnOk result (into.new.items ≡ into.old.items ++ entry_line entry.now) }
+/// Puts the words in front of a path, each with a space behind it.
+fn put_first_words(entry: &EntryRef<'_>, into: &mut Vec<u8>) -> Result<(), OutOfMemory>
+    ensures { OnOk result (into.new.items ≡ into.old.items ++ first_words entry.now) }
 {
     put_kind_and_mode(entry.kind(), entry.mode(), into)?;
     put_decimal(entry.uid() as u64, into)?;
@@ -134,25 +139,153 @@ pub(crate) fn put_entry(entry: &EntryRef<'_>, into: &mut Vec<u8>) -> Result<(), 
     put_decimal(entry.size(), into)?;
     put_byte(b' ', into)?;
     put_map(entry.map(), entry.extents(), into)?;
-    put_byte(b' ', into)?;
+    put_byte(b' ', into)
+}
+
+pub(crate) fn put_entry(entry: &EntryRef<'_>, into: &mut Vec<u8>) -> Result<(), OutOfMemory>
+    ensures { OnOk result (into.new.items ≡ into.old.items ++ entry_line entry.now) }
+{
+    put_first_words(entry, into)?;
     escape(entry.path(), into)
 }
 
-fn put_line(entry: &EntryRef<'_>, into: &mut Vec<u8>) -> Result<(), OutOfMemory>
+/// What the words in front of a path tell of an entry without a map.
+#[derive(Clone, Copy)]
+struct Told {
+    kind: Kind,
+    size: u64,
+    mode: u32,
+    uid: u32,
+    gid: u32,
+}
+
+/// What the words in front of an entry's path tell, where it has no map.
+#[inline(always)]
+fn told_of(entry: &EntryRef<'_>) -> Option<Told>
+    ensures { IfSome result (λ told. IsToldBy entry.now told) }
+{
+    match entry.map() {
+        MapKind::Empty => Some(Told {
+            kind: entry.kind(),
+            size: entry.size(),
+            mode: entry.mode(),
+            uid: entry.uid(),
+            gid: entry.gid(),
+        }),
+        MapKind::Simple | MapKind::Striped { .. } => None,
+    }
+}
+
+/// Whether two are the same.
+#[inline(always)]
+fn are_same(left: &Told, right: &Told) -> bool
+    ensures { OnTrue result (left.now ≡ right.now) }
+{
+    left.kind == right.kind
+        && left.size == right.size
+        && left.mode == right.mode
+        && left.uid == right.uid
+        && left.gid == right.gid
+}
+
+/// The words in front of a path as they were printed last, of an entry without a map: the next line often begins with
+/// the same ones, which are copied then. A contract sees their bytes.
+#[derive(Drop)]
+struct FirstWords {
+    told: Option<Told>,
+    text: Vec<u8>,
+}
+
+impl Model for FirstWords {
+    ghost use Rattle.std.specs.Prelude.{List, ℕ};
+    ghost use Rattle.fam_tree.specs.FirstWords.{AreTold};
+
+    ghost Value = { List ℕ };
+
+    ghost view = { λ w. w.text.items };
+
+    ghost invariant = { λ w. AreTold w.told w.text.items };
+}
+
+impl FirstWords {
+    /// None so far.
+    fn new(alloc: Global) -> FirstWords {
+        FirstWords {
+            told: None,
+            text: Vec::new(alloc),
+        }
+    }
+
+    /// Whether they are those that tell this.
+    #[inline(always)]
+    fn tell(&self, told: &Told) -> bool
+        ensures { OnTrue result ((e : Entry) → IsToldBy e told.now → self.now ≡ first_words e) }
+    {
+        match &self.told {
+            Some(own) => are_same(own, told),
+            None => false,
+        }
+    }
+
+    /// Prints those of an entry, and puts them.
+    #[inline(never)]
+    fn put_anew(
+        &mut self,
+        entry: &EntryRef<'_>,
+        told: &Told,
+        into: &mut Vec<u8>,
+    ) -> Result<(), OutOfMemory>
+        requires { IsToldBy entry.now told.now }
+        ensures { OnOk result (into.new.items ≡ into.old.items ++ first_words entry.now) }
+    {
+        self.told = None;
+        self.text.clear();
+        put_first_words(entry, &mut self.text)?;
+        self.told = Some(*told);
+        put_bytes(self.text.as_slice(), into)
+    }
+
+    /// Puts those of an entry.
+    #[inline(always)]
+    fn put(&mut self, entry: &EntryRef<'_>, into: &mut Vec<u8>) -> Result<(), OutOfMemory>
+        ensures { OnOk result (into.new.items ≡ into.old.items ++ first_words entry.now) }
+    {
+        let Some(told) = told_of(entry) else {
+            return put_first_words(entry, into);
+        };
+        if !self.tell(&told) {
+            return self.put_anew(entry, &told, into);
+        }
+        put_bytes(self.text.as_slice(), into)
+    }
+}
+
+/// Puts an entry's line. The words in front of its path are copied where they are those of the line before.
+fn put_line(
+    entry: &EntryRef<'_>,
+    first: &mut FirstWords,
+    into: &mut Vec<u8>,
+) -> Result<(), OutOfMemory>
     ensures { OnOk result (into.new.items ≡ into.old.items ++ listing_line entry.now) }
 {
-    put_entry(entry, into)?;
+    first.put(entry, into)?;
+    escape(entry.path(), into)?;
     put_byte(b'\n', into)
 }
 
 /// Puts the lines of the entries at some places. No entry is built for it.
-fn put_lines(entries: &Chunks, places: &[u32], into: &mut Vec<u8>) -> Result<(), OutOfMemory>
+fn put_lines(
+    entries: &Chunks,
+    places: &[u32],
+    first: &mut FirstWords,
+    into: &mut Vec<u8>,
+) -> Result<(), OutOfMemory>
     requires { AreWithin (length entries.now) places.now }
     ensures { OnOk result (into.new.items
         ≡ into.old.items ++ flat_map listing_line (run_of entries.now places.now)) }
 {
     for place in places {
-        put_line(&entries.borrowed_at(*place as usize), into)?;
+        put_line(&entries.borrowed_at(*place as usize), first, into)?;
     }
     Ok(())
 }
@@ -173,9 +306,10 @@ pub fn print_listing(alloc: Global, tree: &Tree) -> Result<Vec<u8>, OutOfMemory>
     ensures { IfOk result (λ text. text.items ≡ listing tree.now) }
 {
     let mut text = Vec::new(alloc);
+    let mut first = FirstWords::new(alloc);
     let (entries, runs) = tree.parts();
     for run in runs {
-        put_lines(entries, run.places(), &mut text)?;
+        put_lines(entries, run.places(), &mut first, &mut text)?;
     }
     Ok(text)
 }
