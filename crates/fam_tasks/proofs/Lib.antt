@@ -18,3 +18,4 @@ pub mod FlatLines
 pub mod AllFound
 pub mod Deciding
 pub mod Feeding
+pub mod FoundSlots
