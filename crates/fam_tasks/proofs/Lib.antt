@@ -19,3 +19,4 @@ pub mod FlatLines
 pub mod AllFound
 pub mod Deciding
 pub mod Feeding
+pub mod FoundSlots

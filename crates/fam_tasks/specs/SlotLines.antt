@@ -1,5 +1,5 @@
 -- A line of a slot, which is dropped and whose words are all loaded; and lines of a slot, one behind another.
-use Rattle.std.specs.Prelude.{ℕ, zero, suc, ◌≡◌, ◌+◌, ◌<◌, List, [], ◌++◌, Some, slice_index}
+use Rattle.std.specs.Prelude.{ℕ, zero, suc, ◌≡◌, ◌+◌, ◌<◌, List, [], ◌++◌, None, Some, slice_index}
 use Rattle.fam_base.specs.Image.{line_at}
 use Rattle.fam_base.specs.declared.line.LineNo.{LineNo}
 use Rattle.fam_machine.specs.Operations.{line_no}
@@ -39,3 +39,13 @@ words_in lines (suc n) = words_in lines n ++ line_at lines n
 pub data LoadsSlotLines (first : ℕ) (lines : List (List ℕ)) : Task → Task → ℕ → Type 0 where
   none : {t : Task} → LoadsSlotLines first lines t t 0
   more : {t mid next : Task} {n : ℕ} → LoadsSlotLines first lines t mid n → IsSound mid → LoadsSlotLine (line_no (first + n)) (line_at lines n) mid next → LoadsSlotLines first lines t next (suc n)
+
+-- the first task drops and loads all lines of slot i, so many, the words of which are these, from line `first` on, looks at
+-- them, and just goes on to the last task
+pub record FindsSlot (first : ℕ) (lines : List (List ℕ)) (count i : ℕ) (t next : Task) : Type 0 where
+  -- before it looks at them
+  pub loaded : Task
+  pub loads : LoadsSlotLines first lines t loaded count
+  pub sound : IsSound loaded
+  pub phase : loaded.phase ≡ at.Check i
+  pub turn : turn_of loaded None ≡ Goes next

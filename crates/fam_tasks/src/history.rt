@@ -16,7 +16,7 @@ ghost use Rattle.fam_format.specs.Params.{SoundParams};
 ghost use Rattle.fam_format.specs.Slot.{Proper};
 ghost use Rattle.fam_format.specs.Tree.{replay};
 ghost use Rattle.fam_plan.specs.Needs.{NeedsUnits};
-ghost use Rattle.fam_replay.specs.Replica.{JoinsNext};
+ghost use Rattle.fam_replay.specs.Replica.{FindsNext, JoinsNext};
 ghost use Rattle.fam_replay.specs.Replay.{entries_in, HasFoundAll, IsReplayOf, IsRoomFor, ReadsNext};
 ghost use Rattle.fam_rules.specs.Decide.{decide, wish_of};
 ghost use Rattle.fam_tasks.specs.History.{MayFollow, MayServe, kept_of, read_by};
@@ -281,6 +281,32 @@ impl History {
             return reason_behind_kept(&self.kept, words);
         }
         self.replay.read_slot(params, gate, words)
+    }
+
+    /// How many slots behind those that were read have words that an earlier task found. No contract hangs on it.
+    #[inline(always)]
+    pub(crate) fn kept_ahead(&self) -> u64 {
+        if self.serves {
+            0
+        } else {
+            self.replay.kept_ahead()
+        }
+    }
+
+    /// Whether the words of the next slot are those that an earlier task found in it. Then its entry joins those before it.
+    #[inline(always)]
+    pub(crate) fn find_slot(&mut self, params: &Params, gate: u64, words: &[u64]) -> bool
+        requires fits { IsReplayOf params.now gate self.old.replay }
+        ensures found { result ≡ true → FindsNext params.now words.now
+            (entries_in self.old.replay) (entries_in self.new.replay) }
+        ensures other { result ≡ false → entries_in self.new.replay ≡ entries_in self.old.replay }
+        ensures fits { IsReplayOf params.now gate self.new.replay }
+        ensures kept { self.new.kept ≡ self.old.kept }
+    {
+        if self.serves {
+            return false;
+        }
+        self.replay.find(params, gate, words)
     }
 
     /// What a command appends behind the entries that were found, or why nothing. Nothing else may be kept.

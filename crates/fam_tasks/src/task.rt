@@ -25,6 +25,7 @@ mod decide;
 mod digests;
 mod due;
 mod file_loads;
+mod found_slot;
 mod loads;
 mod rest;
 mod slot_lines;
