@@ -12,6 +12,7 @@ pub mod FileTurns
 pub mod Keeping
 pub mod Rest
 pub mod WholeLine
+pub mod FileRun
 pub mod SlotLine
 pub mod SlotRun
 pub mod FlatLines

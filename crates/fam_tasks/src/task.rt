@@ -26,6 +26,7 @@ mod file_loads;
 mod loads;
 mod rest;
 mod slot_lines;
+mod store_run;
 mod stores;
 
 use crate::answer::{Answer, Turn};
