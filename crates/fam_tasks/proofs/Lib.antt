@@ -13,6 +13,7 @@ pub mod Keeping
 pub mod KeptAnew
 pub mod Rest
 pub mod WholeLine
+pub mod FileRun
 pub mod SlotLine
 pub mod SlotRun
 pub mod FlatLines

@@ -7,6 +7,7 @@ pub mod History
 pub mod Reported
 pub mod Tells
 pub mod Rest
+pub mod StoreRuns
 pub mod Due
 pub mod Sound
 pub mod Model

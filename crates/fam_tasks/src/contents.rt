@@ -1,7 +1,8 @@
 //! The lines of a content, which a task writes or compares with.
 
-ghost use Rattle.std.specs.Prelude.{◌≡◌, ◌*◌, ◌<◌};
-ghost use Rattle.fam_rules.specs.Content.{HoldsBytes};
+ghost use Rattle.std.specs.Prelude.{◌≡◌, ◌+◌, ◌*◌, ◌<◌, ℕ, length};
+ghost use Rattle.fam_content.specs.Stream.{line_in};
+ghost use Rattle.fam_rules.specs.Content.{HoldsBytes, content_line};
 ghost use Rattle.fam_tasks.specs.Contents.{next_of};
 
 use fam_base::{Content, Line};
@@ -53,6 +54,23 @@ impl Contents {
     {
         self.line = self.stream.line(&self.content, size);
         self.taken += 1;
+    }
+
+    /// Gives the line that was taken last and those behind it, as many as `lines` has, which are taken too. Which of them is
+    /// the last isn't remembered.
+    pub(crate) fn hand_out(&mut self, size: u64, lines: &mut [Line])
+        requires some { 0 < length lines.old }
+        requires left { 64 * (self.old.taken + length lines.old) < size + 128 }
+        ensures first { line_in lines.new 0 ≡ self.old.line }
+        ensures others { (k : ℕ) → k + 1 < length lines.old
+            → line_in lines.new (k + 1) ≡ content_line self.old.content size (self.old.taken + k) }
+        ensures content { self.new.content ≡ self.old.content }
+        ensures taken { self.new.taken + 1 ≡ self.old.taken + length lines.old }
+    {
+        lines[0] = self.line;
+        let others = &mut lines[1..];
+        self.taken += others.len() as u64;
+        self.stream.lines(&self.content, size, others);
     }
 
     /// The line that was taken last.

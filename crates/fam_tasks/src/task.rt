@@ -29,6 +29,7 @@ mod found_slot;
 mod loads;
 mod rest;
 mod slot_lines;
+mod store_run;
 mod stores;
 
 use crate::answer::{Answer, Turn};
