@@ -1,7 +1,7 @@
 -- What a call makes of a world, from what its parts say.
 use Rattle.std.proofs.Common.{◌≡◌, ◌⊎◌, ◌<◌, ℕ, ◌++◌, ◌∷◌, [], List, Option, Some, None, inl, inr, refl, sym, ap, ap₂, subst, set, ◌∙◌}
 use Prim.Native.Nat.{zero, suc}
-use Rattle.std.specs.Prelude.{Bool, true, false, IfOk, OnErr, OnOk, Result, Ok, Err, is_some, slice_get}
+use Rattle.std.specs.Prelude.{Bool, true, false, IfOk, IsErrOf, OnErr, OnOk, Result, Ok, Err, is_some, slice_get}
 use Rattle.std.proofs.lemmas.Bool.{cases_eq}
 use Rattle.std.proofs.lemmas.Option.{same_Some}
 use Rattle.fam_base.specs.declared.entry.Entry.{Entry}
@@ -10,6 +10,8 @@ use Rattle.fam_machine.specs.Caches.{Cache, cell_at}
 use Rattle.fam_machine.specs.OneLine.{IsHeld}
 use Rattle.fam_media.specs.States.{MediaChange}
 use Rattle.fam_mail.specs.declared.hosts.Host.{Host}
+use Rattle.fam_mail.specs.declared.note.MailFault.{MailFault}
+use Rattle.fam_mail.specs.declared.note.MailFault.TheVariants as fault
 use Rattle.fam_mail.specs.declared.note.MailNote.{MailNote}
 use Rattle.fam_mail.specs.declared.note.MailRefusal.{MailRefusal}
 use Rattle.fam_mail.specs.Boxes.{capacity_of}
@@ -36,6 +38,10 @@ changed_call name cause change made v at free hosts journal changed noted = (
     is = ap₂ (λ (hs : List MailHost) (ns : List MailNote). record { entry = v.entry; hosts = hs; journal = ns }) changed noted;
   },
 )
+
+-- a refusal is no want of memory
+pub not_full : {T P : Type 0} (given : MailFault) (cause : MailRefusal) → given ≡ fault.Refused cause → IsErrOf {T = T} (Err given) fault.OutOfMemory → P
+not_full given cause is full = absurd cc
 
 -- Steps.
 

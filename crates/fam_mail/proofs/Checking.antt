@@ -1,8 +1,9 @@
 -- A box whose records are looked at one by one.
-use Rattle.std.proofs.Common.{◌≡◌, ℕ, zero, suc, ◌+◌, ◌-◌, ◌<◌, ◌≤◌, inr, List, [], ◌∷◌, refl, sym, ap, subst, ◌∙◌, arith, add-one}
+use Rattle.std.proofs.Common.{◌≡◌, ℕ, zero, suc, ◌+◌, ◌-◌, ◌<◌, ◌≤◌, inl, inr, List, [], ◌∷◌, refl, sym, ap, subst, ◌∙◌, arith, add-one}
 use Rattle.std.specs.Prelude.{Bool, true, false, cond, is_some, nat_lt, Option, Some, None, Result, Ok, Err}
 use Rattle.std.proofs.lemmas.Bool.Decides.{nat_tests}
 use Rattle.fam_base.specs.Image.{Image, line_at}
+use Rattle.fam_media.specs.Causes.{Rose}
 use Rattle.fam_media.specs.Outside.{IfModelled}
 use Rattle.fam_mail.specs.Checks.{IsReadLine}
 use Rattle.fam_mail.specs.Boxes.{IsBox, box_by, box_of, first_wrong, box_gate, record_at, record_before, records_from, wrong_before}
@@ -107,6 +108,11 @@ module _ (place : ℕ → ℕ) (capacity : ℕ) (memory : ℕ → List ℕ) (gat
   one_wrong word is =
       let here : first_wrong (record_at place memory) 0 gate ≡ Some i = front ∙ here_wrong (record_at place memory) i gate word lt (ap record_in (sym line_is) ∙ wrong_record words word is) in
       bad_record place capacity memory (omega (arith, room, gate_is)) i (subst (λ (n : ℕ). first_wrong (record_at place memory) 0 n ≡ Some i) gate_is here)
+
+-- a count that rose in a call rose since an earlier one
+pub rose_later : (first before now : ℕ) → first ≤ before → Rose before now → Rose first now
+rose_later first before now le (inl lt) = inl (omega arith)
+rose_later first before now le (inr last) = inr last
 
 -- the media failed at its line
 pub failed_record : (place : ℕ → ℕ) (capacity : ℕ) (told : Option Image) (gate i line : ℕ) → i < gate → gate ≤ capacity → line ≡ place (1 + i)

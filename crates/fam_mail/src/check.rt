@@ -16,7 +16,7 @@ use fam_format::LINE_BYTES;
 use fam_media::Media;
 
 /// What makes a box none.
-#[derive(Clone, Copy, Debug, PartialEq, Eq)]
+#[derive(Clone, Copy)]
 pub enum WrongBox {
     /// The gate counts more records than the box has room for.
     BadBox { gate: u64, capacity: u64 },
@@ -25,7 +25,7 @@ pub enum WrongBox {
 }
 
 /// Why a box is not taken.
-#[derive(Clone, Copy, Debug, PartialEq, Eq)]
+#[derive(Clone, Copy)]
 pub enum BoxFault {
     /// It is no box.
     Wrong(WrongBox),

@@ -1,7 +1,7 @@
 //! The phases of a post and of a take.
 
 /// Where a task stands: which operation it does next. Records are counted from 0, and words from 0 in their line.
-#[derive(Clone, Copy, Debug, PartialEq, Eq)]
+#[derive(Clone, Copy)]
 pub enum Phase {
     /// Drop the gate's line.
     DropGate,

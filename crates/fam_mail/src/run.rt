@@ -46,6 +46,8 @@ pub(crate) fn operate<M: Media>(
         };
     }
     let op = task.next(entry);
-    let word = cache.perform(media, op)?;
-    Ok(task.feed(word))
+    match cache.perform(media, op) {
+        Ok(word) => Ok(task.feed(word)),
+        Err(fault) => Err(fault),
+    }
 }

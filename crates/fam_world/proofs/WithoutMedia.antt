@@ -1,5 +1,6 @@
 -- Calls that take no media: what they make of the world is told by the world alone.
 use Rattle.std.proofs.Common.{◌≡◌, ℕ, List, [], ◌∷◌, ◌++◌, Option, Some, None, Err, refl, ap, ap₂, sym, ◌∙◌, subst}
+use Rattle.std.specs.Prelude.{IsErrOf}
 use Rattle.fam_journal.specs.declared.refusal.Refusal.{Refusal}
 use Rattle.fam_journal.specs.Calls as call
 use Rattle.fam_journal.specs.Calls.{Call, asked_name, refusal_of}
@@ -15,6 +16,10 @@ use Rattle.fam_world.specs.Answers.{IfAnswered}
 -- a refusal that was noted and given
 pub refused_told : (given : WorldFault) (cause : Refusal) (P : Option Refusal → Type 0) → given ≡ fault.Refused cause → P (Some cause) → IfAnswered {T = Unit {0}} (Err given) P
 refused_told given cause P is p = subst (λ (z : WorldFault). IfAnswered {T = Unit {0}} (Err z) P) (sym is) p
+
+-- a refusal is no want of memory
+pub not_full : {T P : Type 0} (given : WorldFault) (cause : Refusal) → given ≡ fault.Refused cause → IsErrOf {T = T} (Err given) fault.OutOfMemory → P
+not_full given cause is full = absurd cc
 
 -- a stop is refused as a step is
 pub stops_as_steps : (name : List ℕ) (world : WorldView) (lines : ℕ) (o : Option Refusal) → refusal_in (call.Steps name) world lines ≡ o → refusal_in (call.Stops name) world lines ≡ o

@@ -16,7 +16,7 @@ pub enum WorldFault {
 }
 
 /// What came of a step, or of several.
-#[derive(Clone, Copy, Debug, PartialEq, Eq)]
+#[derive(Clone, Copy)]
 pub enum Moved {
     /// The task goes on.
     Going,

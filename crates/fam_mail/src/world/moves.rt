@@ -100,12 +100,11 @@ impl MailWorld {
         if make_room(&mut self.journal).is_err() {
             return Err(MailFault::OutOfMemory);
         }
-        let entry = self.entry;
-        let at = match holder(&self.hosts, name, line, capacity(&entry)) {
+        let at = match holder(&self.hosts, name, line, capacity(&self.entry)) {
             Ok(at) => at,
             Err(cause) => return Err(refused(&mut self.journal, name, cause)),
         };
-        let place = file_line(&entry, line);
+        let place = file_line(&self.entry, line);
         match self.hosts[at].cache.shift(media, place, what) {
             Ok(()) => Ok(()),
             Err(CacheFault::Failed) => Err(refused(

@@ -206,8 +206,13 @@ impl MailWorld {
             Ok(at) => at,
             Err(cause) => return Err(refused(&mut self.journal, name, cause)),
         };
-        let entry = self.entry;
-        or_fault(step_of(&mut self.hosts[at], &mut self.journal, media, &entry, name))
+        or_fault(step_of(
+            &mut self.hosts[at],
+            &mut self.journal,
+            media,
+            &self.entry,
+            name,
+        ))
     }
 
     /// Does `count` operations of a host's task, or fewer where one of them ends it: true where the task is over. Refused as
@@ -233,12 +238,11 @@ impl MailWorld {
             Ok(at) => at,
             Err(cause) => return Err(refused(&mut self.journal, name, cause)),
         };
-        let entry = self.entry;
         or_fault(steps_of(
             &mut self.hosts[at],
             &mut self.journal,
             media,
-            &entry,
+            &self.entry,
             name,
             count,
         ))
@@ -261,7 +265,12 @@ impl MailWorld {
             Ok(at) => at,
             Err(cause) => return Err(refused(&mut self.journal, name, cause)),
         };
-        let entry = self.entry;
-        or_fault(finish_of(&mut self.hosts[at], &mut self.journal, media, &entry, name))
+        or_fault(finish_of(
+            &mut self.hosts[at],
+            &mut self.journal,
+            media,
+            &self.entry,
+            name,
+        ))
     }
 }

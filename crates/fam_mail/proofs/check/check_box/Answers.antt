@@ -1,9 +1,9 @@
-use Rattle.std.proofs.Common.{◌≡◌, ℕ, ◌+◌, List, length, rules, ap, sym, ◌∙◌, arith}
+use Rattle.std.proofs.Common.{◌≡◌, ℕ, ◌+◌, List, length, rules, ap, le_trans, sym, ◌∙◌, arith}
 use Rattle.fam_base.specs.Image.{line_at}
 use Rattle.fam_machine.proofs.WideLines.{eight_whole}
 use Rattle.fam_rules.specs.Written.{file_line}
 use Rattle.fam_mail.specs.Boxes.{capacity_of}
-use Rattle.fam_mail.proofs.Checking.{all_right, failed_record, no_word, one_more, one_right, one_wrong, some_word}
+use Rattle.fam_mail.proofs.Checking.{all_right, failed_record, no_word, one_more, one_right, one_wrong, rose_later, some_word}
 use Rattle.fam_mail.proofs.check.check_box.Goals as goal
 
 pub returns-then-is_some-clause-wrong : goal.returns-then-is_some-clause-wrong
@@ -25,8 +25,12 @@ loop-i-preserved g c =
     record {
       size_is = c.in-Ok-read.ensures.size ∙ inv.size_is;
       same = c.in-Ok-read.ensures.same ∙ inv.same;
+<<<<<<< HEAD
       later = omega (arith, inv.later, c.in-Ok-read.ensures.cause.later);
       quiet = λ exact. c.in-Ok-read.ensures.counted exact ∙ inv.quiet exact;
+=======
+      later = le_trans inv.later c.in-Ok-read.ensures.cause.later;
+>>>>>>> cheap/cheap
       room = inv.room;
       gate_is = inv.gate_is;
       right = λ image told.
@@ -54,3 +58,45 @@ returns-clause-read g c = λ image told.
     let inv = c.loop-i.invariant in
     all_right (file_line c.args.entry.now) (capacity_of c.args.entry.now.size) (line_at image) _ c.loop-i.i (omega (arith, c.loop-i-test.false)) inv.room (inv.gate_is image told)
     (inv.front image told)
+
+pub returns-in-Err-clause-cause : goal.returns-in-Err-clause-cause
+returns-in-Err-clause-cause g c = c.in-Err.ensures.cause.failed
+
+pub returns-in-Err-clause-same : goal.returns-in-Err-clause-same
+returns-in-Err-clause-same g c = c.in-Err.ensures.same
+
+pub returns-in-Err-clause-steady : goal.returns-in-Err-clause-steady
+returns-in-Err-clause-steady g c = record { size = c.in-Err.ensures.size; later = c.in-Err.ensures.cause.later }
+
+pub returns-then-capacity-gate-clause-same : goal.returns-then-capacity-gate-clause-same
+returns-then-capacity-gate-clause-same g c = c.in-Ok.ensures.same
+
+pub returns-then-capacity-gate-clause-steady : goal.returns-then-capacity-gate-clause-steady
+returns-then-capacity-gate-clause-steady g c = record { size = c.in-Ok.ensures.size; later = c.in-Ok.ensures.cause.later }
+
+pub returns-then-is_some-clause-same : goal.returns-then-is_some-clause-same
+returns-then-is_some-clause-same g c = c.in-Ok-read.ensures.same ∙ c.loop-i.invariant.same
+
+pub returns-then-is_some-clause-steady : goal.returns-then-is_some-clause-steady
+returns-then-is_some-clause-steady g c = record {
+  size = c.in-Ok-read.ensures.size ∙ c.loop-i.invariant.size_is;
+  later = le_trans c.loop-i.invariant.later c.in-Ok-read.ensures.cause.later;
+}
+
+pub returns-in-Err-read-clause-cause : goal.returns-in-Err-read-clause-cause
+returns-in-Err-read-clause-cause g c = rose_later _ _ _ c.loop-i.invariant.later c.in-Err-read.ensures.cause.failed
+
+pub returns-in-Err-read-clause-same : goal.returns-in-Err-read-clause-same
+returns-in-Err-read-clause-same g c = c.in-Err-read.ensures.same ∙ c.loop-i.invariant.same
+
+pub returns-in-Err-read-clause-steady : goal.returns-in-Err-read-clause-steady
+returns-in-Err-read-clause-steady g c = record {
+  size = c.in-Err-read.ensures.size ∙ c.loop-i.invariant.size_is;
+  later = le_trans c.loop-i.invariant.later c.in-Err-read.ensures.cause.later;
+}
+
+pub returns-clause-same : goal.returns-clause-same
+returns-clause-same g c = c.loop-i.invariant.same
+
+pub returns-clause-steady : goal.returns-clause-steady
+returns-clause-steady g c = record { size = c.loop-i.invariant.size_is; later = c.loop-i.invariant.later }

@@ -1,5 +1,4 @@
-use Rattle.std.proofs.Common.{◌≡◌, ◌+◌, ◌<◌, false, suc, ℕ, [], List, length, Some, None, Ok, refl, ap, sym, subst, ◌∙◌, arith}
-use Rattle.std.proofs.lemmas.Bool.Decides.{nat_tests}
+use Rattle.std.proofs.Common.{◌≡◌, ◌+◌, ◌<◌, false, suc, ℕ, [], List, length, Some, None, Ok, refl, ap, sym, subst, ◌∙◌, arith, ◌-◌, ◌≤◌, le_antisymm}
 use Rattle.fam_world.proofs.Sends.{held_sends}
 use Rattle.fam_commands.specs.Task.{op_of}
 use Rattle.fam_media.specs.Outside.{IfModelled}
@@ -15,6 +14,19 @@ use Rattle.fam_world.specs.View.{notes_view}
 use Rattle.fam_world.proofs.Counting.{held_steps}
 use Rattle.fam_world.proofs.TaskSteps.{iterated_both, lacked, one_ends, one_goes, stands_still, steps_below, went}
 use Rattle.fam_world.proofs.run.run_most.Goals as goal
+
+-- counts of operations
+one_more : (done k : ℕ) → suc done + k ≡ done + 1 + k
+one_more done k = omega arith
+
+all_within : (done k most : ℕ) → done < most → k ≤ most - (done + 1) → done + 1 + k ≤ most
+all_within done k most less left = omega arith
+
+some_done : (done k : ℕ) → done + 1 + k ≡ 0 → ⊥
+some_done done k zero = omega arith
+
+none_done : (done most : ℕ) → done < most → most ≡ 1 → done ≡ 0
+none_done done most less one = omega arith
 
 pub operations-init : goal.operations-init
 operations-init g c = record {
@@ -66,7 +78,7 @@ operations-preserved g c =
     let nobody : HostView = record { name = []; uuid = []; cache = c.operations.cache.lines; task = None; kept = None } in
     let most_left = c.operate_cached-done.ensures.most in
     let less = c.operations-test.true in
-    let count : suc c.operations.done + k ≡ c.operations.done + 1 + k = omega arith in
+    let count : suc c.operations.done + k ≡ c.operations.done + 1 + k = one_more c.operations.done k in
     record {
       far = λ view. (
           let start : HostStanding = task_standing m.state c.args.media.now view (Some c.args.task.now) c.args.task.now.kept c.args.cache.now (notes_view c.args.journal.now.items) in
@@ -75,13 +87,13 @@ operations-preserved g c =
           );
       turn = c.note_turn.ensures.go is;
       size = same_size;
-      within = grind (arith, nat_tests, less, most_left);
+      within = all_within c.operations.done k c.args.most less most_left;
       fits = cached_lines c.operate.new.task z.task c.operate.new.cache.lines z.cache.lines c.operate_cached-done.ensures.run ∙ fits;
       cached = record {
         below = steps_below at size (here nobody) (end nobody)
             (iterated_both (HostStep at size false) (here nobody) (mid nobody) (end nobody) 1 k (more none (one nobody)) (held nobody)) inv.cached.below;
       };
-      first = λ zero. absurd (omega (arith, zero));
+      first = λ zero. absurd (some_done c.operations.done k zero);
     }
 
 pub returns-then-is_err-clause-says : goal.returns-then-is_err-clause-says
@@ -90,7 +102,7 @@ returns-then-is_err-clause-says g c = λ view.
     let less = c.operations-test.true in
     record {
       count = c.operations.done;
-      within = grind (arith, nat_tests, less);
+      within = less;
       goes = subst (λ (j : List Note). Iterated (HostStep c.args.host.0 (m.size c.args.media.now) false)
           (task_standing m.state c.args.media.now view (Some c.args.task.now) c.args.task.now.kept c.args.cache.now (notes_view c.args.journal.now.items))
           (task_standing m.state c.operations.media view (Some c.operations.task) c.operations.task.kept c.operations.cache j) c.operations.done) (sym (ap notes_view c.make_room.ensures.same)) (c.operations.invariant.far view);
@@ -99,7 +111,7 @@ returns-then-is_err-clause-says g c = λ view.
 pub returns-then-is_err-clause-undone : goal.returns-then-is_err-clause-undone
 returns-then-is_err-clause-undone g c = λ one.
     let less = c.operations-test.true in
-    c.operations.invariant.first (grind (arith, nat_tests, less, one))
+    c.operations.invariant.first (none_done c.operations.done c.args.most less one)
 
 pub returns-in-Ok-Answered-clause-says : goal.returns-in-Ok-Answered-clause-says
 returns-in-Ok-Answered-clause-says g c = λ view.
@@ -117,7 +129,7 @@ returns-in-Ok-Answered-clause-says g c = λ view.
     record {
       before = task_standing m.state c.operations.media view (Some c.operations.task) c.operations.task.kept c.operations.cache notes;
       count = c.operations.done;
-      within = grind (arith, nat_tests, less);
+      within = less;
       goes = inv.far view;
       ends = one_ends at size view b (said_of c.operate.result c.operate.new.turn) notes notes_now c.note_turn.result noted modelled inv.fits c.operate.ensures.steady.later c.operate.ensures.operated (c.in-Ok-Answered.is ∙ ap Ok c.in-Ok-Answered.field-0-is);
     }
@@ -138,7 +150,7 @@ returns-in-Err-clause-says g c = λ view.
     sym (stands_still view b (notes_view c.operations.journal.items) (notes_view c.note_turn.new.journal.items) undone (full.1 ∙ ap notes_view c.make_room.ensures.same)) in
     record {
       count = c.operations.done;
-      within = grind (arith, nat_tests, less);
+      within = less;
       goes = subst (λ (s : HostStanding). Iterated (HostStep at size false) start s c.operations.done) same (inv.far view);
     }
 
@@ -146,14 +158,14 @@ pub returns-in-Err-clause-undone : goal.returns-in-Err-clause-undone
 returns-in-Err-clause-undone g c = λ one.
     let less = c.operations-test.true in
     let full = lacked c.args.host.0 (said_of c.operate.result c.operate.new.turn) (notes_view c.make_room.new.journal.items) (notes_view c.note_turn.new.journal.items) c.note_turn.result c.in-Err.field-0 c.note_turn.ensures.noted c.in-Err.is in
-    c.operate.ensures.undone (said_full c.operate.result c.operate.new.turn full.0) ∙ c.operations.invariant.first (grind (arith, nat_tests, less, one))
+    c.operate.ensures.undone (said_full c.operate.result c.operate.new.turn full.0) ∙ c.operations.invariant.first (none_done c.operations.done c.args.most less one)
 
 pub returns-clause-says : goal.returns-clause-says
 returns-clause-says g c = λ view.
     let m = g.M.Media in
     let done = c.operations-test.false in
     let within = c.operations.invariant.within in
-    let all : c.operations.done ≡ c.args.most = grind (arith, nat_tests, done, within) in
+    let all : c.operations.done ≡ c.args.most = le_antisymm within done in
     subst (Iterated (HostStep c.args.host.0 (m.size c.args.media.now) false)
     (task_standing m.state c.args.media.now view (Some c.args.task.now) c.args.task.now.kept c.args.cache.now (notes_view c.args.journal.now.items))
     (task_standing m.state c.operations.media view (Some c.operations.task) c.operations.task.kept c.operations.cache (notes_view c.operations.journal.items))) all (c.operations.invariant.far view)

@@ -1,4 +1,4 @@
-use Rattle.std.proofs.Common.{Result, List, length, refl, sym, subst, arith, set}
+use Rattle.std.proofs.Common.{Result, List, refl, sym, subst, set}
 use Rattle.std.specs.Prelude.{OnErr, OnOk}
 use Rattle.fam_media.specs.States.{MediaChange, change}
 use Rattle.std.proofs.lemmas.Option.{slice_get_read}
@@ -22,7 +22,7 @@ finish_of-requires-clause-runs g c =
     let i = c.self.inside in
     let items = i.hosts.items in
     let v : MailView = mail_view i.entry items i.journal.items in
-    let at_is = slice_get_read items (length items) c.in-Ok.at c.index_mut.result.now refl (omega (arith, c.in-Ok.ensures.within)) c.index_mut.ensures.value in
+    let at_is = slice_get_read items i.hosts.len c.in-Ok.at c.index_mut.result.now i.hosts.ok.0 c.in-Ok.ensures.within c.index_mut.ensures.value in
     runs c.args.name.now v c.in-Ok.at (c.in-Ok.ensures.placed i.entry i.journal.items) (mail_host c.index_mut.result.now) (map_at mail_host items c.in-Ok.at c.index_mut.result.now at_is)
 
 pub finish_of-requires-clause-fits : goal.finish_of-requires-clause-fits
@@ -30,7 +30,7 @@ finish_of-requires-clause-fits g c =
     let i = c.self.inside in
     let items = i.hosts.items in
     let v : MailView = mail_view i.entry items i.journal.items in
-    let at_is = slice_get_read items (length items) c.in-Ok.at c.index_mut.result.now refl (omega (arith, c.in-Ok.ensures.within)) c.index_mut.ensures.value in
+    let at_is = slice_get_read items i.hosts.len c.in-Ok.at c.index_mut.result.now i.hosts.ok.0 c.in-Ok.ensures.within c.index_mut.ensures.value in
     let fits : MailWorldFits (g.M.Media.size c.args.media.now) v = subst (MailWorldFits (g.M.Media.size c.args.media.now)) (sym c.self.view_is) c.requires.fits in
     fits.host c.in-Ok.at (mail_host c.index_mut.result.now) (map_at mail_host items c.in-Ok.at c.index_mut.result.now at_is)
 
@@ -44,7 +44,7 @@ returns-clause-ends g c =
     let told : MediaChange = change g.M.Media.state c.args.media.now c.finish_of.new.media in
     let v : MailView = mail_view i.entry items i.journal.items in
     let new : MailView = mail_view i.entry (set items at y) c.finish_of.new.journal.items in
-    let at_is = slice_get_read items (length items) at x refl (omega (arith, c.in-Ok.ensures.within)) c.index_mut.ensures.value in
+    let at_is = slice_get_read items i.hosts.len at x i.hosts.ok.0 c.in-Ok.ensures.within c.index_mut.ensures.value in
     let finished : OnOk c.finish_of.result (HostNotes (HostFinishes (g.M.Media.size c.args.media.now) i.entry c.args.name.now (mail_host x) told (mail_host y)) i.journal.items
     c.finish_of.new.journal.items) =
     subst (λ (j : List MailNote). OnOk c.finish_of.result (HostNotes (HostFinishes (g.M.Media.size c.args.media.now) i.entry c.args.name.now (mail_host x) told (mail_host y)) j
@@ -67,7 +67,7 @@ returns-clause-fits g c =
     let fits : MailWorldFits lines (mail_view i.entry items i.journal.items) = subst (MailWorldFits lines) (sym c.self.view_is) c.requires.fits in
     fits_set i.entry items i.journal.items c.finish_of.new.journal.items c.in-Ok.at c.index_mut.result.now c.finish_of.new.host lines (g.M.Media.size c.finish_of.new.media)
     c.finish_of.ensures.steady.size
-    (slice_get_read items (length items) c.in-Ok.at c.index_mut.result.now refl (omega (arith, c.in-Ok.ensures.within)) c.index_mut.ensures.value) fits c.finish_of.ensures.fits
+    (slice_get_read items i.hosts.len c.in-Ok.at c.index_mut.result.now i.hosts.ok.0 c.in-Ok.ensures.within c.index_mut.ensures.value) fits c.finish_of.ensures.fits
 
 pub finish_of-requires-clause-within : goal.finish_of-requires-clause-within
 finish_of-requires-clause-within g c =

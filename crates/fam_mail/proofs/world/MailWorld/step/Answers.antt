@@ -1,4 +1,4 @@
-use Rattle.std.proofs.Common.{◌≡◌, Bool, Result, ap₂, List, length, Ok, Err, refl, sym, subst, ◌∙◌, arith, set}
+use Rattle.std.proofs.Common.{◌≡◌, Bool, Result, ap₂, List, Ok, Err, refl, sym, subst, ◌∙◌, set}
 use Rattle.std.specs.Prelude.{IfOk, IsErrOf, OnErr}
 use Rattle.fam_base.specs.declared.line.OutOfMemory.{OutOfMemory}
 use Rattle.fam_media.specs.States.{MediaChange, change}
@@ -24,7 +24,7 @@ step_of-requires-clause-runs g c =
     let i = c.self.inside in
     let items = i.hosts.items in
     let v : MailView = mail_view i.entry items i.journal.items in
-    let at_is = slice_get_read items (length items) c.in-Ok.at c.index_mut.result.now refl (omega (arith, c.in-Ok.ensures.within)) c.index_mut.ensures.value in
+    let at_is = slice_get_read items i.hosts.len c.in-Ok.at c.index_mut.result.now i.hosts.ok.0 c.in-Ok.ensures.within c.index_mut.ensures.value in
     runs c.args.name.now v c.in-Ok.at (c.in-Ok.ensures.placed i.entry i.journal.items) (mail_host c.index_mut.result.now) (map_at mail_host items c.in-Ok.at c.index_mut.result.now at_is)
 
 pub step_of-requires-clause-fits : goal.step_of-requires-clause-fits
@@ -32,7 +32,7 @@ step_of-requires-clause-fits g c =
     let i = c.self.inside in
     let items = i.hosts.items in
     let v : MailView = mail_view i.entry items i.journal.items in
-    let at_is = slice_get_read items (length items) c.in-Ok.at c.index_mut.result.now refl (omega (arith, c.in-Ok.ensures.within)) c.index_mut.ensures.value in
+    let at_is = slice_get_read items i.hosts.len c.in-Ok.at c.index_mut.result.now i.hosts.ok.0 c.in-Ok.ensures.within c.index_mut.ensures.value in
     let fits : MailWorldFits (g.M.Media.size c.args.media.now) v = subst (MailWorldFits (g.M.Media.size c.args.media.now)) (sym c.self.view_is) c.requires.fits in
     fits.host c.in-Ok.at (mail_host c.index_mut.result.now) (map_at mail_host items c.in-Ok.at c.index_mut.result.now at_is)
 
@@ -46,7 +46,7 @@ returns-clause-answered g c =
     let told : MediaChange = change g.M.Media.state c.args.media.now c.step_of.new.media in
     let v : MailView = mail_view i.entry items i.journal.items in
     let new : MailView = mail_view i.entry (set items at y) c.step_of.new.journal.items in
-    let at_is = slice_get_read items (length items) at x refl (omega (arith, c.in-Ok.ensures.within)) c.index_mut.ensures.value in
+    let at_is = slice_get_read items i.hosts.len at x i.hosts.ok.0 c.in-Ok.ensures.within c.index_mut.ensures.value in
     let stepped : IfOk c.step_of.result (λ over. HostStepped i.entry c.args.name.now (mail_host x) told over (mail_host y) i.journal.items c.step_of.new.journal.items) =
     subst (λ (j : List MailNote). IfOk c.step_of.result (λ over. HostStepped i.entry c.args.name.now (mail_host x) told over (mail_host y) j c.step_of.new.journal.items)) c.two_rooms.ensures.same
     c.step_of.ensures.stepped in
@@ -63,7 +63,7 @@ returns-clause-fits g c =
     let lines = g.M.Media.size c.args.media.now in
     let fits : MailWorldFits lines (mail_view i.entry items i.journal.items) = subst (MailWorldFits lines) (sym c.self.view_is) c.requires.fits in
     fits_set i.entry items i.journal.items c.step_of.new.journal.items c.in-Ok.at c.index_mut.result.now c.step_of.new.host lines (g.M.Media.size c.step_of.new.media) c.step_of.ensures.steady.size
-    (slice_get_read items (length items) c.in-Ok.at c.index_mut.result.now refl (omega (arith, c.in-Ok.ensures.within)) c.index_mut.ensures.value) fits c.step_of.ensures.fits
+    (slice_get_read items i.hosts.len c.in-Ok.at c.index_mut.result.now i.hosts.ok.0 c.in-Ok.ensures.within c.index_mut.ensures.value) fits c.step_of.ensures.fits
 
 err_then : {T P : Type 0} (r : Result T OutOfMemory) → IsErrOf (mail_told r) fault.OutOfMemory → OnErr r P → P
 err_then (Ok x) is p = absurd cc
@@ -76,7 +76,7 @@ returns-clause-err g c = λ full.
     let at = c.in-Ok.at in
     let x = c.index_mut.result.now in
     let y = c.step_of.new.host in
-    let at_is = slice_get_read items (length items) at x refl (omega (arith, c.in-Ok.ensures.within)) c.index_mut.ensures.value in
+    let at_is = slice_get_read items i.hosts.len at x i.hosts.ok.0 c.in-Ok.ensures.within c.index_mut.ensures.value in
     let full' : IsErrOf (mail_told c.step_of.result) fault.OutOfMemory = subst (λ (r : Result Bool MailFault). IsErrOf r fault.OutOfMemory) c.or_fault.ensures full in
     let kept : mail_host y ≡ mail_host x = err_then c.step_of.result full' c.step_of.ensures.kept in
     let quiet : c.step_of.new.journal.items ≡ i.journal.items = err_then c.step_of.result full' c.step_of.ensures.quiet ∙ c.two_rooms.ensures.same in

@@ -9,7 +9,7 @@ use Rattle.fam_notes.specs.declared.note.Note.{Note as Kept}
 use Rattle.fam_journal.specs.CallRecords.{WorldCall}
 use Rattle.fam_world.specs.Answers.{IfAnswered}
 use Rattle.fam_world.specs.View.{notes_view, world_view}
-use Rattle.fam_world.proofs.WithoutMedia.{hosted, quiet_done, quiet_refused, refused_told}
+use Rattle.fam_world.proofs.WithoutMedia.{hosted, quiet_done, quiet_refused, refused_told, not_full}
 use Rattle.fam_world.proofs.world.World.begin.Goals as goal
 
 pub returns-in-Err-clause-answered : goal.returns-in-Err-clause-answered
@@ -32,3 +32,6 @@ returns-clause-answered c =
     (hosted c.args.name.now at (λ (v : HostView). record v { task = Some (mounted v.kept c.args.cmd.now v.uuid c.args.lines) }) (λ h. Start h c.args.cmd.now) old new free.number
     (c.begin_task.ensures.views ∙ ap (λ (k : Cmd). changed_at at (λ (v : HostView). record v { task = Some (mounted v.kept k v.uuid c.args.lines) }) old.hosts) c.in-Ok-two_copies.ensures.own)
     (c.add.ensures ∙ ap₂ (λ (xs : List Kept) (k : Cmd). notes_view xs ++ Start at k ∷ []) c.make_room.ensures.same c.in-Ok-two_copies.ensures.noted)))
+
+pub returns-in-Err-clause-err : goal.returns-in-Err-clause-err
+returns-in-Err-clause-err c = λ full. not_full c.refused.result _ c.refused.ensures.given full

@@ -1,4 +1,4 @@
-use Rattle.std.proofs.Common.{◌≡◌, ◌++◌, ◌∷◌, [], List, length, Option, None, Some, Result, Ok, Err, set, refl, ap, sym, subst, ◌∙◌, arith, true}
+use Rattle.std.proofs.Common.{◌≡◌, ◌++◌, ◌∷◌, [], List, length, Option, None, Some, Result, Ok, Err, set, refl, ap, sym, subst, ◌∙◌, true, lt_of_lt_of_le}
 use Rattle.fam_media.specs.States.{MediaChange, change}
 use Rattle.std.specs.Prelude.{IfSome, OnErr, is_some}
 use Rattle.fam_world.specs.declared.fault.WorldFault.{WorldFault}
@@ -86,7 +86,7 @@ returns-clause-concluded g c =
     let x = c.index_mut.result.now in
     let y = c.conclude_of.new.host in
     let name = c.args.name.now in
-    let at_is = slice_get_read items (length items) at x refl (omega (arith, c.in-Ok.ensures.within)) c.index_mut.ensures.value in
+    let at_is = slice_get_read items c.self.inside.hosts.len at x c.self.inside.hosts.ok.0 c.in-Ok.ensures.within c.index_mut.ensures.value in
     let view_is = map_at host_view items at x at_is in
     let free = c.in-Ok.ensures.placed size old.journal in
     let notes : List Note = notes_view c.conclude_of.new.journal.items in
@@ -106,7 +106,7 @@ conclude_of-requires g c =
     let items = c.self.inside.hosts.items in
     let old : WorldView = world_view items c.self.inside.journal.items in
     let x = c.index_mut.result.now in
-    let at_is = slice_get_read items (length items) c.in-Ok.at x refl (omega (arith, c.in-Ok.ensures.within)) c.index_mut.ensures.value in
+    let at_is = slice_get_read items c.self.inside.hosts.len c.in-Ok.at x c.self.inside.hosts.ok.0 c.in-Ok.ensures.within c.index_mut.ensures.value in
     let view_is = map_at host_view items c.in-Ok.at x at_is in
     let size = g.M.Media.size c.args.media.now in
     let fits = subst (λ (w : WorldView). FitsMedia size w.hosts) (sym c.self.view_is) c.requires.fits c.in-Ok.at (host_view x) view_is in
@@ -115,7 +115,7 @@ conclude_of-requires g c =
       fits = fits.task;
       cached = record { below = fits.cache };
       reads = subst (λ (w : WorldView). ReadsOf c.args.name.now w w) (sym c.self.view_is) c.requires.reads c.in-Ok.at (host_view x) (c.in-Ok.ensures.placed size old.journal).number view_is;
-      few = omega (arith, c.in-Ok.ensures.within, c.self.invariant);
+      few = lt_of_lt_of_le c.in-Ok.ensures.within c.self.invariant;
     }
 
 pub returns-clause-untouched : goal.returns-clause-untouched
@@ -124,3 +124,18 @@ returns-clause-untouched g c =
     let size = g.M.Media.size c.args.media.now in
     none_refused (call.Finishes c.args.name.now) size old c.args.self.now c.args.media.now c.conclude_of.new.media
     (finishes_as_steps c.args.name.now old size _ (c.in-Ok.ensures.placed size old.journal).free) c.self.view_is
+
+pub returns-then-is_err-clause-untouched : goal.returns-then-is_err-clause-untouched
+returns-then-is_err-clause-untouched g c = λ cause is. refl
+
+pub returns-in-Err-clause-untouched : goal.returns-in-Err-clause-untouched
+returns-in-Err-clause-untouched g c = λ cause is. refl
+
+pub returns-then-is_err-clause-size : goal.returns-then-is_err-clause-size
+returns-then-is_err-clause-size g c = refl
+
+pub returns-in-Err-clause-size : goal.returns-in-Err-clause-size
+returns-in-Err-clause-size g c = refl
+
+pub returns-clause-size : goal.returns-clause-size
+returns-clause-size g c = c.conclude_of.ensures.size

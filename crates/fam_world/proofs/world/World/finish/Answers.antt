@@ -1,4 +1,4 @@
-use Rattle.std.proofs.Common.{◌≡◌, ◌++◌, ◌∷◌, [], List, length, Option, None, Some, Result, Ok, Err, set, refl, ap, sym, subst, ◌∙◌, arith, true}
+use Rattle.std.proofs.Common.{◌≡◌, ◌++◌, ◌∷◌, [], List, length, Option, None, Some, Result, Ok, Err, set, refl, ap, sym, subst, ◌∙◌, true, lt_of_lt_of_le}
 use Rattle.fam_media.specs.States.{change}
 use Rattle.std.specs.Prelude.{IfSome, IsErrOf, OnErr, OnOk, is_some}
 use Rattle.fam_base.specs.declared.line.OutOfMemory.{OutOfMemory}
@@ -20,7 +20,7 @@ use Rattle.fam_world.proofs.Counting.{far_ends, far_runs, told_full}
 use Rattle.fam_world.proofs.Finishing.{finish_done, finish_lacks, finish_nothing, finishes_as_steps, view_set}
 use Rattle.fam_world.proofs.Members.{map_at, map_set}
 use Rattle.fam_world.proofs.Moving.{media_refused}
-use Rattle.fam_world.proofs.WithoutMedia.{refused_told}
+use Rattle.fam_world.proofs.WithoutMedia.{refused_told, not_full}
 use Rattle.fam_world.proofs.Untouched.{none_refused}
 use Rattle.fam_world.proofs.world.World.finish.Goals as goal
 
@@ -71,7 +71,7 @@ returns-clause-answered g c =
     let at = c.in-Ok.at in
     let x = c.index_mut.result.now in
     let y = c.finish_of.new.host in
-    let at_is = slice_get_read items (length items) at x refl (omega (arith, c.in-Ok.ensures.within)) c.index_mut.ensures.value in
+    let at_is = slice_get_read items c.self.inside.hosts.len at x c.self.inside.hosts.ok.0 c.in-Ok.ensures.within c.index_mut.ensures.value in
     let free = c.in-Ok.ensures.placed size old.journal in
     let new : WorldView = world_view (set items at y) c.finish_of.new.journal.items in
     let P : Option Refusal → Type 0 = λ answered. MediaCall (call.Finishes c.args.name.now) size answered (change m.state media media_now) c.args.self.now new in
@@ -96,7 +96,7 @@ returns-clause-want g c = λ full.
     let at = c.in-Ok.at in
     let x = c.index_mut.result.now in
     let y = c.finish_of.new.host in
-    let at_is = slice_get_read items (length items) at x refl (omega (arith, c.in-Ok.ensures.within)) c.index_mut.ensures.value in
+    let at_is = slice_get_read items c.self.inside.hosts.len at x c.self.inside.hosts.ok.0 c.in-Ok.ensures.within c.index_mut.ensures.value in
     let view_is = map_at host_view items at x at_is in
     let free = c.in-Ok.ensures.placed size old.journal in
     let new : WorldView = world_view (set items at y) c.finish_of.new.journal.items in
@@ -124,14 +124,14 @@ pub finish_of-requires : goal.finish_of-requires
 finish_of-requires g c =
     let items = c.self.inside.hosts.items in
     let x = c.index_mut.result.now in
-    let at_is = slice_get_read items (length items) c.in-Ok.at x refl (omega (arith, c.in-Ok.ensures.within)) c.index_mut.ensures.value in
+    let at_is = slice_get_read items c.self.inside.hosts.len c.in-Ok.at x c.self.inside.hosts.ok.0 c.in-Ok.ensures.within c.index_mut.ensures.value in
     let view_is = map_at host_view items c.in-Ok.at x at_is in
     let fits = subst (λ (w : WorldView). FitsMedia (g.M.Media.size c.args.media.now) w.hosts) (sym c.self.view_is) c.requires.fits c.in-Ok.at (host_view x) view_is in
     record {
       runs = c.in-Ok.ensures.runs (host_view x) view_is;
       fits = fits.task;
       cached = record { below = fits.cache };
-      few = omega (arith, c.in-Ok.ensures.within, c.self.invariant);
+      few = lt_of_lt_of_le c.in-Ok.ensures.within c.self.invariant;
     }
 
 pub returns-clause-untouched : goal.returns-clause-untouched
@@ -140,3 +140,21 @@ returns-clause-untouched g c =
     let size = g.M.Media.size c.args.media.now in
     none_refused (call.Finishes c.args.name.now) size old c.args.self.now c.args.media.now c.finish_of.new.media
     (finishes_as_steps c.args.name.now old size _ (c.in-Ok.ensures.placed size old.journal).free) c.self.view_is
+
+pub returns-then-is_err-clause-untouched : goal.returns-then-is_err-clause-untouched
+returns-then-is_err-clause-untouched g c = λ cause is. refl
+
+pub returns-in-Err-clause-untouched : goal.returns-in-Err-clause-untouched
+returns-in-Err-clause-untouched g c = λ cause is. refl
+
+pub returns-then-is_err-clause-size : goal.returns-then-is_err-clause-size
+returns-then-is_err-clause-size g c = refl
+
+pub returns-in-Err-clause-size : goal.returns-in-Err-clause-size
+returns-in-Err-clause-size g c = refl
+
+pub returns-clause-size : goal.returns-clause-size
+returns-clause-size g c = c.finish_of.ensures.size
+
+pub returns-in-Err-clause-want : goal.returns-in-Err-clause-want
+returns-in-Err-clause-want g c = λ full. not_full c.refused.result _ c.refused.ensures.given full

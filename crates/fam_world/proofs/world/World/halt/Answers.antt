@@ -7,7 +7,7 @@ use Rattle.fam_notes.specs.declared.note.Note.{Note as Kept}
 use Rattle.fam_journal.specs.CallRecords.{WorldCall}
 use Rattle.fam_world.specs.Answers.{IfAnswered}
 use Rattle.fam_world.specs.View.{notes_view, world_view}
-use Rattle.fam_world.proofs.WithoutMedia.{hosted, quiet_done, quiet_refused, refused_told}
+use Rattle.fam_world.proofs.WithoutMedia.{hosted, quiet_done, quiet_refused, refused_told, not_full}
 use Rattle.fam_world.proofs.world.World.halt.Goals as goal
 
 pub returns-in-Err-clause-answered : goal.returns-in-Err-clause-answered
@@ -29,3 +29,6 @@ returns-in-Ok-clause-answered c = λ lines.
     (quiet_done (call.Halts c.args.name.now) lines old new free.free
     (hosted c.args.name.now at (λ (v : HostView). record v { cache = finmap.empty; task = None; kept = None }) Halt old new free.number c.lose.ensures.views
     (c.add.ensures ∙ ap (λ (xs : List Kept). notes_view xs ++ Halt at ∷ []) c.make_room.ensures.same)))
+
+pub returns-in-Err-clause-err : goal.returns-in-Err-clause-err
+returns-in-Err-clause-err c = λ full. not_full c.refused.result _ c.refused.ensures.given full

@@ -9,7 +9,7 @@ use Rattle.fam_notes.specs.declared.note.Note.{Note as Kept}
 use Rattle.fam_journal.specs.CallRecords.{WorldCall}
 use Rattle.fam_world.specs.Answers.{IfAnswered}
 use Rattle.fam_world.specs.View.{notes_view, views, world_view}
-use Rattle.fam_world.proofs.WithoutMedia.{quiet_done, quiet_refused, refused_told, world_is}
+use Rattle.fam_world.proofs.WithoutMedia.{quiet_done, quiet_refused, refused_told, world_is, not_full}
 use Rattle.fam_world.proofs.world.World.host.Goals as goal
 
 pub returns-in-Some-clause-answered : goal.returns-in-Some-clause-answered
@@ -36,3 +36,6 @@ returns-clause-answered c = λ lines.
     (world_is new (old.hosts ++ record { name = c.args.name.now; uuid = c.args.uuid; cache = finmap.empty; task = None; kept = None } ∷ []) (old.journal ++ Host c.args.name.now c.args.uuid ∷ [])
     (c.add_host.ensures.views ∙ ap₂ (λ (hs : List HostView) (k : Cache). hs ++ record { name = c.args.name.now; uuid = c.args.uuid; cache = k; task = None; kept = None } ∷ []) same c.new.ensures.lines)
     (c.add.ensures ∙ ap (λ (xs : List Kept). notes_view xs ++ Host c.args.name.now c.args.uuid ∷ []) c.make_room.ensures.same)))
+
+pub returns-in-Some-clause-err : goal.returns-in-Some-clause-err
+returns-in-Some-clause-err c = λ full. not_full c.refused.result _ c.refused.ensures.given full

@@ -1,4 +1,4 @@
-use Rattle.std.proofs.Common.{set, ◌≡◌, ◌*◌, ◌++◌, ◌∷◌, [], List, Err, length, refl, ap, ◌∙◌, subst, arith, None}
+use Rattle.std.proofs.Common.{set, ◌≡◌, ◌*◌, ◌++◌, ◌∷◌, [], List, Err, length, refl, ap, ◌∙◌, subst, None}
 use Rattle.fam_media.specs.States.{change}
 use Rattle.std.proofs.lemmas.Option.{slice_get_read}
 use Rattle.fam_rules.specs.Place.{line_bytes}
@@ -14,7 +14,7 @@ use Rattle.fam_world.specs.View.{host_view, notes_view, world_view}
 use Rattle.fam_world.proofs.Making.{make_ended, make_refused, wide_of}
 use Rattle.fam_world.proofs.Members.{map_at, map_set}
 use Rattle.fam_world.proofs.Moving.{with_cache}
-use Rattle.fam_world.proofs.WithoutMedia.{refused_told}
+use Rattle.fam_world.proofs.WithoutMedia.{refused_told, not_full}
 use Rattle.fam_world.proofs.Untouched.{free_untouched}
 use Rattle.fam_world.proofs.world.World.make.Goals as goal
 
@@ -35,7 +35,7 @@ returns-in-Ok-make_host-clause-answered g c =
     let old : WorldView = world_view items c.self.inside.journal.items in
     let at = c.in-Ok.at in
     let x = c.index_mut.result.now in
-    let at_is = slice_get_read items (length items) at x refl (omega (arith, c.in-Ok.ensures.within)) c.index_mut.ensures.value in
+    let at_is = slice_get_read items c.self.inside.hosts.len at x c.self.inside.hosts.ok.0 c.in-Ok.ensures.within c.index_mut.ensures.value in
     let asked : call.Call = call.Makes c.args.name.now c.args.request.now in
     let size = g.M.Media.size c.args.media.now in
     let free : IsFree asked size old at = subst (λ n. IsFree asked n old at) c.lines.ensures.count (c.in-Ok.ensures.placed old.journal) in
@@ -57,3 +57,33 @@ returns-in-Ok-make_host-clause-untouched g c =
     let size = g.M.Media.size c.args.media.now in
     free_untouched asked size c.in-Ok.at old c.args.self.now c.args.media.now c.make_host.new.media
     (subst (λ n. IsFree asked n old c.in-Ok.at) c.lines.ensures.count (c.in-Ok.ensures.placed old.journal)) c.self.view_is
+
+pub returns-then-is_err-clause-untouched : goal.returns-then-is_err-clause-untouched
+returns-then-is_err-clause-untouched g c = λ cause is. refl
+
+pub returns-in-Err-clause-untouched : goal.returns-in-Err-clause-untouched
+returns-in-Err-clause-untouched g c = λ cause is. refl
+
+pub returns-then-is_err-clause-size : goal.returns-then-is_err-clause-size
+returns-then-is_err-clause-size g c = refl
+
+pub returns-in-Err-clause-size : goal.returns-in-Err-clause-size
+returns-in-Err-clause-size g c = refl
+
+pub returns-then-is_err-clause-undone : goal.returns-then-is_err-clause-undone
+returns-then-is_err-clause-undone g c = λ full. refl
+
+pub returns-then-is_err-clause-err : goal.returns-then-is_err-clause-err
+returns-then-is_err-clause-err g c = λ full. ap (λ (xs : List Kept). world_view c.self.inside.hosts.items xs) c.make_room.ensures.same ∙ c.self.view_is
+
+pub returns-in-Err-clause-undone : goal.returns-in-Err-clause-undone
+returns-in-Err-clause-undone g c = λ full. refl
+
+pub returns-in-Err-clause-err : goal.returns-in-Err-clause-err
+returns-in-Err-clause-err g c = λ full. not_full c.refused.result _ c.refused.ensures.given full
+
+pub returns-in-Ok-make_host-clause-size : goal.returns-in-Ok-make_host-clause-size
+returns-in-Ok-make_host-clause-size g c = c.make_host.ensures.steady.size
+
+pub returns-in-Err-make_host-clause-size : goal.returns-in-Err-make_host-clause-size
+returns-in-Err-make_host-clause-size g c = c.make_host.ensures.steady.size

@@ -1,4 +1,4 @@
-use Rattle.std.proofs.Common.{set, ◌<◌, ◌++◌, ◌∷◌, [], List, Err, None, length, refl, ap, ◌∙◌, subst, arith}
+use Rattle.std.proofs.Common.{set, ◌<◌, ◌++◌, ◌∷◌, [], List, Err, None, length, refl, ap, ◌∙◌, subst}
 use Rattle.fam_media.specs.States.{change}
 use Rattle.std.proofs.lemmas.Option.{slice_get_read}
 use Rattle.fam_machine.specs.Caches.{Cache}
@@ -14,7 +14,7 @@ use Rattle.fam_cache.specs.OwnMoves.{move_of}
 use Rattle.fam_world.specs.View.{host_view, notes_view, world_view}
 use Rattle.fam_world.proofs.Members.{map_at, map_same, map_set}
 use Rattle.fam_world.proofs.Moving.{media_refused, move_failed_call, moved_call, with_cache}
-use Rattle.fam_world.proofs.WithoutMedia.{refused_told}
+use Rattle.fam_world.proofs.WithoutMedia.{refused_told, not_full}
 use Rattle.fam_world.proofs.Untouched.{free_untouched}
 use Rattle.fam_world.proofs.world.World.move_line.Goals as goal
 
@@ -35,7 +35,7 @@ returns-in-Ok-shift-clause-answered g c =
     let old : WorldView = world_view items c.self.inside.journal.items in
     let at = c.in-Ok.at in
     let x = c.index_mut.result.now in
-    let at_is = slice_get_read items (length items) at x refl (omega (arith, c.in-Ok.ensures.within)) c.index_mut.ensures.value in
+    let at_is = slice_get_read items c.self.inside.hosts.len at x c.self.inside.hosts.ok.0 c.in-Ok.ensures.within c.index_mut.ensures.value in
     let asked : call.Call = call.Moves c.args.name.now c.args.line.0 (move_of c.args.what) in
     let free : IsFree asked (g.M.Media.size c.args.media.now) old at = subst (λ n. IsFree asked n old at) c.lines.ensures.count (c.in-Ok.ensures.placed (move_of c.args.what) old.journal) in
     let new : WorldView = world_view (set items at (record x { cache = c.shift.new.self })) c.make_room.new.journal.items in
@@ -51,7 +51,7 @@ returns-in-Err-Failed-clause-answered g c =
     let old : WorldView = world_view items c.self.inside.journal.items in
     let at = c.in-Ok.at in
     let x = c.index_mut.result.now in
-    let at_is = slice_get_read items (length items) at x refl (omega (arith, c.in-Ok.ensures.within)) c.index_mut.ensures.value in
+    let at_is = slice_get_read items c.self.inside.hosts.len at x c.self.inside.hosts.ok.0 c.in-Ok.ensures.within c.index_mut.ensures.value in
     let asked : call.Call = call.Moves c.args.name.now c.args.line.0 (move_of c.args.what) in
     let free : IsFree asked (g.M.Media.size c.args.media.now) old at = subst (λ n. IsFree asked n old at) c.lines.ensures.count (c.in-Ok.ensures.placed (move_of c.args.what) old.journal) in
     let failed = c.in-Err-Failed.is ∙ ap (λ (f : CacheFault). Err f) c.in-Err-Failed.field-0-is in
@@ -79,3 +79,48 @@ returns-in-Err-Failed-clause-untouched g c =
     let size = g.M.Media.size c.args.media.now in
     free_untouched asked size c.in-Ok.at old c.args.self.now c.args.media.now c.shift.new.media
     (subst (λ n. IsFree asked n old c.in-Ok.at) c.lines.ensures.count (c.in-Ok.ensures.placed (move_of c.args.what) old.journal)) c.self.view_is
+
+pub returns-then-is_err-clause-untouched : goal.returns-then-is_err-clause-untouched
+returns-then-is_err-clause-untouched g c = λ cause is. refl
+
+pub returns-in-Err-clause-untouched : goal.returns-in-Err-clause-untouched
+returns-in-Err-clause-untouched g c = λ cause is. refl
+
+pub returns-then-is_err-clause-size : goal.returns-then-is_err-clause-size
+returns-then-is_err-clause-size g c = refl
+
+pub returns-in-Err-clause-size : goal.returns-in-Err-clause-size
+returns-in-Err-clause-size g c = refl
+
+pub returns-then-is_err-clause-undone : goal.returns-then-is_err-clause-undone
+returns-then-is_err-clause-undone g c = λ full. refl
+
+pub returns-then-is_err-clause-err : goal.returns-then-is_err-clause-err
+returns-then-is_err-clause-err g c = λ full. ap (λ (xs : List Kept). world_view c.self.inside.hosts.items xs) c.make_room.ensures.same ∙ c.self.view_is
+
+pub returns-in-Err-clause-undone : goal.returns-in-Err-clause-undone
+returns-in-Err-clause-undone g c = λ full. refl
+
+pub returns-in-Err-clause-err : goal.returns-in-Err-clause-err
+returns-in-Err-clause-err g c = λ full. not_full c.refused.result _ c.refused.ensures.given full
+
+pub returns-in-Ok-shift-clause-size : goal.returns-in-Ok-shift-clause-size
+returns-in-Ok-shift-clause-size g c = c.shift.ensures.steady.size
+
+pub returns-in-Err-Failed-clause-undone : goal.returns-in-Err-Failed-clause-undone
+returns-in-Err-Failed-clause-undone g c = λ full. not_full c.refused-in-Err-Failed.result _ c.refused-in-Err-Failed.ensures.given full
+
+pub returns-in-Err-Failed-clause-err : goal.returns-in-Err-Failed-clause-err
+returns-in-Err-Failed-clause-err g c = λ full. not_full c.refused-in-Err-Failed.result _ c.refused-in-Err-Failed.ensures.given full
+
+pub returns-in-Err-Failed-clause-size : goal.returns-in-Err-Failed-clause-size
+returns-in-Err-Failed-clause-size g c = c.shift.ensures.steady.size
+
+pub returns-in-Err-OutOfMemory-clause-untouched : goal.returns-in-Err-OutOfMemory-clause-untouched
+returns-in-Err-OutOfMemory-clause-untouched g c = λ cause is. c.shift.ensures.undone (c.in-Err-OutOfMemory.is ∙ ap (λ (f : CacheFault). Err f) c.in-Err-OutOfMemory.field-0-is)
+
+pub returns-in-Err-OutOfMemory-clause-undone : goal.returns-in-Err-OutOfMemory-clause-undone
+returns-in-Err-OutOfMemory-clause-undone g c = λ full. c.shift.ensures.undone (c.in-Err-OutOfMemory.is ∙ ap (λ (f : CacheFault). Err f) c.in-Err-OutOfMemory.field-0-is)
+
+pub returns-in-Err-OutOfMemory-clause-size : goal.returns-in-Err-OutOfMemory-clause-size
+returns-in-Err-OutOfMemory-clause-size g c = c.shift.ensures.steady.size

@@ -1,5 +1,5 @@
 use Rattle.std.specs.Prelude.{IsErrOf, OnErr}
-use Rattle.std.proofs.Common.{◌≡◌, Result, ◌++◌, ◌∷◌, [], List, length, Ok, Err, false, refl, ap, sym, subst, ◌∙◌, arith, set}
+use Rattle.std.proofs.Common.{◌≡◌, Result, ◌++◌, ◌∷◌, [], List, length, Ok, Err, false, refl, ap, sym, subst, ◌∙◌, set, lt_of_lt_of_le}
 use Rattle.std.proofs.lemmas.Option.{slice_get_read}
 use Rattle.fam_media.specs.States.{change}
 use Rattle.fam_journal.specs.Calls as call
@@ -51,7 +51,7 @@ returns-clause-says g c =
     let at = c.in-Ok.at in
     let x = c.index_mut.result.now in
     let y = c.steps_of.new.host in
-    let at_is = slice_get_read items (length items) at x refl (omega (arith, c.in-Ok.ensures.within)) c.index_mut.ensures.value in
+    let at_is = slice_get_read items c.self.inside.hosts.len at x c.self.inside.hosts.ok.0 c.in-Ok.ensures.within c.index_mut.ensures.value in
     let free = c.in-Ok.ensures.placed size old.journal in
     let new : WorldView = world_view (set items at y) c.steps_of.new.journal.items in
     let said : StepsSay c.args.name.now size c.args.most (standing g.M.Media.state c.args.media.now old) (standing g.M.Media.state c.steps_of.new.media new) (told_of c.steps_of.result) =
@@ -71,14 +71,14 @@ pub steps_of-requires : goal.steps_of-requires
 steps_of-requires g c =
     let items = c.self.inside.hosts.items in
     let x = c.index_mut.result.now in
-    let at_is = slice_get_read items (length items) c.in-Ok.at x refl (omega (arith, c.in-Ok.ensures.within)) c.index_mut.ensures.value in
+    let at_is = slice_get_read items c.self.inside.hosts.len c.in-Ok.at x c.self.inside.hosts.ok.0 c.in-Ok.ensures.within c.index_mut.ensures.value in
     let view_is = map_at host_view items c.in-Ok.at x at_is in
     let fits = subst (λ (w : WorldView). FitsMedia (g.M.Media.size c.args.media.now) w.hosts) (sym c.self.view_is) c.requires.fits c.in-Ok.at (host_view x) view_is in
     record {
       runs = c.in-Ok.ensures.runs (host_view x) view_is;
       fits = fits.task;
       cached = record { below = fits.cache };
-      few = omega (arith, c.in-Ok.ensures.within, c.self.invariant);
+      few = lt_of_lt_of_le c.in-Ok.ensures.within c.self.invariant;
     }
 
 pub returns-clause-untouched : goal.returns-clause-untouched
@@ -86,3 +86,24 @@ returns-clause-untouched g c =
     let old : WorldView = world_view c.self.inside.hosts.items c.self.inside.journal.items in
     let size = g.M.Media.size c.args.media.now in
     free_untouched (call.Steps c.args.name.now) size c.in-Ok.at old c.args.self.now c.args.media.now c.steps_of.new.media (c.in-Ok.ensures.placed size old.journal) c.self.view_is
+
+pub returns-then-is_err-clause-untouched : goal.returns-then-is_err-clause-untouched
+returns-then-is_err-clause-untouched g c = λ cause is. refl
+
+pub returns-in-Err-clause-untouched : goal.returns-in-Err-clause-untouched
+returns-in-Err-clause-untouched g c = λ cause is. refl
+
+pub returns-then-is_err-clause-size : goal.returns-then-is_err-clause-size
+returns-then-is_err-clause-size g c = refl
+
+pub returns-in-Err-clause-size : goal.returns-in-Err-clause-size
+returns-in-Err-clause-size g c = refl
+
+pub returns-then-is_err-clause-undone : goal.returns-then-is_err-clause-undone
+returns-then-is_err-clause-undone g c = λ one full. refl
+
+pub returns-in-Err-clause-undone : goal.returns-in-Err-clause-undone
+returns-in-Err-clause-undone g c = λ one full. refl
+
+pub returns-clause-size : goal.returns-clause-size
+returns-clause-size g c = c.steps_of.ensures.size

@@ -6,7 +6,7 @@ use Rattle.fam_notes.specs.declared.note.Note.{Note as Kept}
 use Rattle.fam_journal.specs.CallRecords.{WorldCall}
 use Rattle.fam_world.specs.Answers.{IfAnswered}
 use Rattle.fam_world.specs.View.{notes_view, world_view}
-use Rattle.fam_world.proofs.WithoutMedia.{hosted, quiet_done, quiet_refused, refused_told, stops_as_steps}
+use Rattle.fam_world.proofs.WithoutMedia.{hosted, quiet_done, quiet_refused, refused_told, stops_as_steps, not_full}
 use Rattle.fam_world.proofs.world.World.stop.Goals as goal
 
 pub returns-in-Err-clause-answered : goal.returns-in-Err-clause-answered
@@ -28,3 +28,6 @@ returns-in-Ok-clause-answered c = λ lines.
     (quiet_done (call.Stops c.args.name.now) lines old new (stops_as_steps c.args.name.now old lines _ free.free)
     (hosted c.args.name.now at (λ (v : HostView). record v { task = None }) Stop old new free.number c.end_task.ensures.views
     (c.add.ensures ∙ ap (λ (xs : List Kept). notes_view xs ++ Stop at ∷ []) c.make_room.ensures.same)))
+
+pub returns-in-Err-clause-err : goal.returns-in-Err-clause-err
+returns-in-Err-clause-err c = λ full. not_full c.refused.result _ c.refused.ensures.given full

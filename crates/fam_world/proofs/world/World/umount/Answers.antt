@@ -6,7 +6,7 @@ use Rattle.fam_notes.specs.declared.note.Note.{Note as Kept}
 use Rattle.fam_journal.specs.CallRecords.{WorldCall}
 use Rattle.fam_world.specs.Answers.{IfAnswered}
 use Rattle.fam_world.specs.View.{notes_view, world_view}
-use Rattle.fam_world.proofs.WithoutMedia.{hosted, quiet_done, quiet_refused, refused_told}
+use Rattle.fam_world.proofs.WithoutMedia.{hosted, quiet_done, quiet_refused, refused_told, not_full}
 use Rattle.fam_world.proofs.world.World.umount.Goals as goal
 
 pub returns-in-Err-clause-answered : goal.returns-in-Err-clause-answered
@@ -28,3 +28,6 @@ returns-in-Ok-clause-answered c = λ lines.
     (quiet_done (call.Umounts c.args.name.now) lines old new free.free
     (hosted c.args.name.now at (λ (v : HostView). record v { kept = None }) Umount old new free.number c.forget.ensures.views
     (c.add.ensures ∙ ap (λ (xs : List Kept). notes_view xs ++ Umount at ∷ []) c.make_room.ensures.same)))
+
+pub returns-in-Err-clause-err : goal.returns-in-Err-clause-err
+returns-in-Err-clause-err c = λ full. not_full c.refused.result _ c.refused.ensures.given full
