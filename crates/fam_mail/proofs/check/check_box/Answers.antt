@@ -25,12 +25,8 @@ loop-i-preserved g c =
     record {
       size_is = c.in-Ok-read.ensures.size ∙ inv.size_is;
       same = c.in-Ok-read.ensures.same ∙ inv.same;
-<<<<<<< HEAD
-      later = omega (arith, inv.later, c.in-Ok-read.ensures.cause.later);
-      quiet = λ exact. c.in-Ok-read.ensures.counted exact ∙ inv.quiet exact;
-=======
       later = le_trans inv.later c.in-Ok-read.ensures.cause.later;
->>>>>>> cheap/cheap
+      quiet = λ exact. c.in-Ok-read.ensures.counted exact ∙ inv.quiet exact;
       room = inv.room;
       gate_is = inv.gate_is;
       right = λ image told.

@@ -5,21 +5,14 @@ use Rattle.fam_cache.specs.declared.fault.OperationFault.TheVariants as fault
 use Rattle.fam_cache.specs.Faults.{IfMediaFault}
 use Rattle.fam_media.specs.Causes.{Rose}
 use Rattle.fam_media.specs.Outside.{IfModelled}
-<<<<<<< HEAD
-use Rattle.fam_machine.specs.Cuts.{HasFailed}
-use Rattle.fam_machine.specs.Operations.{IsWithin, machine}
-use Rattle.fam_mail.specs.Running.{Around, LinesFit, TaskOperated, around}
-use Rattle.fam_mail.specs.Tasks.{PhaseFits, MailTask, ends_mail_task, left_of, task_op, next_task, mail_turn}
-=======
 use Rattle.fam_machine.specs.Cuts.{HasFailed, IsMachine}
 use Rattle.fam_machine.specs.declared.op.Op.{Op}
 use Rattle.fam_machine.specs.declared.op.Op.TheVariants.{Digest}
 use Rattle.fam_machine.specs.Operations.{IsWithin, given, machine, operated}
 use Rattle.fam_mail.specs.Running.{Around, IsTaskDone, LinesFit, TaskOperated, around}
-use Rattle.fam_mail.specs.Tasks.{PhaseFits, MailTask, ends_task, left_of, next_task, phase_op, task_op, task_turn}
+use Rattle.fam_mail.specs.Tasks.{PhaseFits, MailTask, ends_mail_task, left_of, next_task, phase_op, task_op, mail_turn}
 use Rattle.fam_mail.specs.declared.phase.Phase.{Phase}
 use Rattle.fam_mail.specs.declared.phase.Phase.TheVariants as at
->>>>>>> cheap/cheap
 use Rattle.fam_mail.specs.declared.turn.Turn.{Turn}
 use Rattle.fam_mail.proofs.Falling.{falls}
 use Rattle.fam_mail.proofs.Running.{failed_fit, lines_fit, op_within}
@@ -37,7 +30,7 @@ fault_is : (e f : OperationFault) → IsErrOf {T = Turn} (Err e) f → e ≡ f
 fault_is e f is = cc
 
 -- where a task counts, nothing is asked of cache and memory
-counted : (a : Around) (turn : Turn) → a.task.phase ≡ at.Count → a.new ≡ a.old → a.left ≡ a.told → turn ≡ task_turn 0 a.task → (ends_task turn ≡ false → a.next ≡ next_task 0 a.task) → IsTaskDone a turn
+counted : (a : Around) (turn : Turn) → a.task.phase ≡ at.Count → a.new ≡ a.old → a.left ≡ a.told → turn ≡ mail_turn 0 a.task → (ends_mail_task turn ≡ false → a.next ≡ next_task 0 a.task) → IsTaskDone a turn
 counted a turn is new left turned goes =
     let op : task_op a.place a.task ≡ Digest = ap (λ (p : Phase). phase_op p a.place a.task) is in
     record {

@@ -5,23 +5,23 @@ use Rattle.fam_media.specs.States.{MediaChange, change}
 use Rattle.fam_rules.specs.Written.{file_line}
 use Rattle.fam_mail.specs.Calls.{HostOperates, kept_task, notes_of_turn}
 use Rattle.fam_mail.specs.Running.{IsTaskDone}
-use Rattle.fam_mail.specs.Tasks.{MailTask, ends_task, next_task}
+use Rattle.fam_mail.specs.Tasks.{MailTask, ends_mail_task, next_task}
 use Rattle.fam_mail.specs.World.{MailHost, mail_host}
 use Rattle.fam_mail.specs.declared.note.MailNote.TheVariants as note
 use Rattle.fam_mail.specs.declared.turn.Turn.{Turn}
 use Rattle.fam_mail.proofs.world.steps.step_of.Goals as goal
 
 -- what is left of a task that goes on is its next state
-kept_is : (turn : Turn) (left next : MailTask) → (ends_task turn ≡ false → left ≡ next) → kept_task turn left ≡ kept_task turn next
-kept_is turn left next goes = go (ends_task turn) refl
+kept_is : (turn : Turn) (left next : MailTask) → (ends_mail_task turn ≡ false → left ≡ next) → kept_task turn left ≡ kept_task turn next
+kept_is turn left next goes = go (ends_mail_task turn) refl
   where
-    go : (b : Bool) → ends_task turn ≡ b → (if b then None else Some left) ≡ (if b then None else Some next)
+    go : (b : Bool) → ends_mail_task turn ≡ b → (if b then None else Some left) ≡ (if b then None else Some next)
     go true is = refl
     go false is = ap (λ (x : MailTask). Some x) (goes is)
 
 -- an operation that the media served, with the notes of its turn
 module _ (entry : Entry) (name : List ℕ) (h next : MailHost) (t left : MailTask) (told : MediaChange) (turn : Turn) (over : Bool) where
-  served : h.task ≡ Some t → told.old.faults ≤ told.new.faults → over ≡ ends_task turn
+  served : h.task ≡ Some t → told.old.faults ≤ told.new.faults → over ≡ ends_mail_task turn
       → IsTaskDone (record { place = file_line entry; task = t; next = left; old = h.cache; new = next.cache; told = told.old.image; left = told.new.image; before = told.old.faults; now = told.new.faults }) turn
       → next ≡ record h { cache = next.cache; task = kept_task turn left } → HostOperates entry name h told over next (notes_of_turn name turn)
   served is later ends d next_is = record {
@@ -31,7 +31,7 @@ module _ (entry : Entry) (name : List ℕ) (h next : MailHost) (t left : MailTas
       word = d.word;
       done = d.done;
       word_is = d.word_is;
-      over_is = ends ∙ ap ends_task d.turn_is;
+      over_is = ends ∙ ap ends_mail_task d.turn_is;
       next_is = next_is ∙ ap (λ (o : Option MailTask). record h { cache = next.cache; task = o })
           (kept_is turn left (next_task d.word t) d.goes ∙ ap (λ (u : Turn). kept_task u (next_task d.word t)) d.turn_is);
       notes_are = ap (notes_of_turn name) d.turn_is;
@@ -43,7 +43,7 @@ pub returns-then-over-clause-stepped : goal.returns-then-over-clause-stepped
 returns-then-over-clause-stepped g c =
     let h : MailHost = mail_host c.args.host.now in
     let next : MailHost = record h { cache = c.operate.new.cache.lines; task = None } in
-    let ends : ends_task c.in-Ok.turn ≡ true = sym c.note_turn-over.ensures.over ∙ c.if-over.true in
+    let ends : ends_mail_task c.in-Ok.turn ≡ true = sym c.note_turn-over.ensures.over ∙ c.if-over.true in
     record {
       notes = notes_of_turn c.args.name.now c.in-Ok.turn;
       does = served c.args.entry.now c.args.name.now h next c.in-Some.task c.operate.new.task (change g.M.Media.state c.args.media.now c.operate.new.media) c.in-Ok.turn c.note_turn-over.result
@@ -56,7 +56,7 @@ pub returns-else-over-clause-stepped : goal.returns-else-over-clause-stepped
 returns-else-over-clause-stepped g c =
     let h : MailHost = mail_host c.args.host.now in
     let next : MailHost = record h { cache = c.operate.new.cache.lines; task = Some c.operate.new.task } in
-    let on : ends_task c.in-Ok.turn ≡ false = sym c.note_turn-over.ensures.over ∙ c.if-over.false in
+    let on : ends_mail_task c.in-Ok.turn ≡ false = sym c.note_turn-over.ensures.over ∙ c.if-over.false in
     record {
       notes = notes_of_turn c.args.name.now c.in-Ok.turn;
       does = served c.args.entry.now c.args.name.now h next c.in-Some.task c.operate.new.task (change g.M.Media.state c.args.media.now c.operate.new.media) c.in-Ok.turn c.note_turn-over.result
