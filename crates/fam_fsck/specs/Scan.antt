@@ -1,5 +1,5 @@
 -- What a contract sees of a `Fsck`: the file system, its gate, and what the slots so far have told.
-use Rattle.std.specs.Prelude.{ℕ, ◌≡◌, ◌+◌, ◌≤◌, Bool, List, length, Option, Some, None}
+use Rattle.std.specs.Prelude.{ℕ, ◌≡◌, ◌+◌, ◌≤◌, Bool, true, false, List, length, Option, Some, None}
 use Rattle.std.specs.List.{All}
 use Rattle.fam_base.specs.declared.entry.Params.{Params}
 use Rattle.fam_format.specs.Layout.{device_units}
@@ -36,6 +36,11 @@ with_slot s words = with_survey s (survey_slot s.params s.gate s.added words s.s
 abbrev pub bad_after : Option (ℕ × Reason) → ℕ → Option Reason → Option (ℕ × Reason)
 bad_after bad i None = bad
 bad_after bad i (Some reason) = first_bad bad i reason
+
+-- a slot at or past the gate, which reads as an entry or not
+abbrev pub past_by : Survey → Bool → Survey
+past_by s true = record s { past = s.past + 1 }
+past_by s false = s
 
 -- the survey of what was found
 abbrev pub scanned_survey : List Found → Option (ℕ × Reason) → ℕ → Survey

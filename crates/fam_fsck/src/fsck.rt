@@ -1,20 +1,24 @@
 //! The report over all slots.
 
-ghost use Rattle.std.specs.Prelude.{◌≡◌, ◌<◌, ◌≤◌, IfOk, IsOk, OnOk, OnErr, length};
+ghost use Rattle.std.specs.Prelude.{◌≡◌, ◌<◌, ◌≤◌, Err, IfOk, IsOk, Ok, OnOk, OnErr, length};
 ghost use Rattle.fam_format.specs.Layout.{geometry};
 ghost use Rattle.fam_format.specs.Params.{SoundParams};
 ghost use Rattle.fam_format.specs.Slot.{Proper, entry_of, fields_of};
+ghost use Rattle.fam_entry.specs.Short.{IsShort};
 ghost use Rattle.fam_entry.specs.Tests.{HasFields, read_as};
-ghost use Rattle.fam_rules.specs.Reports.{below_gate, past_gate, report_by};
+ghost use Rattle.fam_rules.specs.Reports.{below_gate, report_by};
 ghost use Rattle.fam_format.specs.Tree.{replay, tree_fault};
 ghost use Rattle.fam_fsck.specs.Found.{applied_of, found_as, with_found};
-ghost use Rattle.fam_fsck.specs.Scan.{bad_after, first_scan, with_slot, with_survey};
+ghost use Rattle.fam_fsck.specs.Scan.{bad_after, first_scan, past_by, with_slot, with_survey};
 
 use crate::findings::Findings;
 use fam_base::{OutOfMemory, PATH_LIMIT, Params};
-use fam_entry::{bare_entry, borrowed_entry, check_entry, checked_extents};
+use fam_entry::{
+    bare_entry, borrowed_entry, check_entry, checked_extents, is_short, read_short, short_path,
+};
 use fam_format::Reason;
 use fam_rules::{LogState, Report, SuperState};
+use fam_tree::EntryRef;
 use std::alloc::Global;
 use std::marker::Model;
 
@@ -131,17 +135,84 @@ impl Fsck {
         }
     }
 
-    /// Adds what a slot at or past the gate reads as.
-    fn add_past(&mut self, words: &[u64], read: &Result<(), Reason>)
+    /// Adds a slot at or past the gate, which reads as an entry or not.
+    fn add_past(&mut self, reads: bool)
         requires fewer { self.old.added < self.old.params.slots }
-        ensures { self.new ≡ with_survey self.old (past_gate self.old.survey (read_as words.now read.now)) }
+        ensures { self.new ≡ with_survey self.old (past_by self.old.survey reads) }
     {
-        // The contract alone speaks of them.
-        let _ = words;
         self.added += 1;
-        if read.is_ok() {
+        if reads {
             self.past += 1;
         }
+    }
+
+    /// Adds a slot below the gate that reads as an entry.
+    fn add_found(&mut self, entry: &EntryRef<'_>) -> Result<(), OutOfMemory>
+        requires fewer { self.old.added < self.old.params.slots }
+        requires proper { Proper self.old.params entry.now }
+        ensures slot { OnOk result (self.new
+            ≡ with_survey self.old (below_gate self.old.survey self.old.added (Ok entry.now))) }
+        ensures err { OnErr result (self.new ≡ self.old) }
+    {
+        let fault = self.findings.add(self.added, entry)?;
+        self.bad = first_bad(self.bad, self.added, fault);
+        self.added += 1;
+        Ok(())
+    }
+
+    /// Adds a slot below the gate that reads as none, with what is against it.
+    fn add_bad(&mut self, reason: Reason)
+        requires fewer { self.old.added < self.old.params.slots }
+        ensures { self.new ≡ with_survey self.old (below_gate self.old.survey self.old.added (Err reason)) }
+    {
+        self.bad = first_bad(self.bad, self.added, Some(reason));
+        self.added += 1;
+    }
+
+    /// Adds the words of the next slot, which have a short path and no map.
+    #[inline(always)]
+    fn add_short(&mut self, words: &[u64]) -> Result<(), OutOfMemory>
+        requires fewer { self.old.added < self.old.params.slots }
+        requires count { length words.now ≡ (geometry self.old.params).words }
+        requires long { 64 ≤ length words.now }
+        requires short { IsShort words.now }
+        ensures slot { OnOk result (self.new ≡ with_slot self.old words.now) }
+        ensures err { OnErr result (self.new ≡ self.old) }
+        ensures below { OnErr result (self.old.added < self.old.gate) }
+        ensures entry { OnErr result (IsOk (entry_of self.old.params words.now self.old.added)) }
+    {
+        let path = short_path(words);
+        let read = read_short(words, self.added, self.findings.params(), &path);
+        if self.added >= self.gate {
+            self.add_past(read.is_ok());
+            return Ok(());
+        }
+        match read {
+            Ok(entry) => self.add_found(&entry),
+            Err(reason) => {
+                self.add_bad(reason);
+                Ok(())
+            }
+        }
+    }
+
+    /// Adds the words of the next slot, whatever path and map they have.
+    #[inline(never)]
+    fn add_long(&mut self, words: &[u64]) -> Result<(), OutOfMemory>
+        requires fewer { self.old.added < self.old.params.slots }
+        requires count { length words.now ≡ (geometry self.old.params).words }
+        ensures slot { OnOk result (self.new ≡ with_slot self.old words.now) }
+        ensures err { OnErr result (self.new ≡ self.old) }
+        ensures below { OnErr result (self.old.added < self.old.gate) }
+        ensures entry { OnErr result (IsOk (entry_of self.old.params words.now self.old.added)) }
+    {
+        let mut field = [0; PATH_LIMIT];
+        let read = check_entry(words, self.added, self.findings.params(), &mut field);
+        if self.added < self.gate {
+            return self.add_below(words, &field, &read);
+        }
+        self.add_past(read.is_ok());
+        Ok(())
     }
 
     /// Adds the words of the next slot. After an Err everything is as before.
@@ -155,13 +226,10 @@ impl Fsck {
         ensures below { OnErr result (self.old.added < self.old.gate) }
         ensures entry { OnErr result (IsOk (entry_of self.old.params words.now self.old.added)) }
     {
-        let mut field = [0; PATH_LIMIT];
-        let read = check_entry(words, self.added, self.findings.params(), &mut field);
-        if self.added < self.gate {
-            return self.add_below(words, &field, &read);
+        if is_short(words) {
+            return self.add_short(words);
         }
-        self.add_past(words, &read);
-        Ok(())
+        self.add_long(words)
     }
 
     /// The report over the slots that were added.

@@ -1,4 +1,4 @@
-use Rattle.std.proofs.Common.{◌≡◌, ◌<◌, ◌≤◌, Result, sym, ap, subst, ◌∙◌, arith}
+use Rattle.std.proofs.Common.{◌≡◌, Bool, ◌<◌, ◌≤◌, Result, sym, ap, subst, ◌∙◌, arith}
 use Rattle.std.specs.Result.{IsOk, OnErr, OnOk}
 use Rattle.fam_base.specs.declared.entry.Entry.{Entry}
 use Rattle.fam_base.specs.declared.entry.Params.{Params}
@@ -9,9 +9,9 @@ use Rattle.fam_format.specs.declared.faults.Reason.{Reason}
 use Rattle.fam_rules.specs.Reports.{Survey}
 use Rattle.fam_entry.specs.Tests.{read_as}
 use Rattle.fam_entry.proofs.PathField.{zero_at}
-use Rattle.fam_fsck.specs.Scan.{Scan, with_survey}
-use Rattle.fam_fsck.proofs.Slots.{slot_below, slot_past}
-use Rattle.fam_fsck.proofs.fsck.Fsck.add.Goals as goal
+use Rattle.fam_fsck.specs.Scan.{Scan, past_by, with_survey}
+use Rattle.fam_fsck.proofs.Slots.{passes, slot_below, slot_past_by}
+use Rattle.fam_fsck.proofs.fsck.Fsck.add_long.Goals as goal
 
 pub check_entry-read-requires-clause-empty : goal.check_entry-read-requires-clause-empty
 check_entry-read-requires-clause-empty c = λ k. zero_at 512 k
@@ -42,6 +42,7 @@ pub returns-clause-slot : goal.returns-clause-slot
 returns-clause-slot c =
     let words = c.args.words.now in
     c.add_past.ensures
+    ∙ ap (λ (b : Bool). with_survey c.args.self.now (past_by c.args.self.now.survey b)) (c.is_ok.ensures.value ∙ passes words c.check_entry-read.result)
     ∙ ap (with_survey c.args.self.now)
-    (slot_past c.args.self.now words (read_as words c.check_entry-read.result) (subst (λ (s : Scan). s.gate ≤ s.added) c.self.view_is c.if-self.false)
+    (slot_past_by c.args.self.now words (read_as words c.check_entry-read.result) (subst (λ (s : Scan). s.gate ≤ s.added) c.self.view_is c.if-self.false)
     (c.check_entry-read.ensures.value ∙ ap (λ (p : Params). entry_of p words c.self.inside.added) c.params.ensures.value ∙ ap (λ (s : Scan). entry_of s.params words s.added) c.self.view_is))
