@@ -16,7 +16,8 @@ use Rattle.fam_grammar.proofs.Joined.{AreWords, HasNoBlank, IsOneWord, joined_wo
 use Rattle.fam_grammar.proofs.Respelled.{decimal_no_blank, decimal_word, mode_no_blank, path_word}
 use Rattle.fam_grammar.proofs.StripeWords.{stripe_no_blank, stripe_value}
 use Rattle.fam_outcomes.specs.Texts.{against_text, attr_text, cmd_text, name_text, number, seed_text, stripe_text}
-use Rattle.fam_history.specs.Told.{IfTellingStripe, IsTelling, IsTellingAttr, IsTellingContent}
+use Rattle.fam_history.proofs.Spaced.{are-append, free, keyed, placed_words, spaced, spaced-append}
+use Rattle.fam_history.specs.Told.{IfTellingStripe, IsTelling, IsTellingAttr, IsTellingContent, IsTellingFill}
 
 -- Words.
 
@@ -79,23 +80,6 @@ more_words (Check entries) = decimal (length entries) ∷ []
 
 -- Their text.
 
--- words, each behind a space
-abbrev spaced : List (List ℕ) → List ℕ
-spaced [] = []
-spaced (word ∷ words) = 32 ∷ (word ++ spaced words)
-
-spaced-append : (a b : List (List ℕ)) → spaced (a ++ b) ≡ spaced a ++ spaced b
-spaced-append [] b = refl
-spaced-append (word ∷ words) b =
-    ap (λ (l : List ℕ). 32 ∷ (word ++ l)) (spaced-append words b) ∙ ap (λ (l : List ℕ). 32 ∷ l) (sym (append_assoc word (spaced words) (spaced b)))
-
-joined : (word : List ℕ) (words : List (List ℕ)) → join_with_byte 32 (word ∷ words) ≡ word ++ spaced words
-joined word [] = sym (append-nil word)
-joined word (next ∷ words) = ap (λ (l : List ℕ). word ++ 32 ∷ l) (joined next words)
-
-one : (word : List ℕ) → spaced (word ∷ []) ≡ 32 ∷ word
-one word = ap (λ (l : List ℕ). 32 ∷ l) (append-nil word)
-
 attr_spaced : (attr : Attr) → attr_text attr ≡ spaced (attr_words attr)
 attr_spaced attr = simp (append_assoc, append-nil) refl
 
@@ -150,27 +134,6 @@ text_spaced (Check entries) = simp append-nil refl
 
 -- Each is a word.
 
--- a test of a literal
-abbrev is_free : List ℕ → Bool
-is_free [] = true
-is_free (b ∷ bytes) = not (is_blank b) && is_free bytes
-
-not_of : (t : Bool) → not t ≡ true → t ≡ false
-not_of true h = sym h
-not_of false h = refl
-
-free : (bytes : List ℕ) → is_free bytes ≡ true → HasNoBlank bytes
-free [] h = tt
-free (b ∷ bytes) h = let parts = and_parts (not (is_blank b)) (is_free bytes) h in (not_of (is_blank b) parts.0, free bytes parts.1)
-
--- a literal in front of a value
-keyed : (b : ℕ) (key value : List ℕ) → is_free (b ∷ key) ≡ true → HasNoBlank value → IsOneWord ((b ∷ key) ++ value)
-keyed b key value h none = no_blank-append (b ∷ key) value (free (b ∷ key) h) none
-
-are-append : (a b : List (List ℕ)) → AreWords a → AreWords b → AreWords (a ++ b)
-are-append [] b none more = more
-are-append (word ∷ words) b some more = (some.0, are-append words b some.1 more)
-
 attr_are : (attr : Attr) → IsTellingAttr attr → AreWords (attr_words attr)
 attr_are attr is =
     (keyed 109 (codes "ode=") (mode_text attr.mode) refl (mode_no_blank attr.mode), (keyed 117 (codes "id=") (decimal attr.uid) refl (decimal_no_blank attr.uid (omega (arith, is.uid))), (keyed 103 (codes "id=") (decimal attr.gid) refl (decimal_no_blank attr.gid (omega (arith, is.gid))), tt)))
@@ -179,10 +142,10 @@ stripe_are : (s : Option Stripe) → IfTellingStripe s → AreWords (stripe_word
 stripe_are None is = tt
 stripe_are (Some s) is = (keyed 115 (codes "tripe=") (stripe_value s) refl (stripe_no_blank s is.nstrips is.nbuckets is.chunk), tt)
 
-seed_are : (fill : Content) → IsTellingContent fill → AreWords (seed_words fill)
+seed_are : (fill : Content) → IsTellingFill fill → AreWords (seed_words fill)
 seed_are content.Zero is = tt
 seed_are (content.Seed seed) is = (keyed 115 (codes "eed=") (decimal seed) refl (decimal_no_blank seed is), tt)
-seed_are (content.Bytes bytes) is = tt
+seed_are (content.Bytes bytes) is = absurd is
 
 against_are : (against : Content) → IsTellingContent against → AreWords (against_words against)
 against_are content.Zero is = tt
@@ -216,6 +179,4 @@ name_is (Check entries) = free (codes "check") refl
 
 -- the words of a command's text
 pub text_words : (column : ℕ) (cmd : Cmd) → IsTelling cmd → words_from column (cmd_text cmd) ≡ placed column (name_word cmd ∷ more_words cmd)
-text_words column cmd is =
-    ap (words_from column) (text_spaced cmd ∙ sym (joined (name_word cmd) (more_words cmd)))
-    ∙ joined_words column (name_word cmd ∷ more_words cmd) (name_is cmd, more_are cmd is)
+text_words column cmd is = placed_words column (cmd_text cmd) (name_word cmd) (more_words cmd) (text_spaced cmd) (name_is cmd, more_are cmd is)

@@ -1,2 +1,6 @@
+pub mod Spaced
 pub mod CommandWords
 pub mod PrintedCommands
+pub mod PrintedRefusals
+pub mod PrintedAnswers
+pub mod ByteSpellings

@@ -22,7 +22,7 @@ use Rattle.fam_outcomes.specs.Texts.{cmd_text}
 use Rattle.fam_history.specs.declared.command.ToldCommand.{ToldCommand}
 use Rattle.fam_history.specs.declared.command.ToldCommand.TheVariants as told
 use Rattle.fam_history.specs.Commands.{told_line}
-use Rattle.fam_history.specs.Told.{AreAlike, IfTellingStripe, IsTelling, IsTellingAttr, IsTellingContent, IsTellingStripe, told_fill, told_of, told_text}
+use Rattle.fam_history.specs.Told.{AreAlike, IfTellingStripe, IsTelling, IsTellingAttr, IsTellingContent, IsTellingFill, IsTellingStripe, told_of, told_text}
 use Rattle.fam_history.proofs.CommandWords.{attr_words, gid_word, mode_word, more_words, name_word, seed_words, stripe_words, text_words, uid_word}
 
 -- Options.
@@ -99,20 +99,20 @@ seed_of content.Zero = None
 seed_of (content.Seed seed) = Some seed
 seed_of (content.Bytes bytes) = None
 
-seed_read : (column : ℕ) (attr : Attr) (fill : Content) (s : Option Stripe) → IsTellingContent fill → IfTellingStripe s
+seed_read : (column : ℕ) (attr : Attr) (fill : Content) (s : Option Stripe) → IsTellingFill fill → IfTellingStripe s
     → file_options creat_takes (with_attr attr) (placed column (seed_words fill ++ stripe_words s)) ≡ Reads (record (and_seed attr (seed_of fill)) { stripe = s }) []
 seed_read column attr content.Zero s is stripe = stripe_read true column attr None s stripe
-seed_read column attr (content.Bytes bytes) s is stripe = stripe_read true column attr None s stripe
+seed_read column attr (content.Bytes bytes) s is stripe = absurd is
 seed_read column attr (content.Seed seed) s is stripe =
     next creat_takes (with_attr attr) (and_seed attr (Some seed)) column (codes "seed=" ++ decimal seed) (placed (column + length (codes "seed=" ++ decimal seed) + 1) (stripe_words s)) (seed_taken attr seed is)
     ∙ stripe_read true (column + length (codes "seed=" ++ decimal seed) + 1) attr (Some seed) s stripe
 
 -- Commands.
 
-filled : (fill : Content) → fill_of (seed_of fill) ≡ told_fill fill
-filled content.Zero = refl
-filled (content.Seed seed) = refl
-filled (content.Bytes bytes) = refl
+filled : (fill : Content) → IsTellingFill fill → fill_of (seed_of fill) ≡ fill
+filled content.Zero is = refl
+filled (content.Seed seed) is = refl
+filled (content.Bytes bytes) is = absurd is
 
 count_back : (n : ℕ) → n ≤ 4096 → count_of (decimal n) ≡ Some n
 count_back n small = rw (number-decimal n (omega arith)) (below-some 4097 n (omega arith))
@@ -128,12 +128,12 @@ module _ (end column : ℕ) where
       rw (path-escaped path is.0, attr_read mkdir_takes (past (past column (codes "mkdir")) (escaped path)) attr [] is.1) refl
 
   creat_reads : (path : List ℕ) (size : ℕ) (attr : Attr) (stripe : Option Stripe) (fill : Content) → IsTelling (Creat path size attr stripe fill)
-      → told_line end (placed column (name_word (Creat path size attr stripe fill) ∷ more_words (Creat path size attr stripe fill))) ≡ Reads (told.Plain (Creat path size attr stripe (told_fill fill))) []
+      → told_line end (placed column (name_word (Creat path size attr stripe fill) ∷ more_words (Creat path size attr stripe fill))) ≡ Reads (told.Plain (Creat path size attr stripe fill)) []
   unfolding told_line command_word
   creat_reads path size attr stripe fill is =
       let at : ℕ = past (past (past column (codes "creat")) (escaped path)) (decimal size) in
       rw (path-escaped path is.0, size-decimal size is.1, attr_read creat_takes at attr (seed_words fill ++ stripe_words stripe) is.2, seed_read (past_attr at attr) attr fill stripe is.4 is.3)
-      (ap (λ (f : Content). Reads (told.Plain (Creat path size attr stripe f)) []) (filled fill))
+      (ap (λ (f : Content). Reads (told.Plain (Creat path size attr stripe f)) []) (filled fill is.4))
 
   cp_reads : (path : List ℕ) (attr : Attr) (stripe : Option Stripe) (bytes : List ℕ) → IsTelling (Cp path attr stripe bytes)
       → told_line end (placed column (name_word (Cp path attr stripe bytes) ∷ more_words (Cp path attr stripe bytes))) ≡ Reads (told.Cp path (length bytes) attr stripe) []
@@ -182,9 +182,7 @@ told_prints Logplay = refl
 told_prints Mount = refl
 told_prints Fsck = refl
 told_prints (Mkdir path attr) = refl
-told_prints (Creat path size attr stripe content.Zero) = refl
-told_prints (Creat path size attr stripe (content.Seed seed)) = refl
-told_prints (Creat path size attr stripe (content.Bytes bytes)) = refl
+told_prints (Creat path size attr stripe fill) = refl
 told_prints (Cp path attr stripe bytes) = refl
 told_prints (Verify path content.Zero) = refl
 told_prints (Verify path (content.Seed seed)) = refl

@@ -1,2 +1,9 @@
 pub mod Told
+pub mod ToldRefusals
+pub mod ToldAnswers
+pub mod Literals
 pub mod Commands
+pub mod Refusals
+pub mod Faults
+pub mod ByteWords
+pub mod Answers

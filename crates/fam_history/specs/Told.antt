@@ -14,12 +14,6 @@ use Rattle.fam_outcomes.specs.Texts.{attr_text, cmd_text, name_text, number, str
 use Rattle.fam_history.specs.declared.command.ToldCommand.{ToldCommand}
 use Rattle.fam_history.specs.declared.command.ToldCommand.TheVariants as told
 
--- the bytes of a creat, which no source gives
-abbrev pub told_fill : Content → Content
-told_fill content.Zero = content.Zero
-told_fill (content.Seed seed) = content.Seed seed
-told_fill (content.Bytes bytes) = content.Zero
-
 -- what is told of a verify
 abbrev pub verify_of : List ℕ → Content → ToldCommand
 verify_of path content.Zero = told.Plain (Verify path content.Zero)
@@ -32,7 +26,7 @@ told_of Logplay = told.Plain Logplay
 told_of Mount = told.Plain Mount
 told_of Fsck = told.Plain Fsck
 told_of (Mkdir path attr) = told.Plain (Mkdir path attr)
-told_of (Creat path size attr stripe fill) = told.Plain (Creat path size attr stripe (told_fill fill))
+told_of (Creat path size attr stripe fill) = told.Plain (Creat path size attr stripe fill)
 told_of (Cp path attr stripe bytes) = told.Cp path (length bytes) attr stripe
 told_of (Verify path against) = verify_of path against
 told_of (Read path offset count) = told.Plain (Read path offset count)
@@ -74,13 +68,19 @@ IsTellingContent content.Zero = ⊤
 IsTellingContent (content.Seed seed) = seed < 2 ^ 64
 IsTellingContent (content.Bytes bytes) = length bytes < 2 ^ 64
 
+-- zeros, or a seed of 64 bits: a creat has no bytes of a source
+abbrev pub IsTellingFill : Content → Type 0
+IsTellingFill content.Zero = ⊤
+IsTellingFill (content.Seed seed) = seed < 2 ^ 64
+IsTellingFill (content.Bytes bytes) = ⊥
+
 -- a command of such numbers, whose path is one
 abbrev pub IsTelling : Cmd → Type 0
 IsTelling Logplay = ⊤
 IsTelling Mount = ⊤
 IsTelling Fsck = ⊤
 IsTelling (Mkdir path attr) = IsTrue (is_path path) × IsTellingAttr attr
-IsTelling (Creat path size attr stripe fill) = IsTrue (is_path path) × (size < 2 ^ 64) × IsTellingAttr attr × IfTellingStripe stripe × IsTellingContent fill
+IsTelling (Creat path size attr stripe fill) = IsTrue (is_path path) × (size < 2 ^ 64) × IsTellingAttr attr × IfTellingStripe stripe × IsTellingFill fill
 IsTelling (Cp path attr stripe bytes) = IsTrue (is_path path) × (length bytes < 2 ^ 64) × IsTellingAttr attr × IfTellingStripe stripe
 IsTelling (Verify path against) = IsTrue (is_path path) × IsTellingContent against
 IsTelling (Read path offset count) = IsTrue (is_path path) × (offset < 2 ^ 64) × (count ≤ read_limit)

@@ -1,12 +1,19 @@
 //! Laws of what a history tells, with empty bodies.
 
-ghost use Rattle.std.specs.Prelude.{◌≡◌, ℕ, []};
+ghost use Rattle.std.specs.Prelude.{◌≡◌, ◌++◌, ℕ, [], List};
 ghost use Rattle.fam_base.specs.declared.cmd.Cmd.{Cmd};
 ghost use Rattle.fam_grammar.specs.Reading.{Reads};
 ghost use Rattle.fam_grammar.specs.Words.{words_from};
 ghost use Rattle.fam_history.specs.Commands.{told_line};
 ghost use Rattle.fam_history.specs.Told.{AreAlike, IsTelling, told_of, told_text};
-ghost use Rattle.fam_outcomes.specs.Texts.{cmd_text};
+ghost use Rattle.fam_history.specs.Answers.{answer_line};
+ghost use Rattle.fam_history.specs.Refusals.{refusal_line};
+ghost use Rattle.fam_history.specs.ToldAnswers.{IsTellingAnswer, answer_lines, answer_told, told_answer_text};
+ghost use Rattle.fam_history.specs.ToldRefusals.{IsTellingRefusal, refusal_told};
+ghost use Rattle.fam_history.specs.declared.answer.ToldAnswer.{ToldAnswer};
+ghost use Rattle.fam_journal.specs.Notes.{Answer};
+ghost use Rattle.fam_journal.specs.declared.refusal.Refusal.{Refusal};
+ghost use Rattle.fam_outcomes.specs.Texts.{answer_text, cmd_text, line, refusal_text};
 
 /// A command whose numbers are those of the code reads, from its text, as what is told of it (`reads`); and what is told
 /// of it prints as that text (`prints`). So commands of one text are the same but for bytes (`alike`), and a text tells no
@@ -16,4 +23,19 @@ pub fn a_printed_command_reads()
         → told_line end (words_from column (cmd_text cmd)) ≡ Reads (told_of cmd) [] }
     ensures prints { (cmd : Cmd) → told_text (told_of cmd) ≡ cmd_text cmd }
     ensures alike { (a b : Cmd) → IsTelling a → IsTelling b → cmd_text a ≡ cmd_text b → AreAlike a b }
+{}
+
+/// A refusal whose numbers are those of the code reads, from its text, as what is told of it.
+pub fn a_printed_refusal_reads()
+    ensures { (names : List (List ℕ)) (cause : Refusal) (column end : ℕ) → IsTellingRefusal names cause
+        → refusal_line end (words_from column (refusal_text names cause)) ≡ Reads (refusal_told names cause) [] }
+{}
+
+/// The first line of an answer reads as what it tells (`reads`); and an answer's text is the line of what is told of it,
+/// and behind it those of a listing or of a report (`prints`).
+pub fn a_printed_answer_reads()
+    ensures reads { (given : ToldAnswer) (column end : ℕ) → IsTellingAnswer given
+        → answer_line end (words_from column (told_answer_text given)) ≡ Reads given [] }
+    ensures prints { (answer : Answer)
+        → answer_text answer ≡ line (told_answer_text (answer_told answer)) ++ answer_lines answer }
 {}

@@ -1,13 +1,25 @@
-//! A recorded history of hosts: its lines, read back as what a journal's text tells.
+//! A recorded history of hosts: the words of its lines, read back as what a journal's text tells.
 //!
-//! `specs/Told.antt` says what a journal's text tells of a command, and `specs/Commands.antt` is the grammar of a command as it
-//! starts. Lines are cut into words as those of every script, by fam_grammar.
+//! `specs/Told.antt`, `ToldRefusals.antt` and `ToldAnswers.antt` say what a text tells. `specs/Commands.antt`, `Refusals.antt` and
+//! `Answers.antt` are the grammars of a command as it starts, of a refusal, and of an answer's first line. Lines are cut into
+//! words as those of every script, by fam_grammar.
 #![tactic(auto)]
 
+mod answer;
+mod answers;
+mod byte_words;
 mod command;
 mod commands;
+mod faults;
 mod laws;
+mod literals;
+mod refusal;
+mod refusals;
 
+pub use answer::ToldAnswer;
+pub use answers::told_answer;
 pub use command::ToldCommand;
 pub use commands::told_command;
-pub use laws::a_printed_command_reads;
+pub use laws::{a_printed_answer_reads, a_printed_command_reads, a_printed_refusal_reads};
+pub use refusal::ToldRefusal;
+pub use refusals::told_refusal;

@@ -1,13 +1,14 @@
 -- What explains a history.
-use Rattle.std.proofs.Common.{◌≡◌, ℕ, List, [], ◌∷◌, ◌++◌, length, refl, ap, sym, ◌∙◌, subst, append-nil, append_assoc}
+use Rattle.std.proofs.Common.{◌≡◌, ℕ, List, [], ◌∷◌, ◌++◌, length, refl, sym, subst}
 use Rattle.fam_base.specs.Image.{Image}
 use Rattle.fam_journal.specs.Legal.{Allowed, Legal, LegalBehind}
 use Rattle.fam_journal.specs.Notes.{Note}
 use Rattle.fam_journal.specs.Past.{Past, first_past, past_after, past_behind, past_of}
 use Rattle.fam_journal.specs.Shapes.{HostShape, shapes_after}
-use Rattle.fam_judge.specs.Explained.{AreAllowedForSome, AreFormed, IsAllowedForSome, IsExplained, IsExplainedBy}
-use Rattle.fam_judge.specs.Shows.{Shows}
-use Rattle.fam_judge.proofs.Showing.{Parts, parts, shows_itself}
+use Rattle.fam_judge.specs.Alike.{AreTold}
+use Rattle.fam_judge.specs.Explained.{AreAllowedForSome, AreFormed, IsExplained, IsExplainedBy}
+use Rattle.fam_judge.proofs.Showing.{parts, shows_itself, whole}
+use Rattle.fam_judge.proofs.Telling.{alike_is, told-append}
 
 -- one note more
 one_more : (past : Past) (before : List Note) (note : Note) → past_behind past (before ++ note ∷ []) ≡ past_after (past_behind past before) note
@@ -42,4 +43,22 @@ first_explained start first rest is =
         formed = formed_front (length start) [] part.front part.back (subst (λ (l : List Note). AreFormed (length start) [] l) part.whole is.1.formed);
         allowed = allowed_front start [] part.front part.back (subst (λ (l : List Note). AreAllowedForSome start [] l) part.whole is.1.allowed);
       },
+    )
+
+-- what is allowed for some bytes is legal where all is told
+allowed_legal : (start : Image) (before notes : List Note) → AreTold before → AreTold notes → AreAllowedForSome start before notes
+    → LegalBehind (past_of start before) notes
+allowed_legal start before [] told more allowed = tt
+allowed_legal start before (note ∷ notes) told more allowed = (
+  subst (λ (chosen : List Note). Allowed (past_of start chosen) note) (sym (alike_is before allowed.0.chosen told allowed.0.alike)) allowed.0.allowed,
+  subst (λ (past : Past). LegalBehind past notes) (one_more (first_past start) before note)
+      (allowed_legal start (before ++ note ∷ []) notes (told-append before (note ∷ []) told (more.0, tt)) more.1 allowed.1),
+)
+
+pub explained_legal : (start : Image) (history journal : List Note) → IsExplainedBy start history journal → length history ≡ length journal → AreTold history
+    → Legal start history × AreFormed (length start) [] history
+explained_legal start history journal is same told =
+    let one : journal ≡ history = sym (whole history journal is.shown same) in (
+      allowed_legal start [] history tt told (subst (λ (l : List Note). AreAllowedForSome start [] l) one is.allowed),
+      subst (λ (l : List Note). AreFormed (length start) [] l) one is.formed,
     )

@@ -1,7 +1,7 @@
 -- What a history shows.
-use Rattle.std.proofs.Common.{◌≡◌, ℕ, suc, ◌+◌, ◌<◌, ◌≤◌, ◌⊎◌, inl, inr, Bool, List, [], ◌∷◌, ◌++◌, length, IsTrue, refl, ap, sym, ◌∙◌, subst, arith}
+use Rattle.std.proofs.Common.{◌≡◌, ◌≤◌, inl, inr, List, [], ◌∷◌, ◌++◌, length, refl, ap, ◌∙◌, arith}
 use Rattle.fam_journal.specs.Notes.{Note}
-use Rattle.fam_judge.specs.Shows.{Shows, is_inner}
+use Rattle.fam_judge.specs.Shows.{Shows}
 
 -- a journal shows itself
 pub shows_itself : (journal : List Note) → Shows journal journal

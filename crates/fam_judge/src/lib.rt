@@ -6,4 +6,7 @@
 
 mod laws;
 
-pub use laws::{first_lines_are_explained, what_is_legal_is_explained, where_no_line_is_left_out};
+pub use laws::{
+    a_task_is_formed, first_lines_are_explained, what_is_legal_is_explained,
+    where_no_line_is_left_out,
+};
