@@ -1,5 +1,5 @@
 -- Rows of slots that a host has found before: each is loaded and looked at, one behind another.
-use Rattle.std.proofs.Common.{◌≡◌, ℕ, zero, suc, ◌+◌, ◌-◌, ◌<◌, ◌≤◌, Bool, true, false, cond, nat_lt, inl, inr, List, [], Option, None, take, drop, refl, sym, ap, ap₂, subst, ◌∙◌, arith}
+use Rattle.std.proofs.Common.{◌≡◌, ℕ, suc, ◌+◌, ◌-◌, ◌<◌, ◌≤◌, Bool, true, false, cond, nat_lt, inl, inr, List, [], Option, None, take, drop, refl, sym, ap, ap₂, subst, ◌∙◌, arith}
 use Rattle.std.proofs.lemmas.List.{get_or-take, get_or-drop}
 use Rattle.std.proofs.lemmas.Bool.{cases_lt, false≢true, lt-ltb, ltb-false}
 use Rattle.fam_base.specs.Image.{Image, IsNormal, eight, line_at}
@@ -18,7 +18,7 @@ use Rattle.fam_commands.specs.Task.{Task}
 use Rattle.fam_commands.specs.Turns.{turn_of}
 use Rattle.fam_media.specs.Causes.{Rose}
 use Rattle.fam_media.specs.Outside.{IfModelled}
-use Rattle.fam_media.specs.Runs.{AreRead, line_in}
+use Rattle.fam_media.specs.Runs.{AreRead}
 use Rattle.fam_cache.specs.BroughtRuns.{AreClean, IsClean, LacksNone, brought_run}
 use Rattle.fam_cache.proofs.CleanRuns.{brought_both, clean_behind}
 use Rattle.fam_cache.proofs.SetRuns.{brought_take}
@@ -27,12 +27,11 @@ use Rattle.fam_tasks.specs.declared.answer.Turn.TheVariants.{Go}
 use Rattle.fam_tasks.specs.Rest.{DropsLine}
 use Rattle.fam_tasks.specs.SlotLines.{FindsSlot, LoadsSlotLines}
 use Rattle.fam_tasks.specs.Sound.{IsSound}
-use Rattle.fam_tasks.specs.Tells.{Keeps, Tells}
+use Rattle.fam_tasks.specs.Tells.{Tells}
 use Rattle.fam_tasks.proofs.Keeping.{go_keeps}
 use Rattle.fam_run.specs.Checked.{IsChecked, did}
 use Rattle.fam_run.specs.Led.{HasBrokenOff, HasDone}
 use Rattle.fam_run.specs.Rows.{BreaksRow, FindsSlots, more, none}
-use Rattle.fam_run.specs.TaskChange.{TaskChange}
 use Rattle.fam_run.proofs.Cached.{tells_go}
 use Rattle.fam_run.proofs.Checked.{checked, checked_behind}
 use Rattle.fam_run.proofs.Joined.{broken_behind, done_both}

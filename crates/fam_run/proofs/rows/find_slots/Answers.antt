@@ -1,11 +1,10 @@
-use Rattle.std.proofs.Common.{◌≡◌, ◌+◌, ◌-◌, ◌∙◌, ℕ, suc, List, take, drop, sym, ap, subst, refl, arith}
-use Rattle.fam_base.specs.declared.entry.Params.{Params}
-use Rattle.fam_format.specs.Layout.{geometry, slot_line}
+use Rattle.std.proofs.Common.{◌≡◌, ◌+◌, ◌-◌, ◌∙◌, ℕ, suc, take, drop, ap, subst, refl, arith}
+use Rattle.fam_format.specs.Layout.{slot_line}
 use Rattle.fam_commands.specs.declared.phase.Part.TheVariants.{Slot}
 use Rattle.fam_commands.specs.declared.phase.Phase.TheVariants as at
 use Rattle.fam_tasks.specs.SlotLines.{FindsSlot}
 use Rattle.fam_run.specs.Rows.{FindsSlots, more, none}
-use Rattle.fam_run.proofs.SlotRows.{found_none, next_drop, slot_line_next}
+use Rattle.fam_run.proofs.SlotRows.{next_drop, slot_line_next}
 use Rattle.fam_run.proofs.rows.find_slots.Goals as goal
 
 pub slots-init : goal.slots-init

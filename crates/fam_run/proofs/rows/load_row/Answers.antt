@@ -1,10 +1,8 @@
-use Rattle.std.proofs.Common.{◌≡◌, ◌+◌, ◌≤◌, ◌∙◌, ℕ, suc, true, length, sym, ap, subst, inl, inr, arith}
-use Rattle.std.proofs.lemmas.Bool.{ltb-true}
+use Rattle.std.proofs.Common.{◌≡◌, ◌≤◌, suc, length, sym, ap, subst, arith}
 use Rattle.fam_cache.specs.States.{CacheState}
 use Rattle.fam_cache.specs.BroughtRuns.{LacksNone}
 use Rattle.fam_cache.proofs.CleanRuns.{lacks_none_clean}
 use Rattle.fam_tasks.specs.declared.answer.Turn.{Turn}
-use Rattle.fam_tasks.specs.declared.answer.Turn.TheVariants.{Go}
 use Rattle.fam_run.specs.Led.{HasDone}
 use Rattle.fam_run.specs.TaskChange.{task_change}
 use Rattle.fam_run.proofs.SlotRows.{first_judged, row_breaks, row_done, wide_read}
