@@ -4,7 +4,6 @@ use Rattle.fam_commands.specs.Task.{Task, op_at, op_of}
 use Rattle.fam_commands.specs.Turns.{turn_of}
 use Rattle.fam_commands.specs.declared.phase.Phase.TheVariants as at
 use Rattle.fam_machine.specs.Caches.{Cache}
-use Rattle.fam_machine.specs.declared.op.Op.{Op}
 use Rattle.fam_machine.specs.declared.op.Op.TheVariants.{Digest}
 use Rattle.fam_media.specs.States.{MediaState}
 use Rattle.fam_tasks.specs.Sound.{IsSound}

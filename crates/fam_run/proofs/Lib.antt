@@ -21,3 +21,4 @@ pub mod SentLeft
 pub mod SlotRuns
 pub mod Readers
 pub mod Shown
+pub mod SlotRows

@@ -39,15 +39,15 @@ slot_line_is t line slot first j phase is due =
     let same : part_line t (Slot due.slot) due.j ≡ part_line t (Slot slot) j = sym (ap (dropped_line t) due.phase) ∙ ap (dropped_line t) phase in
     omega (arith, due.is, same, is)
 
--- a line behind those that were brought
-brought_other : (first : ℕ) (lines : List (List ℕ)) (k : ℕ) (cache : Cache) (q : ℕ) → first + k ≤ q → cell_at (brought_run first lines k cache) q ≡ cell_at cache q
+-- a line behind those that were brought, in such a row
+pub brought_other : (first : ℕ) (lines : List (List ℕ)) (k : ℕ) (cache : Cache) (q : ℕ) → first + k ≤ q → cell_at (brought_run first lines k cache) q ≡ cell_at cache q
 brought_other first lines zero cache q behind = refl
 brought_other first lines (suc k) cache q behind =
     cell_at-with_cell_other (first + k) (Clean (eight (line_in lines k))) (brought_run first lines k cache) q (λ e. omega (arith, e, behind))
     ∙ brought_other first lines k cache q (omega (arith, behind))
 
 -- a media that shows the same image, before and behind operations of a task
-abbrev change : (lines before now : ℕ) (modelled shown : Option Image) → Task → Cache → Task → Cache → TaskChange
+abbrev pub change : (lines before now : ℕ) (modelled shown : Option Image) → Task → Cache → Task → Cache → TaskChange
 change lines before now modelled shown task old next new = record {
   task = task;
   next = next;

@@ -7,3 +7,4 @@ pub mod Runs
 pub mod Room
 pub mod Places
 pub mod Shows
+pub mod Rows

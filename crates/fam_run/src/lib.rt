@@ -9,6 +9,7 @@ mod checking;
 mod comparing;
 mod operation;
 mod rest;
+mod rows;
 mod slot_run;
 mod slots;
 mod storing;

@@ -43,7 +43,7 @@ fn make_lines(lines: &mut Vec<Line>, count: usize) -> bool
 
 /// The line of a slot that comes so many behind its first one.
 #[inline(always)]
-fn behind(due: SlotDue, line: u64) -> SlotDue
+pub(crate) fn behind(due: SlotDue, line: u64) -> SlotDue
     ensures slot { result.slot ≡ due.slot }
     ensures first { result.first ≡ due.first }
     ensures line { result.line ≡ line }

@@ -21,6 +21,7 @@ ghost use Rattle.fam_run.specs.Room.{LacksRoomWhole, WantsRoom};
 
 use crate::checking::check_loaded;
 use crate::operation::operate;
+use crate::rows::{ROW_LINES, load_row, row_from};
 use crate::slot_run::{has_lines, load_run};
 use fam_base::Line;
 use fam_cache::{CacheFault, HostCache, OperationFault};
@@ -133,6 +134,7 @@ fn load_each<M: Media>(
 
 /// Drops and loads the lines of a slot from the one on that the task drops next, up to the slot's last one: all of them by one
 /// call of the media, where memory lacks no word of them, behind which the slot's words are looked at, and else as `load_each`.
+/// Where an earlier task of the host found words in the slots that come next, those of many slots by one call (`load_row`).
 /// `lines` is lent as room for their words.
 ///
 /// `MediaFault` names the line: those before it were loaded, it was dropped, and the task stands before its first word.
@@ -159,8 +161,12 @@ pub(crate) fn load_slot<M: Media>(
     ensures want { IsErrOf result OperationFault.OutOfMemory → WantsRoom task.old cache.old }
     ensures steady { IsSteady M.size M.state media.old media.new }
 {
-    if due.line == 0 && has_lines(lines, due.lines as usize) {
-        match load_run(cache, task, media, due, lines.as_mut_slice()) {
+    if due.line == 0 && due.lines <= ROW_LINES as u64 && has_lines(lines, ROW_LINES) {
+        let row = row_from(cache, task, media, due);
+        if row.1 > 0 {
+            return load_row(cache, task, media, turn, due, row.0, &mut lines[..row.1]);
+        }
+        match load_run(cache, task, media, due, &mut lines[..due.lines as usize]) {
             Ok(true) => {
                 check_loaded(task, turn);
                 return Ok(());

@@ -1,4 +1,4 @@
-use Rattle.std.proofs.Common.{◌≡◌, Option, None, refl, sym, subst, inl}
+use Rattle.std.proofs.Common.{Option, None, refl, sym, subst, inl}
 use Rattle.fam_format.specs.declared.faults.Reason.{Reason}
 use Rattle.fam_commands.specs.Turns.{turn_of}
 use Rattle.fam_machine.specs.declared.op.Op.{Op}
