@@ -14,7 +14,6 @@ pub mod Joined
 pub mod SlotLines
 pub mod FirstStores
 pub mod SentRuns
-pub mod Gathered
 pub mod RunAlone
 pub mod Checked
 pub mod SentLeft

@@ -20,10 +20,12 @@ use Rattle.fam_base.specs.declared.line.LineNo.{LineNo}
 use Rattle.fam_tasks.specs.Rest as rest
 use Rattle.fam_tasks.specs.Rest.{Stores}
 use Rattle.fam_tasks.specs.Sound.{IsSound}
+use Rattle.fam_tasks.specs.StoreRuns.{StoresNext, StoresRun}
+use Rattle.fam_tasks.specs.StoreRuns as row
 use Rattle.fam_tasks.specs.Tells.{Tells}
 use Rattle.fam_run.specs.Led.{HasDone}
 use Rattle.fam_run.specs.Places.{KeepsPlaces}
-use Rattle.fam_run.specs.Runs.{HasRun, HasRunOff, Sent, StoresNext, StoresRun}
+use Rattle.fam_run.specs.Runs.{HasRun, HasRunOff, Sent}
 use Rattle.fam_run.specs.Runs as run
 use Rattle.fam_run.specs.TaskChange.{TaskChange}
 use Rattle.fam_run.proofs.PlacesKept.{put_kept}
@@ -61,8 +63,8 @@ told_kept t next (turns.Writes seq e on) keeps goes = absurd (let is = goes.0 in
 told_kept t next (turns.Ends reply) keeps goes = absurd goes
 
 pub chain_kept : (first : ℕ) (lines : List (List ℕ)) (t next : Task) (n : ℕ) → StoresRun first lines t next n → next.kept ≡ t.kept
-chain_kept first lines t _ _ run.none = refl
-chain_kept first lines t next _ (run.more {mid = mid} {sending = sending} {n = n} before s tells) =
+chain_kept first lines t _ _ row.none = refl
+chain_kept first lines t next _ (row.more {mid = mid} {sending = sending} {n = n} before s tells) =
     told_kept sending next (turn_of sending None) (turn_tells sending.phase sending 0) tells ∙ sending_kept first lines n mid sending s ∙ chain_kept first lines t mid n before
 
 -- Memory behind the first lines of a run.
@@ -98,8 +100,8 @@ module _ (first : ℕ) (lines : List (List ℕ)) (modelled : Option Image) (old 
 
   -- all lines of a run
   pub run_sent : (t next : Task) (n : ℕ) → StoresRun first lines t next n → IsSound next → absent_up_to n → Sent modelled t old (run_written first lines n modelled) next old
-  run_sent t _ _ run.none sound absent = subst (λ (m : Option Image). Sent modelled t old m t old) (sym (none_written first lines modelled)) run.none
-  run_sent t next _ (run.more {mid = mid} {sending = sending} {n = n} before s tells) sound absent =
+  run_sent t _ _ row.none sound absent = subst (λ (m : Option Image). Sent modelled t old m t old) (sym (none_written first lines modelled)) run.none
+  run_sent t next _ (row.more {mid = mid} {sending = sending} {n = n} before s tells) sound absent =
       run.more (run_sent t mid n before s.sound (λ k below. absent k (omega (arith, below))))
       (record {
         number = s.due.j;
@@ -111,8 +113,8 @@ module _ (first : ℕ) (lines : List (List ℕ)) (modelled : Option Image) (old 
 
   -- the last line of a run was sent, and those before it
   pub run_done : (t next : Task) (n : ℕ) → 0 < n → StoresRun first lines t next n → absent_up_to n → (size before now : ℕ) (new : Cache) (shown : Option Image) → new ≡ old → shown ≡ run_written first lines n modelled → HasRun (around t next old new modelled shown size before now) Go
-  run_done t _ _ some run.none absent size before now new shown same written = absurd (omega (arith, some))
-  run_done t next _ some (run.more {mid = mid} {sending = sending} {n = n} earlier s tells) absent size before now new shown same written = record {
+  run_done t _ _ some row.none absent size before now new shown same written = absurd (omega (arith, some))
+  run_done t next _ some (row.more {mid = mid} {sending = sending} {n = n} earlier s tells) absent size before now new shown same written = record {
     mid = run_written first lines n modelled;
     task = mid;
     held = old;
@@ -128,8 +130,8 @@ pub record BeginsLine (first : ℕ) (lines : List (List ℕ)) (t : Task) (k : �
   pub next : StoresNext first lines k mid sending
 
 pub begins_line : (first : ℕ) (lines : List (List ℕ)) (t next : Task) (n k : ℕ) → StoresRun first lines t next n → k < n → BeginsLine first lines t k
-begins_line first lines t _ _ k run.none below = absurd (omega (arith, below))
-begins_line first lines t next _ k (run.more {mid = mid} {sending = sending} {n = n} before s tells) below =
+begins_line first lines t _ _ k row.none below = absurd (omega (arith, below))
+begins_line first lines t next _ k (row.more {mid = mid} {sending = sending} {n = n} before s tells) below =
     elim (cases_eq k n) [
       | inl e ↦ subst (λ (z : ℕ). BeginsLine first lines t z) (sym e) (record { mid = mid; sending = sending; earlier = before; next = s })
       | inr other ↦ begins_line first lines t mid n k before (omega (arith, below, other))
@@ -150,16 +152,11 @@ module _ (first : ℕ) (lines : List (List ℕ)) (modelled : Option Image) (old 
 
 -- a run keeps the places of an append
 run_kept_here : (first : ℕ) (lines : List (List ℕ)) (t next : Task) (n : ℕ) (cache : CacheState) → StoresRun first lines t next n → KeepsPlaces t cache next cache
-run_kept_here first lines t _ _ cache run.none = λ has. has
-run_kept_here first lines t next _ cache (run.more {mid = mid} {sending = sending} {n = n} before s tells) = λ has.
+run_kept_here first lines t _ _ cache row.none = λ has. has
+run_kept_here first lines t next _ cache (row.more {mid = mid} {sending = sending} {n = n} before s tells) = λ has.
     put_kept (line_no (first + n)) (line_in lines n) mid cache s.due sending next cache s.sound s.sending_sound s.stores (omega arith) tells (run_kept_here first lines t mid n cache before has)
 
 pub run_kept : (first : ℕ) (lines : List (List ℕ)) (t next : Task) (n : ℕ) (cache after : CacheState) → 0 < n → StoresRun first lines t next n → cache.spare ≤ after.spare → KeepsPlaces t cache next after
-run_kept first lines t _ _ cache after some run.none le = absurd (omega (arith, some))
-run_kept first lines t next _ cache after some (run.more {mid = mid} {sending = sending} {n = n} before s tells) le = λ has.
+run_kept first lines t _ _ cache after some row.none le = absurd (omega (arith, some))
+run_kept first lines t next _ cache after some (row.more {mid = mid} {sending = sending} {n = n} before s tells) le = λ has.
     put_kept (line_no (first + n)) (line_in lines n) mid cache s.due sending next after s.sound s.sending_sound s.stores le tells (run_kept_here first lines t mid n cache before has)
-
--- of no lines nothing was done
-pub none_done : (first : ℕ) (lines : List (List ℕ)) (t next : Task) (n : ℕ) → n ≡ 0 → StoresRun first lines t next n → next ≡ t
-none_done first lines t _ _ is run.none = refl
-none_done first lines t next _ is (run.more before s tells) = absurd (omega (arith, is))

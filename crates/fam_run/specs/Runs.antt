@@ -1,35 +1,18 @@
 -- Lines of the new file that are stored and sent one behind another, by one write of the media.
-use Rattle.std.specs.Prelude.{ℕ, suc, ◌+◌, ◌≡◌, List, Option, None, Result, Ok, Err}
+use Rattle.std.specs.Prelude.{ℕ, ◌≡◌, Option, None, Result, Ok, Err}
 use Rattle.fam_base.specs.Image.{Image}
 use Rattle.fam_base.specs.declared.line.LineNo.{LineNo}
 use Rattle.fam_cache.specs.declared.fault.OperationFault.{OperationFault}
 use Rattle.fam_cache.specs.declared.fault.OperationFault.TheVariants as fault
 use Rattle.fam_machine.specs.Caches.{Cache}
-use Rattle.fam_machine.specs.Operations.{line_no}
 use Rattle.fam_commands.specs.Task.{Task}
 use Rattle.fam_commands.specs.declared.phase.Phase.TheVariants as at
-use Rattle.fam_commands.specs.Turns.{turn_of}
-use Rattle.fam_media.specs.Runs.{line_in}
 use Rattle.fam_tasks.specs.declared.answer.Turn.{Turn}
 use Rattle.fam_tasks.specs.declared.answer.Turn.TheVariants.{Go}
-use Rattle.fam_tasks.specs.Rest.{IsFileLineDue, StoresFileLine}
 use Rattle.fam_tasks.specs.Sound.{IsSound}
-use Rattle.fam_tasks.specs.Tells.{Tells}
 use Rattle.fam_run.specs.Led.{HasBrokenOff, HasDone}
 use Rattle.fam_run.specs.Operation.{IsUndone}
 use Rattle.fam_run.specs.TaskChange.{TaskChange}
-
--- the first task stores line k of these, word by word, and goes on up to the other, which sends it
-pub record StoresNext (first : ℕ) (lines : List (List ℕ)) (k : ℕ) (t sending : Task) : Type 0 where
-  pub sound : IsSound t
-  pub due : IsFileLineDue (line_no (first + k)) (line_in lines k) t
-  pub stores : StoresFileLine (line_no (first + k)) (line_in lines k) t sending
-  pub sending_sound : IsSound sending
-
--- the first task stores and sends so many of these lines, from line `first` on, and goes on up to the last task
-pub data StoresRun (first : ℕ) (lines : List (List ℕ)) : Task → Task → ℕ → Type 0 where
-  none : {t : Task} → StoresRun first lines t t 0
-  more : {t mid sending next : Task} {n : ℕ} → StoresRun first lines t mid n → StoresNext first lines n mid sending → Tells (turn_of sending None) Go next → StoresRun first lines t next (suc n)
 
 -- a task and its host's cache, before and behind operations that lead memory's image from one to another, on a media of so many
 -- lines of which no call fails

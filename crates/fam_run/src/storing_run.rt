@@ -6,7 +6,7 @@
 //! where it was written alone. The task has gone further, but it has ended, and nobody sees that. The lines' words
 //! stand in room of 64 KiB, which is taken when it is first needed; without that memory each line goes alone.
 
-ghost use Rattle.std.specs.Prelude.{◌≡◌, ◌+◌, ◌^◌, ◌<◌, ◌≤◌, [], IfErr, IfOk, IfSome, IsErrOf, ℕ, false, length, true, vec_capacity};
+ghost use Rattle.std.specs.Prelude.{◌≡◌, ◌+◌, ◌<◌, ◌≤◌, IfErr, IsErrOf, OnOk, ℕ, length, true};
 ghost use Rattle.fam_cache.specs.Operations.{SendsWithin};
 ghost use Rattle.fam_commands.specs.Task.{op_of};
 ghost use Rattle.fam_commands.specs.declared.phase.Phase.TheVariants as at;
@@ -16,112 +16,79 @@ ghost use Rattle.fam_media.specs.Causes.{IsSteady};
 ghost use Rattle.fam_run.specs.Operation.{said_of};
 ghost use Rattle.fam_run.specs.Places.{KeepsPlaces, PlacesKept};
 ghost use Rattle.fam_run.specs.Room.{WantsRoom};
-ghost use Rattle.fam_run.specs.Runs.{HasAdvanced, HasRun, HasRunOff, StoresRun};
+ghost use Rattle.fam_run.specs.Runs.{HasAdvanced, HasRun, HasRunOff};
 ghost use Rattle.fam_run.specs.TaskChange.{task_change};
+ghost use Rattle.fam_tasks.specs.StoreRuns.{IsRow};
 ghost use Rattle.fam_tasks.specs.declared.answer.Turn.TheVariants.{Go};
 
+use crate::slot_run::has_lines;
 use crate::storing::store_line;
 use fam_base::{Line, LineNo};
 use fam_cache::{HostCache, OperationFault};
 use fam_media::Media;
-use fam_tasks::{Due, Task, Turn};
+use fam_tasks::{Task, Turn};
 
 /// The most lines that are sent by one call: those of 64 KiB.
 const MOST_LINES: u64 = 1024;
 
-/// Goes with a task over the storing and the sending of lines of its new file, from this one on, as long as each stands behind
-/// the one before it, but over no more than `most`. Their words are put into `lines`, which has room for them.
-fn gather(task: &mut Task, first: LineNo, most: usize, lines: &mut Vec<Line>)
-    requires empty { lines.old.items ≡ [] }
-    requires room { most ≤ vec_capacity lines.old }
-    requires fits { first.0 + most < 2 ^ 64 }
-    ensures few { length lines.new.items ≤ most }
-    ensures stores { StoresRun first.0 lines.new.items task.old task.new (length lines.new.items) }
-{
-    for count in 0..most {
-        task.is_sound();
-        let Due::Stored(number) = task.due() else {
-            return;
-        };
-        let due = task.line_due(number);
-        if due.0.0 != first.0 + count as u64 {
-            return;
-        }
-        lines.push_reserved(due.1);
-        task.store_line(due.0, &due.1);
-        task.is_sound();
-        task.read_on(None);
-    }
-}
-
-/// Stores and sends lines of the new file, from this one on: as many as stand behind one another, but no more than `most`, by
-/// one call. The host holds none of them, and has room for one more line. Of no lines nothing is done, and the answer is that.
+/// Stores and sends lines of the new file that stand one behind another, from this one on, as many as `lines` has, by one call.
+/// The host holds none of them, and has room for one more line. `lines` is where their words are put.
 fn store_run<M: Media>(
     cache: &mut HostCache,
     task: &mut Task,
     media: &mut M,
     first: LineNo,
-    most: usize,
-    lines: &mut Vec<Line>,
-) -> Result<bool, LineNo>
+    number: u64,
+    lines: &mut [Line],
+) -> Result<(), LineNo>
     requires lines { task.old.lines ≡ M.size media.old }
-    requires fits { first.0 + most ≤ M.size media.old }
+    requires fits { first.0 + length lines.old ≤ M.size media.old }
     requires room { 1 ≤ cache.old.spare }
-    requires absent { (k : ℕ) → k < most → cell_at cache.old.lines (first.0 + k) ≡ Cell.Absent }
-    requires empty { lines.old.items ≡ [] }
-    requires space { most ≤ vec_capacity lines.old }
+    requires absent { (k : ℕ) → k < length lines.old → cell_at cache.old.lines (first.0 + k) ≡ Cell.Absent }
+    requires due { task.old.phase ≡ at.StoreData number 0 }
+    requires some { 0 < length lines.old }
+    requires row { IsRow first.0 number (length lines.old) task.old }
 
-    ensures stored { IfOk result (λ stored. stored ≡ true → HasRun
+    ensures stored { OnOk result (HasRun
         (task_change M.size M.state task.old task.new cache.old cache.new media.old media.new) Go) }
     ensures failed { IfErr result (HasRunOff
         (task_change M.size M.state task.old task.new cache.old cache.new media.old media.new)) }
-
-    ensures other { IfOk result (λ stored. stored ≡ false → media.new ≡ media.old) }
-    ensures other_cache { IfOk result (λ stored. stored ≡ false → cache.new ≡ cache.old) }
-    ensures other_task { IfOk result (λ stored. stored ≡ false → task.new ≡ task.old) }
-    ensures places { IfOk result (λ stored. stored ≡ true → KeepsPlaces task.old cache.old task.new cache.new) }
+    ensures places { OnOk result (KeepsPlaces task.old cache.old task.new cache.new) }
     ensures steady { IsSteady M.size M.state media.old media.new }
 {
     // How many lines there are at most.
     let _ = media.lines();
-    gather(task, first, most, lines);
-    if lines.is_empty() {
-        return Ok(false);
-    }
+    task.store_run(first, number, lines);
     match cache.put_run(media, first, lines) {
-        Ok(()) => Ok(true),
+        Ok(()) => Ok(()),
         Err(failed) => Err(LineNo(first.0 + failed.done as u64)),
     }
 }
 
-/// How many lines may be sent by one call from this one on: the host is known to hold none of them, there is room in the cache
-/// for one more line, and room for their words. None where one alone may be, or where memory lacks.
-fn run_length<M: Media>(
+/// Whether lines from this one on, of a row of so many, may be sent by one call: the host is known to hold none of them, there
+/// is room in the cache for one more line, and room for their words, which is made in `lines`: it has as many. Not so where one
+/// alone may be, or where memory lacks.
+fn makes_run<M: Media>(
     cache: &HostCache,
     media: &M,
     first: LineNo,
+    row: u64,
     lines: &mut Vec<Line>,
-) -> Option<usize>
+) -> bool
     requires within { first.0 < M.size media.now }
-    ensures fits { IfSome result (λ most. first.0 + most ≤ M.size media.now) }
-    ensures room { IfSome result (λ most. 1 ≤ cache.now.spare) }
-    ensures absent { IfSome result (λ most. (k : ℕ) → k < most → cell_at cache.now.lines (first.0 + k) ≡ Cell.Absent) }
-    ensures empty { IfSome result (λ most. lines.new.items ≡ []) }
-    ensures space { IfSome result (λ most. most ≤ vec_capacity lines.new) }
+    ensures fits { result ≡ true → first.0 + length lines.new.items ≤ M.size media.now }
+    ensures room { result ≡ true → 1 ≤ cache.now.spare }
+    ensures absent { result ≡ true → (k : ℕ) → k < length lines.new.items
+        → cell_at cache.now.lines (first.0 + k) ≡ Cell.Absent }
+    ensures some { result ≡ true → 0 < length lines.new.items }
+    ensures row { result ≡ true → length lines.new.items ≤ row }
 {
     if !cache.has_room() {
-        return None;
+        return false;
     }
     let left = media.lines() - first.0;
-    let most = cache.absent_run(first, left.min(MOST_LINES)) as usize;
-    if most < 2 {
-        return None;
-    }
-    lines.clear();
-    match lines.reserve(most) {
-        Ok(()) => Some(most),
-        Err(_) => None,
-    }
+    let count = cache.absent_run(first, left.min(row)) as usize;
+    count > 1 && has_lines(lines, count)
 }
 
 /// Stores all words of lines of the new file, of which the task stores word 0 of the first one next, and sends the lines: those
@@ -148,13 +115,12 @@ pub(crate) fn store_lines<M: Media>(
     ensures places { PlacesKept task.old cache.old task.new cache.new (said_of result turn.new) }
     ensures steady { IsSteady M.size M.state media.old media.new }
 {
-    let first = task.line_due(number).0;
-    let Some(most) = run_length(cache, media, first, lines) else {
+    let (first, row) = task.row_due(number, MOST_LINES);
+    if !makes_run(cache, media, first, row, lines) {
         return store_line(cache, task, media, turn, number);
-    };
-    match store_run(cache, task, media, first, most, lines) {
-        Ok(true) => Ok(()),
-        Ok(false) => store_line(cache, task, media, turn, number),
+    }
+    match store_run(cache, task, media, first, number, lines.as_mut_slice()) {
+        Ok(()) => Ok(()),
         Err(line) => Err(OperationFault::MediaFault(line)),
     }
 }
