@@ -21,7 +21,11 @@ use fam_journal::Ask;
 use std::alloc::Global;
 
 /// The options that are left, all of them.
-fn file_options(words: &mut Words<'_>, line: Line, takes: Takes) -> Result<FileOptions, LineFault>
+pub fn file_options(
+    words: &mut Words<'_>,
+    line: Line,
+    takes: Takes,
+) -> Result<FileOptions, LineFault>
     requires short { IsShort words.old }
     ensures value { Tells line (words_left words.new) result (file_options takes no_file_options (words_left words.old)) }
     ensures short { IsShort words.new }
@@ -40,7 +44,7 @@ fn file_options(words: &mut Words<'_>, line: Line, takes: Takes) -> Result<FileO
 }
 
 /// Mode, user and group, where they are given.
-fn attr_of(mode: u32, options: FileOptions) -> Attr
+pub fn attr_of(mode: u32, options: FileOptions) -> Attr
     ensures { result ≡ attr_of mode options }
 {
     Attr {
@@ -51,7 +55,7 @@ fn attr_of(mode: u32, options: FileOptions) -> Attr
 }
 
 /// The bytes of a new file.
-fn fill_of(seed: Option<u64>) -> Content
+pub fn fill_of(seed: Option<u64>) -> Content
     ensures { result ≡ fill_of seed }
 {
     match seed {

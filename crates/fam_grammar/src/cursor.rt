@@ -154,7 +154,7 @@ impl<'a> Words<'a> {
     }
 
     /// A UUID.
-    pub(crate) fn uuid(&mut self, line: Line) -> Result<Uuid, LineFault>
+    pub fn uuid(&mut self, line: Line) -> Result<Uuid, LineFault>
         requires short { IsShort self.old }
         ensures value { Tells line (words_left self.new) result (word_of uuid_of line.end (words_left self.old)) }
         ensures short { IsShort self.new }
@@ -166,7 +166,7 @@ impl<'a> Words<'a> {
     }
 
     /// A path.
-    pub(crate) fn path(&mut self, line: Line) -> Result<Path, LineFault>
+    pub fn path(&mut self, line: Line) -> Result<Path, LineFault>
         requires short { IsShort self.old }
         ensures value { Tells line (words_left self.new) result (word_of path_of line.end (words_left self.old)) }
         ensures short { IsShort self.new }
@@ -178,7 +178,7 @@ impl<'a> Words<'a> {
     }
 
     /// A size in bytes.
-    pub(crate) fn size(&mut self, line: Line) -> Result<u64, LineFault>
+    pub fn size(&mut self, line: Line) -> Result<u64, LineFault>
         requires short { IsShort self.old }
         ensures value { Tells line (words_left self.new) result (word_of size_of_text line.end (words_left self.old)) }
         ensures short { IsShort self.new }
@@ -202,7 +202,7 @@ impl<'a> Words<'a> {
     }
 
     /// The count of a read.
-    pub(crate) fn count(&mut self, line: Line) -> Result<u64, LineFault>
+    pub fn count(&mut self, line: Line) -> Result<u64, LineFault>
         requires short { IsShort self.old }
         ensures value { Tells line (words_left self.new) result (word_of count_of line.end (words_left self.old)) }
         ensures short { IsShort self.new }
@@ -250,7 +250,7 @@ impl<'a> Words<'a> {
     }
 
     /// The name of a command.
-    pub(crate) fn command(&mut self, line: Line) -> Result<CommandWord, LineFault>
+    pub fn command(&mut self, line: Line) -> Result<CommandWord, LineFault>
         requires short { IsShort self.old }
         ensures value { Tells line (words_left self.new) result (word_of command_word line.end (words_left self.old)) }
         ensures short { IsShort self.new }
@@ -262,7 +262,7 @@ impl<'a> Words<'a> {
     }
 
     /// The name of a file.
-    pub(crate) fn file(&mut self, alloc: Global, line: Line) -> Result<NameText, LineFault>
+    pub fn file(&mut self, alloc: Global, line: Line) -> Result<NameText, LineFault>
         requires short { IsShort self.old }
         ensures value { Tells line (words_left self.new) result (word_of file_of line.end (words_left self.old)) }
         ensures short { IsShort self.new }

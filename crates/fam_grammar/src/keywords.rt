@@ -24,7 +24,7 @@ pub(crate) enum EventWord {
 
 /// What a host is told to do.
 #[derive(Clone, Copy)]
-pub(crate) enum CommandWord {
+pub enum CommandWord {
     Logplay,
     Mount,
     Fsck,

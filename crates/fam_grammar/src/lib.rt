@@ -16,11 +16,14 @@ mod script;
 mod spellings;
 mod words;
 
+pub use commands::{attr_of, file_options, fill_of};
 pub use cursor::fitting;
 pub use defaults::{DEFAULT_LOG, DEFAULT_UNIT, DIRECTORY_MODE, FILE_MODE};
 pub use fault::LineFault;
+pub use keywords::CommandWord;
 pub use laws::{uuids_of_a_script_are_uuids, what_reads_is_sound};
 pub use numbers::{number, size};
+pub use options::{FileOptions, Takes};
 pub use script::{read_line, words_of};
-pub use spellings::{count_of, format_of, id_of, mode_of};
+pub use spellings::{count_of, format_of, id_of, mode_of, value_behind};
 pub use words::{Line, Word, Words};

@@ -20,19 +20,19 @@ pub(crate) enum FileOption {
 
 /// The options of mkdir, creat or cp that are given so far.
 #[derive(Clone, Copy)]
-pub(crate) struct FileOptions {
-    pub(crate) mode: Option<u32>,
-    pub(crate) uid: Option<u32>,
-    pub(crate) gid: Option<u32>,
-    pub(crate) seed: Option<u64>,
-    pub(crate) stripe: Option<Stripe>,
+pub struct FileOptions {
+    pub mode: Option<u32>,
+    pub uid: Option<u32>,
+    pub gid: Option<u32>,
+    pub seed: Option<u64>,
+    pub stripe: Option<Stripe>,
 }
 
 /// Which options a command takes besides those of mode, user and group.
 #[derive(Clone, Copy)]
-pub(crate) struct Takes {
-    pub(crate) seed: bool,
-    pub(crate) stripe: bool,
+pub struct Takes {
+    pub seed: bool,
+    pub stripe: bool,
 }
 
 /// An option of mkfs.

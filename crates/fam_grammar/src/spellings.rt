@@ -297,7 +297,7 @@ pub(crate) fn stripe_of(word: &[u8]) -> Option<Stripe>
 }
 
 /// What stands behind a key in front of a word.
-pub(crate) fn value_behind<'a>(key: &str, word: &'a [u8]) -> Option<&'a [u8]>
+pub fn value_behind<'a>(key: &str, word: &'a [u8]) -> Option<&'a [u8]>
     ensures { option_map (λ v. v.now) result ≡ value_behind key.now word.now }
 {
     word.strip_prefix(key.as_bytes())
