@@ -1,0 +1,359 @@
+//! The words of answers. `specs/Answers.antt` has them from left to right.
+
+ghost use Rattle.std.specs.Prelude.{◌≡◌};
+ghost use Rattle.fam_grammar.specs.Cursor.{words_left, IsShort, Tells};
+ghost use Rattle.fam_history.specs.declared.answers.AnswerWord.TheVariants as word;
+ghost use Rattle.fam_grammar.specs.Reading.{word_of};
+ghost use Rattle.fam_history.specs.ByteWords.{one_byte};
+ghost use Rattle.fam_history.specs.Answers.{answer_behind, answer_line, answer_word, bad_answer, bytes_line, checked_line, checked_words, counted, differs_line, entry_line_of, fsck_line, is_line, length_line, no_answer, not_line, path_line, path_or_none};
+
+use crate::answer::ToldAnswer;
+use crate::byte_words::{bytes_of, one_byte};
+use crate::faults::{is_a_file, kind_of, log_fault, numbered, reason, super_fault};
+use crate::literals::{is, last_number, last_two, literal, skip};
+use fam_base::Path;
+use fam_format::SuperFault;
+use fam_grammar::{Line, LineFault, Words, fitting};
+use fam_rules::{Checked, Refused};
+use std::alloc::Global;
+
+/// What an answer begins with.
+#[derive(Clone, Copy)]
+pub(crate) enum AnswerWord {
+    Done,
+    Not,
+    Path,
+    Bad,
+    Exists,
+    No,
+    Parent,
+    Log,
+    Played,
+    Mounted,
+    Same,
+    Differs,
+    Length,
+    Bytes,
+    Is,
+    Checked,
+    Fsck,
+    Media,
+}
+
+/// The answers that a word begins.
+#[tactic(auto, unfolding(crate::specs::Answers::answer_word))]
+fn answer_word(word: &[u8]) -> Option<AnswerWord>
+    ensures { result ≡ answer_word word.now }
+{
+    if is(word, "ok") {
+        Some(AnswerWord::Done)
+    } else if is(word, "not") {
+        Some(AnswerWord::Not)
+    } else if is(word, "path") {
+        Some(AnswerWord::Path)
+    } else if is(word, "bad") {
+        Some(AnswerWord::Bad)
+    } else if is(word, "exists") {
+        Some(AnswerWord::Exists)
+    } else if is(word, "no") {
+        Some(AnswerWord::No)
+    } else if is(word, "parent") {
+        Some(AnswerWord::Parent)
+    } else if is(word, "log") {
+        Some(AnswerWord::Log)
+    } else if is(word, "played") {
+        Some(AnswerWord::Played)
+    } else if is(word, "mounted") {
+        Some(AnswerWord::Mounted)
+    } else if is(word, "same") {
+        Some(AnswerWord::Same)
+    } else if is(word, "differs") {
+        Some(AnswerWord::Differs)
+    } else if is(word, "length") {
+        Some(AnswerWord::Length)
+    } else if is(word, "bytes") {
+        Some(AnswerWord::Bytes)
+    } else if is(word, "is") {
+        Some(AnswerWord::Is)
+    } else if is(word, "checked") {
+        Some(AnswerWord::Checked)
+    } else if is(word, "fsck") {
+        Some(AnswerWord::Fsck)
+    } else if is(word, "media") {
+        Some(AnswerWord::Media)
+    } else {
+        None
+    }
+}
+
+fn not(words: &mut Words<'_>, line: Line) -> Result<ToldAnswer, LineFault>
+    requires short { IsShort words.old }
+    ensures value { Tells line (words_left words.new) result (not_line line.end (words_left words.old)) }
+    ensures short { IsShort words.new }
+{
+    if skip(words, "found") {
+        return Ok(ToldAnswer::NotFound(last_number(words, line)?));
+    }
+    literal(words, line, "master")?;
+    let me = words.uuid(line)?;
+    let master = words.uuid(line)?;
+    words.ended(
+        line,
+        ToldAnswer::NotAppended(Refused::NotMaster { me, master }),
+    )
+}
+
+fn path(words: &mut Words<'_>, line: Line) -> Result<ToldAnswer, LineFault>
+    requires short { IsShort words.old }
+    ensures value { Tells line (words_left words.new) result (path_line line.end (words_left words.old)) }
+    ensures short { IsShort words.new }
+{
+    literal(words, line, "too")?;
+    let limit = numbered(words, line, "long")?;
+    Ok(ToldAnswer::NotAppended(Refused::LongPath(limit)))
+}
+
+fn entry(words: &mut Words<'_>, line: Line) -> Result<ToldAnswer, LineFault>
+    requires short { IsShort words.old }
+    ensures value { Tells line (words_left words.new) result (entry_line_of line.end (words_left words.old)) }
+    ensures short { IsShort words.new }
+{
+    let seq = words.number(line)?;
+    let why = reason(words, line)?;
+    Ok(ToldAnswer::BadSlot(seq, why))
+}
+
+fn bad(words: &mut Words<'_>, line: Line) -> Result<ToldAnswer, LineFault>
+    requires short { IsShort words.old }
+    ensures value { Tells line (words_left words.new) result (bad_answer line.end (words_left words.old)) }
+    ensures short { IsShort words.new }
+{
+    if skip(words, "stripe") {
+        return words.ended(line, ToldAnswer::NotAppended(Refused::BadStripe));
+    }
+    if skip(words, "superblock") {
+        return Ok(ToldAnswer::NoSuperblock(super_fault(words, line)?));
+    }
+    if skip(words, "log") {
+        return Ok(ToldAnswer::BadHeader(log_fault(words, line)?));
+    }
+    literal(words, line, "entry")?;
+    entry(words, line)
+}
+
+fn no(words: &mut Words<'_>, line: Line) -> Result<ToldAnswer, LineFault>
+    requires short { IsShort words.old }
+    ensures value { Tells line (words_left words.new) result (no_answer line.end (words_left words.old)) }
+    ensures short { IsShort words.new }
+{
+    if skip(words, "parent") {
+        return words.ended(line, ToldAnswer::NotAppended(Refused::NoParent));
+    }
+    if skip(words, "superblock") {
+        let word = last_number(words, line)?;
+        return Ok(ToldAnswer::NoSuperblock(SuperFault::NoSuper(word)));
+    }
+    let units = numbered(words, line, "space")?;
+    Ok(ToldAnswer::NotAppended(Refused::NoSpace(units)))
+}
+
+/// A byte of two digits.
+fn byte(words: &mut Words<'_>, line: Line) -> Result<u8, LineFault>
+    requires short { IsShort words.old }
+    ensures value { Tells line (words_left words.new) result (word_of one_byte line.end (words_left words.old)) }
+    ensures short { IsShort words.new }
+{
+    match words.expected(line) {
+        Ok(word) => fitting(line, word.column, one_byte(word.text)),
+        Err(fault) => Err(fault),
+    }
+}
+
+fn differs(words: &mut Words<'_>, line: Line) -> Result<ToldAnswer, LineFault>
+    requires short { IsShort words.old }
+    ensures value { Tells line (words_left words.new) result (differs_line line.end (words_left words.old)) }
+    ensures short { IsShort words.new }
+{
+    let entries = words.number(line)?;
+    let offset = words.number(line)?;
+    let found = byte(words, line)?;
+    let wanted = byte(words, line)?;
+    words.ended(
+        line,
+        ToldAnswer::Differs {
+            entries,
+            offset,
+            found,
+            wanted,
+        },
+    )
+}
+
+fn length(words: &mut Words<'_>, line: Line) -> Result<ToldAnswer, LineFault>
+    requires short { IsShort words.old }
+    ensures value { Tells line (words_left words.new) result (length_line line.end (words_left words.old)) }
+    ensures short { IsShort words.new }
+{
+    literal(words, line, "differs")?;
+    let entries = words.number(line)?;
+    let (size, wanted) = last_two(words, line)?;
+    Ok(ToldAnswer::Length {
+        entries,
+        size,
+        wanted,
+    })
+}
+
+fn bytes(alloc: Global, words: &mut Words<'_>, line: Line) -> Result<ToldAnswer, LineFault>
+    requires short { IsShort words.old }
+    ensures value { Tells line (words_left words.new) result (bytes_line line.end (words_left words.old)) }
+    ensures short { IsShort words.new }
+{
+    let entries = words.number(line)?;
+    let word = words.expected(line)?;
+    let spelled = bytes_of(alloc, word.text)?;
+    let bytes = fitting(line, word.column, spelled)?;
+    words.ended(line, ToldAnswer::Bytes(entries, bytes))
+}
+
+fn directory(words: &mut Words<'_>, line: Line) -> Result<ToldAnswer, LineFault>
+    requires short { IsShort words.old }
+    ensures value { Tells line (words_left words.new) result (is_line line.end (words_left words.old)) }
+    ensures short { IsShort words.new }
+{
+    literal(words, line, "a")?;
+    let entries = numbered(words, line, "directory")?;
+    Ok(ToldAnswer::IsDirectory(entries))
+}
+
+/// A number behind a word.
+pub(crate) fn counted(words: &mut Words<'_>, line: Line, wanted: &str) -> Result<u64, LineFault>
+    requires short { IsShort words.old }
+    ensures value { Tells line (words_left words.new) result (counted line.end wanted.now (words_left words.old)) }
+    ensures short { IsShort words.new }
+{
+    literal(words, line, wanted)?;
+    words.number(line)
+}
+
+/// A path, or `-` for none.
+fn path_or_none(words: &mut Words<'_>, line: Line) -> Result<Option<Path>, LineFault>
+    requires short { IsShort words.old }
+    ensures value { Tells line (words_left words.new) result (path_or_none line.end (words_left words.old)) }
+    ensures short { IsShort words.new }
+{
+    if skip(words, "-") {
+        return Ok(None);
+    }
+    Ok(Some(words.path(line)?))
+}
+
+/// How a tree differs from a listing.
+fn differences(words: &mut Words<'_>, line: Line) -> Result<Checked, LineFault>
+    requires short { IsShort words.old }
+    ensures value { Tells line (words_left words.new) result (checked_words line.end (words_left words.old)) }
+    ensures short { IsShort words.new }
+{
+    let missing = counted(words, line, "missing")?;
+    let extra = counted(words, line, "extra")?;
+    let changed = counted(words, line, "changed")?;
+    literal(words, line, "first")?;
+    let first = path_or_none(words, line)?;
+    words.ended(
+        line,
+        Checked {
+            missing,
+            extra,
+            changed,
+            first,
+        },
+    )
+}
+
+fn checked(words: &mut Words<'_>, line: Line) -> Result<ToldAnswer, LineFault>
+    requires short { IsShort words.old }
+    ensures value { Tells line (words_left words.new) result (checked_line line.end (words_left words.old)) }
+    ensures short { IsShort words.new }
+{
+    let entries = words.number(line)?;
+    let checked = differences(words, line)?;
+    Ok(ToldAnswer::Checked(entries, checked))
+}
+
+fn fsck(words: &mut Words<'_>, line: Line) -> Result<ToldAnswer, LineFault>
+    requires short { IsShort words.old }
+    ensures value { Tells line (words_left words.new) result (fsck_line line.end (words_left words.old)) }
+    ensures short { IsShort words.new }
+{
+    if skip(words, "sound") {
+        return words.ended(line, ToldAnswer::Report(true));
+    }
+    literal(words, line, "damaged")?;
+    words.ended(line, ToldAnswer::Report(false))
+}
+
+fn exists(words: &mut Words<'_>, line: Line) -> Result<ToldAnswer, LineFault>
+    requires short { IsShort words.old }
+    ensures value { Tells line (words_left words.new) result (answer_behind line.end word.Exists (words_left words.old)) }
+    ensures short { IsShort words.new }
+{
+    let word = words.expected(line)?;
+    let kind = fitting(line, word.column, kind_of(word.text))?;
+    words.ended(line, ToldAnswer::NotAppended(Refused::Exists(kind)))
+}
+
+/// The words behind the first one.
+fn behind(
+    alloc: Global,
+    first: AnswerWord,
+    words: &mut Words<'_>,
+    line: Line,
+) -> Result<ToldAnswer, LineFault>
+    requires short { IsShort words.old }
+    ensures value { Tells line (words_left words.new) result (answer_behind line.end first (words_left words.old)) }
+    ensures short { IsShort words.new }
+{
+    match first {
+        AnswerWord::Done => Ok(ToldAnswer::Ok(last_number(words, line)?)),
+        AnswerWord::Not => not(words, line),
+        AnswerWord::Path => path(words, line),
+        AnswerWord::Bad => bad(words, line),
+        AnswerWord::Exists => exists(words, line),
+        AnswerWord::No => no(words, line),
+        AnswerWord::Parent => {
+            is_a_file(words, line)?;
+            Ok(ToldAnswer::NotAppended(Refused::ParentIsFile))
+        }
+        AnswerWord::Log => {
+            let slots = numbered(words, line, "full")?;
+            Ok(ToldAnswer::NotAppended(Refused::LogFull(slots)))
+        }
+        AnswerWord::Played => Ok(ToldAnswer::Played(last_number(words, line)?)),
+        AnswerWord::Mounted => Ok(ToldAnswer::Mounted(last_number(words, line)?)),
+        AnswerWord::Same => Ok(ToldAnswer::Same(last_number(words, line)?)),
+        AnswerWord::Differs => differs(words, line),
+        AnswerWord::Length => length(words, line),
+        AnswerWord::Bytes => bytes(alloc, words, line),
+        AnswerWord::Is => directory(words, line),
+        AnswerWord::Checked => checked(words, line),
+        AnswerWord::Fsck => fsck(words, line),
+        AnswerWord::Media => Ok(ToldAnswer::MediaFault(numbered(words, line, "fault")?)),
+    }
+}
+
+/// The first line of an answer, of all words that are left of it. A bad line is named by the column of the first word that
+/// doesn't fit, which is the line's end where one is missing. Only the bytes of a file take memory.
+#[tactic(auto, unfolding(crate::specs::Answers::answer_line))]
+pub fn told_answer(
+    alloc: Global,
+    words: &mut Words<'_>,
+    line: Line,
+) -> Result<ToldAnswer, LineFault>
+    requires short { IsShort words.old }
+    ensures value { Tells line (words_left words.new) result (answer_line line.end (words_left words.old)) }
+    ensures short { IsShort words.new }
+{
+    let word = words.expected(line)?;
+    let first = fitting(line, word.column, answer_word(word.text))?;
+    behind(alloc, first, words, line)
+}

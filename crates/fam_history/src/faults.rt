@@ -1,0 +1,232 @@
+//! The words of faults. `specs/Faults.antt` has them from left to right.
+
+ghost use Rattle.std.specs.Prelude.{◌≡◌};
+ghost use Rattle.fam_grammar.specs.Cursor.{words_left, IsShort, Tells};
+ghost use Rattle.fam_history.specs.declared.faults.ReasonWord.TheVariants as word;
+ghost use Rattle.fam_history.specs.Faults.{is_a_file, kind_of, log_field_of, log_line, numbered, reason_behind, reason_line, reason_word, super_field_of, super_line};
+
+use crate::literals::{is, last_number, last_two, literal};
+use fam_base::Kind;
+use fam_format::{LogFault, LogField, Reason, SuperFault, SuperField};
+use fam_grammar::{Line, LineFault, Words, fitting};
+
+/// What a reason begins with.
+#[derive(Clone, Copy)]
+pub(crate) enum ReasonWord {
+    Crc,
+    Seq,
+    Kind,
+    Attribute,
+    Path,
+    Map,
+    Rest,
+    Exists,
+    No,
+    Parent,
+    Overlap,
+}
+
+/// A kind, by its word.
+pub(crate) fn kind_of(word: &[u8]) -> Option<Kind>
+    ensures { result ≡ kind_of word.now }
+{
+    if is(word, "file") {
+        Some(Kind::File)
+    } else if is(word, "directory") {
+        Some(Kind::Directory)
+    } else {
+        None
+    }
+}
+
+/// A field of a superblock, by its word.
+#[tactic(auto, unfolding(crate::specs::Faults::super_field_of))]
+fn super_field_of(word: &[u8]) -> Option<SuperField>
+    ensures { result ≡ super_field_of word.now }
+{
+    if is(word, "crc") {
+        Some(SuperField::Crc)
+    } else if is(word, "version") {
+        Some(SuperField::Version)
+    } else if is(word, "offset") {
+        Some(SuperField::Offset)
+    } else if is(word, "unit") {
+        Some(SuperField::Unit)
+    } else if is(word, "length") {
+        Some(SuperField::Length)
+    } else if is(word, "device") {
+        Some(SuperField::Device)
+    } else if is(word, "small") {
+        Some(SuperField::Small)
+    } else if is(word, "rest") {
+        Some(SuperField::Rest)
+    } else {
+        None
+    }
+}
+
+/// A field of a log, by its word.
+#[tactic(auto, unfolding(crate::specs::Faults::log_field_of))]
+fn log_field_of(word: &[u8]) -> Option<LogField>
+    ensures { result ≡ log_field_of word.now }
+{
+    if is(word, "magic") {
+        Some(LogField::Magic)
+    } else if is(word, "crc") {
+        Some(LogField::Crc)
+    } else if is(word, "length") {
+        Some(LogField::Length)
+    } else if is(word, "slots") {
+        Some(LogField::Slots)
+    } else if is(word, "uuid") {
+        Some(LogField::Uuid)
+    } else if is(word, "rest") {
+        Some(LogField::Rest)
+    } else if is(word, "gate") {
+        Some(LogField::Gate)
+    } else {
+        None
+    }
+}
+
+/// The reasons that a word begins.
+#[tactic(auto, unfolding(crate::specs::Faults::reason_word))]
+fn reason_word(word: &[u8]) -> Option<ReasonWord>
+    ensures { result ≡ reason_word word.now }
+{
+    if is(word, "crc") {
+        Some(ReasonWord::Crc)
+    } else if is(word, "sequence") {
+        Some(ReasonWord::Seq)
+    } else if is(word, "kind") {
+        Some(ReasonWord::Kind)
+    } else if is(word, "attribute") {
+        Some(ReasonWord::Attribute)
+    } else if is(word, "path") {
+        Some(ReasonWord::Path)
+    } else if is(word, "map") {
+        Some(ReasonWord::Map)
+    } else if is(word, "rest") {
+        Some(ReasonWord::Rest)
+    } else if is(word, "exists") {
+        Some(ReasonWord::Exists)
+    } else if is(word, "no") {
+        Some(ReasonWord::No)
+    } else if is(word, "parent") {
+        Some(ReasonWord::Parent)
+    } else if is(word, "overlap") {
+        Some(ReasonWord::Overlap)
+    } else {
+        None
+    }
+}
+
+/// A superblock's field, what was found and what was wanted.
+pub(crate) fn super_fault(words: &mut Words<'_>, line: Line) -> Result<SuperFault, LineFault>
+    requires short { IsShort words.old }
+    ensures value { Tells line (words_left words.new) result (super_line line.end (words_left words.old)) }
+    ensures short { IsShort words.new }
+{
+    let word = words.expected(line)?;
+    let field = fitting(line, word.column, super_field_of(word.text))?;
+    let (found, wanted) = last_two(words, line)?;
+    Ok(SuperFault::BadSuper {
+        field,
+        found,
+        wanted,
+    })
+}
+
+/// A log's field, what was found and what was wanted.
+pub(crate) fn log_fault(words: &mut Words<'_>, line: Line) -> Result<LogFault, LineFault>
+    requires short { IsShort words.old }
+    ensures value { Tells line (words_left words.new) result (log_line line.end (words_left words.old)) }
+    ensures short { IsShort words.new }
+{
+    let word = words.expected(line)?;
+    let field = fitting(line, word.column, log_field_of(word.text))?;
+    let (found, wanted) = last_two(words, line)?;
+    Ok(LogFault::BadLog {
+        field,
+        found,
+        wanted,
+    })
+}
+
+/// A number behind a word, and no word behind it.
+pub(crate) fn numbered(words: &mut Words<'_>, line: Line, wanted: &str) -> Result<u64, LineFault>
+    requires short { IsShort words.old }
+    ensures value { Tells line (words_left words.new) result (numbered line.end wanted.now (words_left words.old)) }
+    ensures short { IsShort words.new }
+{
+    literal(words, line, wanted)?;
+    last_number(words, line)
+}
+
+/// `is a file`, and no word behind it.
+pub(crate) fn is_a_file(words: &mut Words<'_>, line: Line) -> Result<(), LineFault>
+    requires short { IsShort words.old }
+    ensures value { Tells line (words_left words.new) result (is_a_file line.end (words_left words.old)) }
+    ensures short { IsShort words.new }
+{
+    literal(words, line, "is")?;
+    literal(words, line, "a")?;
+    literal(words, line, "file")?;
+    words.ended(line, ())
+}
+
+/// A kind, and no word behind it.
+fn exists(words: &mut Words<'_>, line: Line) -> Result<Reason, LineFault>
+    requires short { IsShort words.old }
+    ensures value { Tells line (words_left words.new) result (reason_behind line.end word.Exists (words_left words.old)) }
+    ensures short { IsShort words.new }
+{
+    let word = words.expected(line)?;
+    let kind = fitting(line, word.column, kind_of(word.text))?;
+    words.ended(line, Reason::Exists(kind))
+}
+
+/// The words behind the first one.
+fn behind(first: ReasonWord, words: &mut Words<'_>, line: Line) -> Result<Reason, LineFault>
+    requires short { IsShort words.old }
+    ensures value { Tells line (words_left words.new) result (reason_behind line.end first (words_left words.old)) }
+    ensures short { IsShort words.new }
+{
+    match first {
+        ReasonWord::Crc => {
+            let (found, wanted) = last_two(words, line)?;
+            Ok(Reason::Crc { found, wanted })
+        }
+        ReasonWord::Seq => {
+            let (found, wanted) = last_two(words, line)?;
+            Ok(Reason::Seq { found, wanted })
+        }
+        ReasonWord::Kind => Ok(Reason::BadKind(last_number(words, line)?)),
+        ReasonWord::Attribute => Ok(Reason::Attribute(last_number(words, line)?)),
+        ReasonWord::Path => words.ended(line, Reason::BadPath),
+        ReasonWord::Map => words.ended(line, Reason::Map),
+        ReasonWord::Rest => Ok(Reason::Rest(last_number(words, line)?)),
+        ReasonWord::Exists => exists(words, line),
+        ReasonWord::No => {
+            literal(words, line, "parent")?;
+            words.ended(line, Reason::NoParent)
+        }
+        ReasonWord::Parent => {
+            is_a_file(words, line)?;
+            Ok(Reason::ParentIsFile)
+        }
+        ReasonWord::Overlap => Ok(Reason::Overlap(last_number(words, line)?)),
+    }
+}
+
+/// Why a slot holds no entry that joins, of all words that are left.
+#[tactic(auto, unfolding(crate::specs::Faults::reason_line))]
+pub(crate) fn reason(words: &mut Words<'_>, line: Line) -> Result<Reason, LineFault>
+    requires short { IsShort words.old }
+    ensures value { Tells line (words_left words.new) result (reason_line line.end (words_left words.old)) }
+    ensures short { IsShort words.new }
+{
+    let word = words.expected(line)?;
+    let first = fitting(line, word.column, reason_word(word.text))?;
+    behind(first, words, line)
+}

@@ -1,0 +1,214 @@
+//! The words of refusals. `specs/Refusals.antt` has them from left to right.
+
+ghost use Rattle.std.specs.Prelude.{◌≡◌};
+ghost use Rattle.fam_grammar.specs.Cursor.{words_left, IsShort, Tells};
+ghost use Rattle.fam_history.specs.Refusals.{bad_line, copy_line, has_line, image_line, media_line, no_line, refusal_behind, refusal_line, refusal_word, same_line, too_line};
+
+use crate::literals::{is, last_number, last_two, literal, skip};
+use crate::refusal::ToldRefusal;
+use fam_grammar::{Line, LineFault, Words, fitting};
+use std::alloc::Global;
+
+/// What a refusal begins with.
+#[derive(Clone, Copy)]
+pub(crate) enum RefusalWord {
+    No,
+    Same,
+    Too,
+    Bad,
+    Image,
+    Busy,
+    Dirty,
+    Has,
+    Idle,
+    Mounted,
+    Not,
+    Copy,
+    Media,
+}
+
+/// The refusals that a word begins.
+#[tactic(auto, unfolding(crate::specs::Refusals::refusal_word))]
+fn refusal_word(word: &[u8]) -> Option<RefusalWord>
+    ensures { result ≡ refusal_word word.now }
+{
+    if is(word, "no") {
+        Some(RefusalWord::No)
+    } else if is(word, "same") {
+        Some(RefusalWord::Same)
+    } else if is(word, "too") {
+        Some(RefusalWord::Too)
+    } else if is(word, "bad") {
+        Some(RefusalWord::Bad)
+    } else if is(word, "image") {
+        Some(RefusalWord::Image)
+    } else if is(word, "busy") {
+        Some(RefusalWord::Busy)
+    } else if is(word, "dirty") {
+        Some(RefusalWord::Dirty)
+    } else if is(word, "has") {
+        Some(RefusalWord::Has)
+    } else if is(word, "idle") {
+        Some(RefusalWord::Idle)
+    } else if is(word, "mounted") {
+        Some(RefusalWord::Mounted)
+    } else if is(word, "not") {
+        Some(RefusalWord::Not)
+    } else if is(word, "copy") {
+        Some(RefusalWord::Copy)
+    } else if is(word, "media") {
+        Some(RefusalWord::Media)
+    } else {
+        None
+    }
+}
+
+fn no(alloc: Global, words: &mut Words<'_>, line: Line) -> Result<ToldRefusal, LineFault>
+    requires short { IsShort words.old }
+    ensures value { Tells line (words_left words.new) result (no_line line.end (words_left words.old)) }
+    ensures short { IsShort words.new }
+{
+    if skip(words, "file") {
+        let name = words.file(alloc, line)?;
+        return words.ended(line, ToldRefusal::NoFile(name));
+    }
+    if skip(words, "line") {
+        let (line, lines) = last_two(words, line)?;
+        return Ok(ToldRefusal::NoLine { line, lines });
+    }
+    literal(words, line, "host")?;
+    words.ended(line, ToldRefusal::NoHost)
+}
+
+fn same(words: &mut Words<'_>, line: Line) -> Result<ToldRefusal, LineFault>
+    requires short { IsShort words.old }
+    ensures value { Tells line (words_left words.new) result (same_line line.end (words_left words.old)) }
+    ensures short { IsShort words.new }
+{
+    literal(words, line, "host")?;
+    let name = words.name(line)?;
+    words.ended(line, ToldRefusal::SameHost(name))
+}
+
+fn too(words: &mut Words<'_>, line: Line) -> Result<ToldRefusal, LineFault>
+    requires short { IsShort words.old }
+    ensures value { Tells line (words_left words.new) result (too_line line.end (words_left words.old)) }
+    ensures short { IsShort words.new }
+{
+    if skip(words, "many") {
+        literal(words, line, "hosts")?;
+        return words.ended(line, ToldRefusal::TooManyHosts);
+    }
+    literal(words, line, "small")?;
+    let (need, have) = last_two(words, line)?;
+    Ok(ToldRefusal::TooSmall { need, have })
+}
+
+fn bad(words: &mut Words<'_>, line: Line) -> Result<ToldRefusal, LineFault>
+    requires short { IsShort words.old }
+    ensures value { Tells line (words_left words.new) result (bad_line line.end (words_left words.old)) }
+    ensures short { IsShort words.new }
+{
+    if skip(words, "geometry") {
+        let (unit, log) = last_two(words, line)?;
+        return Ok(ToldRefusal::BadGeometry { unit, log });
+    }
+    literal(words, line, "listing")?;
+    let at = last_number(words, line)?;
+    Ok(ToldRefusal::BadListing(at))
+}
+
+fn image(words: &mut Words<'_>, line: Line) -> Result<ToldRefusal, LineFault>
+    requires short { IsShort words.old }
+    ensures value { Tells line (words_left words.new) result (image_line line.end (words_left words.old)) }
+    ensures short { IsShort words.new }
+{
+    literal(words, line, "too")?;
+    literal(words, line, "small")?;
+    let lines = last_number(words, line)?;
+    Ok(ToldRefusal::ImageSmall(lines))
+}
+
+fn has(words: &mut Words<'_>, line: Line) -> Result<ToldRefusal, LineFault>
+    requires short { IsShort words.old }
+    ensures value { Tells line (words_left words.new) result (has_line line.end (words_left words.old)) }
+    ensures short { IsShort words.new }
+{
+    literal(words, line, "superblock")?;
+    let uuid = words.uuid(line)?;
+    words.ended(line, ToldRefusal::HasSuper(uuid))
+}
+
+fn copy(words: &mut Words<'_>, line: Line) -> Result<ToldRefusal, LineFault>
+    requires short { IsShort words.old }
+    ensures value { Tells line (words_left words.new) result (copy_line line.end (words_left words.old)) }
+    ensures short { IsShort words.new }
+{
+    literal(words, line, "limit")?;
+    let sum = last_number(words, line)?;
+    Ok(ToldRefusal::CopyLimit(sum))
+}
+
+fn media(words: &mut Words<'_>, line: Line) -> Result<ToldRefusal, LineFault>
+    requires short { IsShort words.old }
+    ensures value { Tells line (words_left words.new) result (media_line line.end (words_left words.old)) }
+    ensures short { IsShort words.new }
+{
+    literal(words, line, "fault")?;
+    let at = last_number(words, line)?;
+    Ok(ToldRefusal::MediaFault(at))
+}
+
+/// The words behind the first one.
+fn behind(
+    alloc: Global,
+    first: RefusalWord,
+    words: &mut Words<'_>,
+    line: Line,
+) -> Result<ToldRefusal, LineFault>
+    requires short { IsShort words.old }
+    ensures value { Tells line (words_left words.new) result (refusal_behind line.end first (words_left words.old)) }
+    ensures short { IsShort words.new }
+{
+    match first {
+        RefusalWord::No => no(alloc, words, line),
+        RefusalWord::Same => same(words, line),
+        RefusalWord::Too => too(words, line),
+        RefusalWord::Bad => bad(words, line),
+        RefusalWord::Image => image(words, line),
+        RefusalWord::Busy => {
+            let name = words.name(line)?;
+            words.ended(line, ToldRefusal::Busy(name))
+        }
+        RefusalWord::Dirty => {
+            let name = words.name(line)?;
+            words.ended(line, ToldRefusal::Dirty(name))
+        }
+        RefusalWord::Has => has(words, line),
+        RefusalWord::Idle => words.ended(line, ToldRefusal::Idle),
+        RefusalWord::Mounted => words.ended(line, ToldRefusal::Mounted),
+        RefusalWord::Not => {
+            literal(words, line, "mounted")?;
+            words.ended(line, ToldRefusal::NotMounted)
+        }
+        RefusalWord::Copy => copy(words, line),
+        RefusalWord::Media => media(words, line),
+    }
+}
+
+/// Why a call was refused, of all words that are left of a line. A bad line is named by the column of the first word that
+/// doesn't fit, which is the line's end where one is missing. Only the name of a file takes memory.
+#[tactic(auto, unfolding(crate::specs::Refusals::refusal_line))]
+pub fn told_refusal(
+    alloc: Global,
+    words: &mut Words<'_>,
+    line: Line,
+) -> Result<ToldRefusal, LineFault>
+    requires short { IsShort words.old }
+    ensures value { Tells line (words_left words.new) result (refusal_line line.end (words_left words.old)) }
+    ensures short { IsShort words.new }
+{
+    let word = words.expected(line)?;
+    let first = fitting(line, word.column, refusal_word(word.text))?;
+    behind(alloc, first, words, line)
+}
