@@ -1,0 +1,4 @@
+pub mod Showing
+pub mod Telling
+pub mod Explaining
+pub mod Forming

@@ -1,0 +1,45 @@
+-- What a history shows.
+use Rattle.std.proofs.Common.{◌≡◌, ◌≤◌, inl, inr, List, [], ◌∷◌, ◌++◌, length, refl, ap, ◌∙◌, arith}
+use Rattle.fam_journal.specs.Notes.{Note}
+use Rattle.fam_judge.specs.Shows.{Shows}
+
+-- a journal shows itself
+pub shows_itself : (journal : List Note) → Shows journal journal
+shows_itself [] = tt
+shows_itself (note ∷ notes) = inl (refl, shows_itself notes)
+
+-- a history is no longer than what it shows
+pub no_longer : (history journal : List Note) → Shows history journal → length history ≤ length journal
+no_longer [] journal shows = omega arith
+no_longer (line ∷ lines) [] shows = absurd shows
+no_longer (line ∷ lines) (note ∷ notes) (inl here) = let rest : length lines ≤ length notes = no_longer lines notes here.1 in omega arith
+no_longer (line ∷ lines) (note ∷ notes) (inr out) = let rest : length (line ∷ lines) ≤ length notes = no_longer (line ∷ lines) notes out.1 in omega arith
+
+-- one that is as long is it
+pub whole : (history journal : List Note) → Shows history journal → length history ≡ length journal → history ≡ journal
+whole [] [] shows same = refl
+whole [] (note ∷ notes) shows same = absurd (omega arith)
+whole (line ∷ lines) [] shows same = absurd shows
+whole (line ∷ lines) (note ∷ notes) (inl here) same =
+    let rest : lines ≡ notes = whole lines notes here.1 (omega arith) in
+    ap (λ (n : Note). n ∷ lines) here.0 ∙ ap (λ (l : List Note). note ∷ l) rest
+whole (line ∷ lines) (note ∷ notes) (inr out) same =
+    let rest : length (line ∷ lines) ≤ length notes = no_longer (line ∷ lines) notes out.1 in absurd (omega arith)
+
+-- a journal whose first part is shown by a history's first lines, and what is left
+pub record Parts (first rest journal : List Note) : Type 0 where
+  pub front : List Note
+  pub back : List Note
+  pub whole : journal ≡ front ++ back
+  pub shown : Shows first front
+
+-- the first lines show a first part
+pub parts : (first rest journal : List Note) → Shows (first ++ rest) journal → Parts first rest journal
+parts [] rest journal shows = record { front = []; back = journal; whole = refl; shown = tt }
+parts (line ∷ lines) rest [] shows = absurd shows
+parts (line ∷ lines) rest (note ∷ notes) (inl here) =
+    let more = parts lines rest notes here.1 in
+    record { front = note ∷ more.front; back = more.back; whole = ap (λ (l : List Note). note ∷ l) more.whole; shown = inl (here.0, more.shown) }
+parts (line ∷ lines) rest (note ∷ notes) (inr out) =
+    let more = parts (line ∷ lines) rest notes out.1 in
+    record { front = note ∷ more.front; back = more.back; whole = ap (λ (l : List Note). note ∷ l) more.whole; shown = inr (out.0, more.shown) }

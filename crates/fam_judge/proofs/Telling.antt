@@ -1,0 +1,67 @@
+-- Journals of which a text tells all.
+use Rattle.std.proofs.Common.{◌≡◌, ℕ, List, [], ◌∷◌, ◌++◌, Some, None, map, refl, ap, sym, ◌∙◌}
+use Rattle.std.proofs.lemmas.Option.{same_Some}
+use Rattle.fam_base.specs.declared.cmd.Cmd.{Cmd}
+use Rattle.fam_base.specs.declared.cmd.Cmd.TheVariants as cmd
+use Rattle.fam_base.specs.declared.cmd.Content.TheVariants as content
+use Rattle.fam_journal.specs.Notes.{Note, Host, Made, Cut, Start, Mark, Found, Writes, Answered, Stop, Halt, Umount, Refused}
+use Rattle.fam_history.specs.Told.{told_of}
+use Rattle.fam_judge.specs.Alike.{AreAlikeNotes, AreTold, ToldNote, told_note, whole_command, whole_note}
+
+none_is_some : {A : Type 0} (x : A) → None ≡ Some x → ⊥
+none_is_some x e = cc
+
+-- what is told of a command is it, where all is told
+command_back : (h : ℕ) (c : Cmd) (note : Note) → whole_command h (told_of c) ≡ Some note → Start h c ≡ note
+command_back h cmd.Logplay note e = same_Some (Start h cmd.Logplay) note e
+command_back h cmd.Mount note e = same_Some (Start h cmd.Mount) note e
+command_back h cmd.Fsck note e = same_Some (Start h cmd.Fsck) note e
+command_back h (cmd.Mkdir path attr) note e = same_Some (Start h (cmd.Mkdir path attr)) note e
+command_back h (cmd.Creat path size attr stripe fill) note e = same_Some (Start h (cmd.Creat path size attr stripe fill)) note e
+command_back h (cmd.Cp path attr stripe bytes) note e = absurd (none_is_some note e)
+command_back h (cmd.Verify path content.Zero) note e = same_Some (Start h (cmd.Verify path content.Zero)) note e
+command_back h (cmd.Verify path (content.Seed seed)) note e = same_Some (Start h (cmd.Verify path (content.Seed seed))) note e
+command_back h (cmd.Verify path (content.Bytes bytes)) note e = absurd (none_is_some note e)
+command_back h (cmd.Read path offset count) note e = same_Some (Start h (cmd.Read path offset count)) note e
+command_back h (cmd.Check entries) note e = absurd (none_is_some note e)
+
+-- so of a note
+note_back : (m note : Note) → whole_note (told_note m) ≡ Some note → m ≡ note
+note_back (Host name uuid) note e = same_Some (Host name uuid) note e
+note_back (Made h p) note e = same_Some (Made h p) note e
+note_back (Cut h k) note e = same_Some (Cut h k) note e
+note_back (Start h c) note e = command_back h c note e
+note_back (Mark h) note e = same_Some (Mark h) note e
+note_back (Found h n) note e = same_Some (Found h n) note e
+note_back (Writes h seq entry) note e = same_Some (Writes h seq entry) note e
+note_back (Answered h answer) note e = same_Some (Answered h answer) note e
+note_back (Stop h) note e = same_Some (Stop h) note e
+note_back (Halt h) note e = same_Some (Halt h) note e
+note_back (Umount h) note e = same_Some (Umount h) note e
+note_back (Refused name cause) note e = same_Some (Refused name cause) note e
+
+heads : (a b : ToldNote) (xs ys : List ToldNote) → a ∷ xs ≡ b ∷ ys → a ≡ b
+heads a b xs ys e = cc
+
+tails : (a b : ToldNote) (xs ys : List ToldNote) → a ∷ xs ≡ b ∷ ys → xs ≡ ys
+tails a b xs ys e = cc
+
+-- a journal of which all is told is alike to none but itself
+pub alike_is : (a b : List Note) → AreTold a → AreAlikeNotes a b → a ≡ b
+alike_is [] [] told same = refl
+alike_is [] (n ∷ b) told same = absurd (differ (told_note n) (map told_note b) same)
+  where
+    differ : (x : ToldNote) (xs : List ToldNote) → [] ≡ x ∷ xs → ⊥
+    differ x xs e = cc
+alike_is (m ∷ a) [] told same = absurd (differ (told_note m) (map told_note a) same)
+  where
+    differ : (x : ToldNote) (xs : List ToldNote) → x ∷ xs ≡ [] → ⊥
+    differ x xs e = cc
+alike_is (m ∷ a) (n ∷ b) told same =
+    let one : n ≡ m = note_back n m (ap whole_note (sym (heads (told_note m) (told_note n) (map told_note a) (map told_note b) same)) ∙ told.0) in
+    let more : a ≡ b = alike_is a b told.1 (tails (told_note m) (told_note n) (map told_note a) (map told_note b) same) in
+    ap (λ (x : Note). x ∷ a) (sym one) ∙ ap (λ (l : List Note). n ∷ l) more
+
+pub told-append : (a b : List Note) → AreTold a → AreTold b → AreTold (a ++ b)
+told-append [] b none more = more
+told-append (note ∷ a) b some more = (some.0, told-append a b some.1 more)
