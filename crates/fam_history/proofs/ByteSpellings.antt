@@ -1,5 +1,5 @@
 -- Bytes of a word, pair by pair.
-use Rattle.std.proofs.Common.{◌≡◌, ◌<◌, ℕ, length, List, [], ◌∷◌, ◌++◌, Option, Some, None, refl, ap, ◌∙◌, arith, append-nil}
+use Rattle.std.proofs.Common.{◌≡◌, ℕ, length, List, [], ◌∷◌, ◌++◌, Option, Some, None, ap, ◌∙◌, arith, append-nil}
 use Rattle.fam_grammar.specs.Spellings.{in_prefix}
 use Rattle.fam_grammar.proofs.SpellingLemmas.{behind, behind-in_prefix}
 use Rattle.fam_history.specs.ByteWords.{paired}

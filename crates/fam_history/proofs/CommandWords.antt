@@ -1,8 +1,5 @@
 -- The words of a command's text, and that they are these.
-use Rattle.std.proofs.Common.{◌≡◌, ℕ, Bool, true, false, List, [], ◌∷◌, ◌++◌, length, Option, Some, None, codes, refl, ap, ap₂, sym, ◌∙◌, arith, append-nil, append_assoc, decimal}
-use Rattle.std.specs.Prelude.{◌&&◌, not}
-use Rattle.std.specs.List.{join_with_byte}
-use Rattle.std.proofs.lemmas.Bool.{and_parts}
+use Rattle.std.proofs.Common.{◌≡◌, ℕ, List, [], ◌∷◌, ◌++◌, length, Option, Some, None, codes, refl, ap, ap₂, sym, ◌∙◌, arith, append-nil, append_assoc, decimal}
 use Rattle.fam_base.specs.declared.cmd.Attr.{Attr}
 use Rattle.fam_base.specs.declared.cmd.Cmd.{Cmd}
 use Rattle.fam_base.specs.declared.cmd.Cmd.TheVariants.{Logplay, Mount, Mkdir, Creat, Cp, Verify, Read, Check, Fsck}
@@ -11,8 +8,8 @@ use Rattle.fam_base.specs.declared.cmd.Content.TheVariants as content
 use Rattle.fam_base.specs.declared.cmd.Stripe.{Stripe}
 use Rattle.fam_base.specs.Escapes.{escaped}
 use Rattle.fam_tree.specs.Lines.{mode_text}
-use Rattle.fam_grammar.specs.Words.{is_blank, words_from}
-use Rattle.fam_grammar.proofs.Joined.{AreWords, HasNoBlank, IsOneWord, joined_words, no_blank-append, placed}
+use Rattle.fam_grammar.specs.Words.{words_from}
+use Rattle.fam_grammar.proofs.Joined.{AreWords, IsOneWord, placed}
 use Rattle.fam_grammar.proofs.Respelled.{decimal_no_blank, decimal_word, mode_no_blank, path_word}
 use Rattle.fam_grammar.proofs.StripeWords.{stripe_no_blank, stripe_value}
 use Rattle.fam_outcomes.specs.Texts.{against_text, attr_text, cmd_text, name_text, number, seed_text, stripe_text}

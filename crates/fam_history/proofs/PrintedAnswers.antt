@@ -1,6 +1,6 @@
 -- The words of an answer's first line, and that they read as what it tells.
-use Rattle.std.proofs.Common.{◌≡◌, ◌≢◌, ℕ, ◌+◌, ◌/◌, ◌%◌, ◌^◌, ◌<◌, Bool, true, false, cond, List, [], ◌∷◌, ◌++◌, length, Option, Some, None, IsTrue, codes, refl, ap, ap₂, sym, ◌∙◌, arith, append-nil, append_assoc, decimal}
-use Rattle.std.specs.Prelude.{◌==◌, ◌&&◌, if◌then◌else◌}
+use Rattle.std.proofs.Common.{◌≡◌, ◌≢◌, ℕ, ◌+◌, ◌/◌, ◌%◌, ◌<◌, Bool, true, false, cond, List, [], ◌∷◌, ◌++◌, length, Option, Some, None, codes, refl, ap, ap₂, sym, ◌∙◌, arith, append-nil, append_assoc, decimal}
+use Rattle.std.specs.Prelude.{◌==◌, ◌&&◌}
 use Rattle.std.specs.List.{flat_map}
 use Rattle.std.specs.Str.{bytes_eq}
 use Rattle.std.proofs.lemmas.Bool.Decides.{nat_tests}
@@ -13,13 +13,11 @@ use Rattle.fam_base.specs.declared.entry.Kind.{Kind}
 use Rattle.fam_base.specs.declared.entry.Kind.TheVariants.{File, Directory}
 use Rattle.fam_base.specs.Escapes.{AreBytes, escaped, hex_digit}
 use Rattle.fam_base.specs.Paths.{is_path}
-use Rattle.fam_format.specs.declared.faults.LogFault.{LogFault}
 use Rattle.fam_format.specs.declared.faults.LogFault.TheVariants.{BadLog}
 use Rattle.fam_format.specs.declared.faults.LogField.{LogField}
 use Rattle.fam_format.specs.declared.faults.LogField.TheVariants as field
 use Rattle.fam_format.specs.declared.faults.Reason.{Reason}
 use Rattle.fam_format.specs.declared.faults.Reason.TheVariants as reason
-use Rattle.fam_format.specs.declared.faults.SuperFault.{SuperFault}
 use Rattle.fam_format.specs.declared.faults.SuperFault.TheVariants.{NoSuper, BadSuper}
 use Rattle.fam_format.specs.declared.faults.SuperField.{SuperField}
 use Rattle.fam_format.specs.declared.faults.SuperField.TheVariants as super
@@ -27,7 +25,7 @@ use Rattle.fam_rules.specs.declared.answers.Checked.{Checked}
 use Rattle.fam_rules.specs.declared.answers.Refused.TheVariants as cause
 use Rattle.fam_rules.specs.Reply as reply
 use Rattle.fam_journal.specs.Notes.{Answer, Replied, MediaFault}
-use Rattle.fam_grammar.specs.Reading.{Reading, Reads}
+use Rattle.fam_grammar.specs.Reading.{Reads}
 use Rattle.fam_grammar.specs.Spellings.{byte_of, in_prefix_of, unescaped}
 use Rattle.fam_grammar.specs.Words.{is_blank, words_from}
 use Rattle.fam_grammar.proofs.Joined.{AreWords, HasNoBlank, IsOneWord, no_blank-append, placed}
@@ -36,7 +34,7 @@ use Rattle.fam_outcomes.specs.Texts.{answer_text, byte_text, cause_text, fault_t
 use Rattle.fam_history.specs.declared.answer.ToldAnswer.{ToldAnswer}
 use Rattle.fam_history.specs.declared.answer.ToldAnswer.TheVariants as told
 use Rattle.fam_history.specs.Answers.{answer_line, answer_word, path_or_none as reads_path}
-use Rattle.fam_history.specs.ByteWords.{bytes_of, one_byte, paired}
+use Rattle.fam_history.specs.ByteWords.{bytes_of, paired}
 use Rattle.fam_history.specs.Faults.{kind_of, log_field_of, reason_line, reason_word, super_field_of}
 use Rattle.fam_history.specs.ToldAnswers.{IfTellingPath, IsTellingAnswer, IsTellingReason, answer_lines, answer_told, checked_told, first_told, told_answer_text}
 use Rattle.fam_history.proofs.Spaced.{eight, four, free, placed_words, seven, spaced, ten, uuid_back, uuid_is_word}
@@ -61,7 +59,7 @@ super_is super.Device = free (codes "device") refl
 super_is super.Small = free (codes "small") refl
 super_is super.Rest = free (codes "rest") refl
 
-super_back : (f : SuperField) → super_field_of (super_field_text f) ≡ Some f
+pub super_back : (f : SuperField) → super_field_of (super_field_text f) ≡ Some f
 unfolding super_field_of
 super_back super.Crc = refl
 super_back super.Version = refl
@@ -81,7 +79,7 @@ log_is field.Uuid = free (codes "uuid") refl
 log_is field.Rest = free (codes "rest") refl
 log_is field.Gate = free (codes "gate") refl
 
-log_back : (f : LogField) → log_field_of (log_field_text f) ≡ Some f
+pub log_back : (f : LogField) → log_field_of (log_field_text f) ≡ Some f
 unfolding log_field_of
 log_back field.Magic = refl
 log_back field.Crc = refl
@@ -94,7 +92,7 @@ log_back field.Gate = refl
 -- Reasons.
 
 -- the first word of a reason
-abbrev reason_first : Reason → List ℕ
+abbrev pub reason_first : Reason → List ℕ
 reason_first (reason.Crc found wanted) = codes "crc"
 reason_first (reason.Seq found wanted) = codes "sequence"
 reason_first (reason.BadKind word) = codes "kind"
@@ -108,7 +106,7 @@ reason_first reason.ParentIsFile = codes "parent"
 reason_first (reason.Overlap unit) = codes "overlap"
 
 -- the words behind it
-abbrev reason_more : Reason → List (List ℕ)
+abbrev pub reason_more : Reason → List (List ℕ)
 reason_more (reason.Crc found wanted) = decimal found ∷ decimal wanted ∷ []
 reason_more (reason.Seq found wanted) = decimal found ∷ decimal wanted ∷ []
 reason_more (reason.BadKind word) = decimal word ∷ []
@@ -160,7 +158,7 @@ reason_are reason.NoParent is = (free (codes "parent") refl, tt)
 reason_are reason.ParentIsFile is = (free (codes "is") refl, (free (codes "a") refl, (free (codes "file") refl, tt)))
 reason_are (reason.Overlap unit) is = (decimal_word unit is, tt)
 
-reason_reads : (why : Reason) (column end : ℕ) → IsTellingReason why → reason_line end (placed column (reason_first why ∷ reason_more why)) ≡ Reads why []
+pub reason_reads : (why : Reason) (column end : ℕ) → IsTellingReason why → reason_line end (placed column (reason_first why ∷ reason_more why)) ≡ Reads why []
 unfolding reason_line reason_word
 reason_reads (reason.Crc found wanted) column end is = rw (number-decimal found is.0, number-decimal wanted is.1) refl
 reason_reads (reason.Seq found wanted) column end is = rw (number-decimal found is.0, number-decimal wanted is.1) refl
@@ -228,7 +226,7 @@ first_spaced None = refl
 first_spaced (Some path) = refl
 
 -- the first word of an answer
-abbrev answer_first : ToldAnswer → List ℕ
+abbrev pub answer_first : ToldAnswer → List ℕ
 answer_first (told.Ok seq) = codes "ok"
 answer_first (told.NotAppended (cause.NotMaster me master)) = codes "not"
 answer_first (told.NotAppended (cause.LongPath limit)) = codes "path"
@@ -256,7 +254,7 @@ answer_first (told.BadSlot seq why) = codes "bad"
 answer_first (told.MediaFault at) = codes "media"
 
 -- the words behind it
-abbrev answer_more : ToldAnswer → List (List ℕ)
+abbrev pub answer_more : ToldAnswer → List (List ℕ)
 answer_more (told.Ok seq) = decimal seq ∷ []
 answer_more (told.NotAppended (cause.NotMaster me master)) = codes "master" ∷ hyphenated_text lower me ∷ hyphenated_text lower master ∷ []
 answer_more (told.NotAppended (cause.LongPath limit)) = codes "too" ∷ codes "long" ∷ decimal limit ∷ []
@@ -388,7 +386,7 @@ first_reads None column end is = refl
 first_reads (Some path) column end is = rw (not_dash path is.0 is.1, path-escaped path is.0) refl
 
 -- the column of the word behind a first one
-abbrev past : ℕ → List ℕ → ℕ
+abbrev pub past : ℕ → List ℕ → ℕ
 past column text = column + length text + 1
 
 checked_reads : (m : ℕ) (checked : Checked) (column end : ℕ) → IsTellingAnswer (told.Checked m checked)
@@ -436,11 +434,14 @@ words_read (told.BadHeader (BadLog f found wanted)) column end is = rw (log_back
 words_read (told.BadSlot seq why) column end is = slot_reads seq why column end is
 words_read (told.MediaFault at) column end is = rw (number-decimal at is) refl
 
+-- the words of an answer's first line
+pub answer_words : (given : ToldAnswer) (column : ℕ) → IsTellingAnswer given → words_from column (told_answer_text given) ≡ placed column (answer_first given ∷ answer_more given)
+answer_words given column is =
+    placed_words column (told_answer_text given) (answer_first given) (answer_more given) (answer_spaced given) (answer_is given, answer_are given is)
+
 -- the first line of an answer reads as what it tells
 pub answer_reads : (given : ToldAnswer) (column end : ℕ) → IsTellingAnswer given → answer_line end (words_from column (told_answer_text given)) ≡ Reads given []
-answer_reads given column end is =
-    ap (answer_line end) (placed_words column (told_answer_text given) (answer_first given) (answer_more given) (answer_spaced given) (answer_is given, answer_are given is))
-    ∙ words_read given column end is
+answer_reads given column end is = ap (answer_line end) (answer_words given column is) ∙ words_read given column end is
 
 -- The text of an answer: its first line, and the lines that follow.
 

@@ -22,7 +22,7 @@ use Rattle.fam_outcomes.specs.Texts.{cmd_text}
 use Rattle.fam_history.specs.declared.command.ToldCommand.{ToldCommand}
 use Rattle.fam_history.specs.declared.command.ToldCommand.TheVariants as told
 use Rattle.fam_history.specs.Commands.{told_line}
-use Rattle.fam_history.specs.Told.{AreAlike, IfTellingStripe, IsTelling, IsTellingAttr, IsTellingContent, IsTellingFill, IsTellingStripe, told_of, told_text}
+use Rattle.fam_history.specs.Told.{AreAlike, IfTellingStripe, IsTelling, IsTellingAttr, IsTellingFill, IsTellingStripe, told_of, told_text}
 use Rattle.fam_history.proofs.CommandWords.{attr_words, gid_word, mode_word, more_words, name_word, seed_words, stripe_words, text_words, uid_word}
 
 -- Options.

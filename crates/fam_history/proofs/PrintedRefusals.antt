@@ -1,10 +1,10 @@
 -- A refusal that is printed reads as what is told of it.
-use Rattle.std.proofs.Common.{◌≡◌, ℕ, ◌^◌, ◌<◌, List, [], ◌∷◌, ◌++◌, length, Option, Some, None, IsTrue, codes, refl, ap, sym, ◌∙◌, append-nil, append_assoc, decimal}
+use Rattle.std.proofs.Common.{◌≡◌, ℕ, List, [], ◌∷◌, ◌++◌, codes, refl, ap, ◌∙◌, append-nil, append_assoc, decimal}
 use Rattle.uuid.specs.Text.{hyphenated_text, lower}
 use Rattle.fam_base.specs.Escapes.{escaped}
 use Rattle.fam_journal.specs.declared.refusal.Refusal.{Refusal}
 use Rattle.fam_journal.specs.declared.refusal.Refusal.TheVariants as why
-use Rattle.fam_grammar.specs.Reading.{Reading, Reads}
+use Rattle.fam_grammar.specs.Reading.{Reads}
 use Rattle.fam_grammar.specs.Words.{words_from}
 use Rattle.fam_grammar.proofs.Joined.{AreWords, IsOneWord, placed}
 use Rattle.fam_grammar.proofs.Respelled.{decimal_word, number-decimal}

@@ -1,6 +1,6 @@
 -- Texts of words with a space between, and which words are such.
-use Rattle.std.proofs.Common.{◌≡◌, ℕ, zero, suc, ◌+◌, ◌^◌, ◌<◌, ◌≤◌, Bool, true, false, cond, List, [], ◌∷◌, ◌++◌, length, Option, Some, None, IsTrue, codes, refl, ap, ap₂, sym, ◌∙◌, subst, arith, append-nil, append_assoc, decimal, inl, inr}
-use Rattle.std.specs.Prelude.{◌/◌, ◌%◌, ◌&&◌, ◌||◌, ◌==◌, not, nat_le, nat_lt, All, slice_index, if◌then◌else◌, option_and_then}
+use Rattle.std.proofs.Common.{◌≡◌, ℕ, zero, suc, ◌<◌, Bool, true, false, cond, List, [], ◌∷◌, ◌++◌, length, Some, None, refl, ap, sym, ◌∙◌, arith, append-nil, append_assoc, inl}
+use Rattle.std.specs.Prelude.{◌/◌, ◌%◌, ◌&&◌, not, All, slice_index, if◌then◌else◌}
 use Rattle.std.specs.List.{join_with_byte, list_all, flat_map}
 use Rattle.std.proofs.lemmas.Bool.{and_parts}
 use Rattle.std.proofs.lemmas.Bool.Decides.{nat_tests}
@@ -12,7 +12,7 @@ use Rattle.uuid.specs.Text.{by_index, digit_place, hex_digit as uuid_digit, hyph
 use Rattle.fam_base.specs.Escapes.{AreBytes, escaped, escaped_byte, hex_digit, is_plain}
 use Rattle.fam_base.specs.HostNames.{is_host_name, is_name_byte}
 use Rattle.fam_format.specs.Params.{IsUuid}
-use Rattle.fam_grammar.specs.Spellings.{file_of, is_file_name, name_of, passing, uuid_of}
+use Rattle.fam_grammar.specs.Spellings.{file_of, is_file_name, name_of, uuid_of}
 use Rattle.fam_grammar.specs.Words.{is_blank, words_from}
 use Rattle.fam_grammar.proofs.Joined.{AreWords, HasNoBlank, IsOneWord, joined_words, no_blank-append, placed}
 use Rattle.fam_grammar.proofs.Respelled.{AreSmall, escaped_no_blank, unescaped-escaped}

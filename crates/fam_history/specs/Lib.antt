@@ -1,9 +1,11 @@
 pub mod Told
 pub mod ToldRefusals
 pub mod ToldAnswers
+pub mod ToldReports
 pub mod Literals
 pub mod Commands
 pub mod Refusals
 pub mod Faults
 pub mod ByteWords
 pub mod Answers
+pub mod ReportLines

@@ -1,7 +1,6 @@
 -- The grammar of a refusal: what stands behind `refused`, from left to right.
 use Rattle.std.specs.Prelude.{ℕ, if◌then◌else◌, List, codes, Option, Some, None}
 use Rattle.std.specs.Str.{bytes_eq}
-use Rattle.fam_grammar.specs.Numbers.{number_of_text}
 use Rattle.fam_grammar.specs.Reading.{Reading, Reads, ends_with, then_reads, word_of}
 use Rattle.fam_grammar.specs.Spellings.{file_of, name_of, uuid_of}
 use Rattle.fam_grammar.specs.Words.{Word}

@@ -227,7 +227,7 @@ fn directory(words: &mut Words<'_>, line: Line) -> Result<ToldAnswer, LineFault>
 }
 
 /// A number behind a word.
-fn counted(words: &mut Words<'_>, line: Line, wanted: &str) -> Result<u64, LineFault>
+pub(crate) fn counted(words: &mut Words<'_>, line: Line, wanted: &str) -> Result<u64, LineFault>
     requires short { IsShort words.old }
     ensures value { Tells line (words_left words.new) result (counted line.end wanted.now (words_left words.old)) }
     ensures short { IsShort words.new }

@@ -1,6 +1,6 @@
 //! Laws of what a history tells, with empty bodies.
 
-ghost use Rattle.std.specs.Prelude.{◌≡◌, ◌++◌, ℕ, [], List};
+ghost use Rattle.std.specs.Prelude.{◌≡◌, ◌++◌, ◌<◌, ◌^◌, ℕ, [], List, Option, codes};
 ghost use Rattle.fam_base.specs.declared.cmd.Cmd.{Cmd};
 ghost use Rattle.fam_grammar.specs.Reading.{Reads};
 ghost use Rattle.fam_grammar.specs.Words.{words_from};
@@ -13,7 +13,12 @@ ghost use Rattle.fam_history.specs.ToldRefusals.{IsTellingRefusal, refusal_told}
 ghost use Rattle.fam_history.specs.declared.answer.ToldAnswer.{ToldAnswer};
 ghost use Rattle.fam_journal.specs.Notes.{Answer};
 ghost use Rattle.fam_journal.specs.declared.refusal.Refusal.{Refusal};
-ghost use Rattle.fam_outcomes.specs.Texts.{answer_text, cmd_text, line, refusal_text};
+ghost use Rattle.fam_format.specs.declared.faults.Reason.{Reason};
+ghost use Rattle.fam_history.specs.ReportLines.{bad_entry_line, files_line, log_state_line, overlap_line, past_line, superblock_line, units_line};
+ghost use Rattle.fam_history.specs.ToldReports.{IfTellingPair, IfTellingSlot, IsTellingLogState, IsTellingSuperState};
+ghost use Rattle.fam_outcomes.specs.Texts.{answer_text, bad_text, cmd_text, line, log_state_text, number, overlap_text, refusal_text, super_state_text};
+ghost use Rattle.fam_rules.specs.declared.answers.LogState.{LogState};
+ghost use Rattle.fam_rules.specs.declared.answers.SuperState.{SuperState};
 
 /// A command whose numbers are those of the code reads, from its text, as what is told of it (`reads`); and what is told
 /// of it prints as that text (`prints`). So commands of one text are the same but for bytes (`alike`), and a text tells no
@@ -38,4 +43,22 @@ pub fn a_printed_answer_reads()
         → answer_line end (words_from column (told_answer_text given)) ≡ Reads given [] }
     ensures prints { (answer : Answer)
         → answer_text answer ≡ line (told_answer_text (answer_told answer)) ++ answer_lines answer }
+{}
+
+/// Each line of a report behind the first reads, from its text, as what it tells.
+pub fn a_printed_report_reads()
+    ensures superblock { (s : SuperState) (column end : ℕ) → IsTellingSuperState s
+        → superblock_line end (words_from column (super_state_text s)) ≡ Reads s [] }
+    ensures log { (s : LogState) (column end : ℕ) → IsTellingLogState s
+        → log_state_line end (words_from column (log_state_text s)) ≡ Reads s [] }
+    ensures files { (files directories : ℕ) (column end : ℕ) → files < 2 ^ 64 → directories < 2 ^ 64
+        → files_line end (words_from column (codes "files" ++ number files ++ codes " directories" ++ number directories)) ≡ Reads (files, directories) [] }
+    ensures units { (used unused : ℕ) (column end : ℕ) → used < 2 ^ 64 → unused < 2 ^ 64
+        → units_line end (words_from column (codes "units used" ++ number used ++ codes " free" ++ number unused)) ≡ Reads (used, unused) [] }
+    ensures overlap { (pair : Option (ℕ × ℕ)) (column end : ℕ) → IfTellingPair pair
+        → overlap_line end (words_from column (overlap_text pair)) ≡ Reads pair [] }
+    ensures bad { (slot : Option (ℕ × Reason)) (column end : ℕ) → IfTellingSlot slot
+        → bad_entry_line end (words_from column (bad_text slot)) ≡ Reads slot [] }
+    ensures past { (n : ℕ) (column end : ℕ) → n < 2 ^ 64
+        → past_line end (words_from column (codes "past gate" ++ number n)) ≡ Reads n [] }
 {}

@@ -1,8 +1,8 @@
 //! A recorded history of hosts: the words of its lines, read back as what a journal's text tells.
 //!
-//! `specs/Told.antt`, `ToldRefusals.antt` and `ToldAnswers.antt` say what a text tells. `specs/Commands.antt`, `Refusals.antt` and
-//! `Answers.antt` are the grammars of a command as it starts, of a refusal, and of an answer's first line. Lines are cut into
-//! words as those of every script, by fam_grammar.
+//! `specs/Told.antt`, `ToldRefusals.antt` and `ToldAnswers.antt` say what a text tells. `specs/Commands.antt`, `Refusals.antt`,
+//! `Answers.antt` and `ReportLines.antt` are the grammars of a command as it starts, of a refusal, of an answer's first line and
+//! of a report's other lines. Lines are cut into words as those of every script, by fam_grammar.
 #![tactic(auto)]
 
 mod answer;
@@ -15,11 +15,18 @@ mod laws;
 mod literals;
 mod refusal;
 mod refusals;
+mod report_lines;
 
 pub use answer::ToldAnswer;
 pub use answers::told_answer;
 pub use command::ToldCommand;
 pub use commands::told_command;
-pub use laws::{a_printed_answer_reads, a_printed_command_reads, a_printed_refusal_reads};
+pub use laws::{
+    a_printed_answer_reads, a_printed_command_reads, a_printed_refusal_reads,
+    a_printed_report_reads,
+};
 pub use refusal::ToldRefusal;
 pub use refusals::told_refusal;
+pub use report_lines::{
+    told_bad_entry, told_files, told_log, told_overlap, told_past, told_superblock, told_units,
+};
