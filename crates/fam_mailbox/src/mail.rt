@@ -53,7 +53,7 @@ pub fn run_mail_file<M: Media, S: Shelf, K: Sink>(
     shelf: &mut S,
     out: &mut K,
 ) -> Status
-    ensures ends { MailTop script.now path.now (outside_of M.size M.state media.old media.new
+    ensures ends { MailTop M.exact script.now path.now (outside_of M.size M.state media.old media.new
         (change S.state shelf.old shelf.new) (change K.state out.old out.new)) result }
     ensures steady { IsSteady M.size M.state media.old media.new }
     ensures shelf { IsShelfSteady (S.state shelf.old) (S.state shelf.new) }

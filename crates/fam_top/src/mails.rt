@@ -46,7 +46,7 @@ pub fn famfs_mail<M: Media, S: Shelf, K: Sink>(
     shelf: &mut S,
     out: &mut K,
 ) -> Status
-    ensures ends { MailEnds (mail_call (map string_bytes words.now.items)) (outside_of M.size M.state
+    ensures ends { MailEnds M.exact (mail_call (map string_bytes words.now.items)) (outside_of M.size M.state
         media.old media.new (change S.state shelf.old shelf.new) (change K.state out.old out.new)) result }
     ensures steady { IsSteady M.size M.state media.old media.new }
     ensures sink { (K.state out.old).faults ≤ (K.state out.new).faults }

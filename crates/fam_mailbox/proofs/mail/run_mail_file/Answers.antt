@@ -26,6 +26,7 @@ returns-clause-ends g c =
         fault = c.in-Err-find_box.fault;
         is = e.fault;
         cause = e.cause;
+        counted = e.counted;
         same = e.same;
         put
             = c.put_look.ensures.put;
