@@ -14,6 +14,7 @@ use fam_base::{Cmd, HostName};
 use fam_cache::HostCache;
 use fam_tasks::{Kept, Replica, Task};
 use std::alloc::Global;
+use std::mem::replace;
 use uuid::Uuid;
 
 /// The most hosts of a world.
@@ -34,6 +35,9 @@ pub(crate) struct Host {
     pub(crate) has_begun: bool,
 }
 
+/// Lets a value go. Of a large type that is taken apart in one place, and not at each exit that has one.
+pub(crate) fn let_go<T: Drop>(_value: T) {}
+
 /// Ends a task, if there is one, and takes what its host keeps behind it.
 pub(crate) fn retire(
     task: &mut Option<Task>,
@@ -45,10 +49,10 @@ pub(crate) fn retire(
 {
     if let Some(over) = task {
         let (left, found) = over.take_parts();
-        *kept = left;
-        *replica = found;
+        let_go(replace(kept, left));
+        let_go(replace(replica, found));
     }
-    *task = None;
+    let_go(task.take());
 }
 
 /// A command before its first operation, on a host that keeps this, and an image of so many lines.
@@ -83,7 +87,8 @@ fn begin_on(alloc: Global, host: &mut Host, lines: u64, cmd: Cmd)
     ensures { host_view host.new ≡ record (host_view host.old) { task = Some (mounted (host_view host.old).kept cmd host.old.uuid lines) } }
 {
     end_on(host);
-    host.task = Some(task_on(alloc, cmd, host.uuid, lines, host.kept.take()));
+    let task = task_on(alloc, cmd, host.uuid, lines, host.kept.take());
+    let_go(replace(&mut host.task, Some(task)));
     remember(&mut host.task, &mut host.replica, &mut host.has_begun);
 }
 

@@ -6,6 +6,7 @@ ghost use Rattle.fam_world.specs.Answers.{IsPlain};
 ghost use Rattle.fam_world.specs.View.{note_view, notes_view};
 
 use crate::fault::WorldFault;
+use crate::hosts::let_go;
 use fam_base::{HostName, OutOfMemory};
 use fam_journal::Refusal;
 use fam_notes::Note;
@@ -27,7 +28,7 @@ pub(crate) fn add(journal: &mut Vec<Note>, note: Note)
     requires room { vec_len journal.old < vec_capacity journal.old }
     ensures { notes_view journal.new.items ≡ notes_view journal.old.items ++ note_view note ∷ [] }
 {
-    let _ = journal.push(note);
+    let_go(journal.push(note));
 }
 
 /// A cause twice: one for the journal, and one to be given.

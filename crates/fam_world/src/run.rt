@@ -19,7 +19,7 @@ ghost use Rattle.fam_world.specs.View.{host_view, kept_in, note_view, notes_view
 
 use crate::concluding::shed;
 use crate::fault::Moved;
-use crate::hosts::{Host, MOST_HOSTS, retire};
+use crate::hosts::{Host, MOST_HOSTS, let_go, retire};
 use crate::notes::{add, make_room};
 use fam_base::{LineNo, OutOfMemory};
 use fam_cache::{HostCache, OperationFault};
@@ -126,6 +126,7 @@ fn run_most<M: Media>(
     let mut done = 0;
     'operations: while done < most {
         if make_room(journal).is_err() {
+            let_go(turn);
             return Err(OutOfMemory);
         }
         match note_turn(
@@ -138,10 +139,17 @@ fn run_most<M: Media>(
                 done += 1;
                 done += operate_cached(cache, task, most - done);
             }
-            Ok(Moved::Answered) => return Ok(Moved::Answered),
-            Err(_) => return Err(OutOfMemory),
+            Ok(Moved::Answered) => {
+                let_go(turn);
+                return Ok(Moved::Answered);
+            }
+            Err(_) => {
+                let_go(turn);
+                return Err(OutOfMemory);
+            }
         }
     }
+    let_go(turn);
     Ok(Moved::Going)
 }
 
@@ -176,6 +184,7 @@ pub(crate) fn run_up<M: Media>(
     let mut tries = forgets;
     'operations: loop {
         if make_room(journal).is_err() {
+            let_go(turn);
             return Err(OutOfMemory);
         }
         tries = shed(cache, task, tries);
@@ -190,8 +199,14 @@ pub(crate) fn run_up<M: Media>(
                 let _ = operate_cached(cache, task, u64::MAX);
                 task.is_sound();
             }
-            Ok(Moved::Answered) => return Ok(()),
-            Err(_) => return Err(OutOfMemory),
+            Ok(Moved::Answered) => {
+                let_go(turn);
+                return Ok(());
+            }
+            Err(_) => {
+                let_go(turn);
+                return Err(OutOfMemory);
+            }
         }
     }
 }

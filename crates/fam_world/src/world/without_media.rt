@@ -15,7 +15,7 @@ ghost use Rattle.fam_world.specs.View.{count_named, host_view, views};
 use super::World;
 use crate::fault::WorldFault;
 use crate::find::{declared, declared_before, entries_kept, is_mount, may_begin, mounted, running};
-use crate::hosts::{Host, begin_task, end_task, forget, lose};
+use crate::hosts::{Host, begin_task, end_task, forget, let_go, lose};
 use crate::notes::{add, make_room, refused};
 use fam_base::{Cmd, HostName, OutOfMemory};
 use fam_cache::HostCache;
@@ -42,7 +42,7 @@ fn add_host(hosts: &mut Vec<Host>, host: Host)
     ensures views { views hosts.new.items ≡ views hosts.old.items ++ host_view host ∷ [] }
     ensures len { vec_len hosts.new ≡ vec_len hosts.old + 1 }
 {
-    let _ = hosts.push(host);
+    let_go(hosts.push(host));
 }
 
 /// A command twice: one for the journal, and one for the task.
