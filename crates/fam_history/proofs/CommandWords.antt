@@ -132,8 +132,15 @@ text_spaced (Check entries) = simp append-nil refl
 -- Each is a word.
 
 attr_are : (attr : Attr) → IsTellingAttr attr → AreWords (attr_words attr)
-attr_are attr is =
-    (keyed 109 (codes "ode=") (mode_text attr.mode) refl (mode_no_blank attr.mode), (keyed 117 (codes "id=") (decimal attr.uid) refl (decimal_no_blank attr.uid (omega (arith, is.uid))), (keyed 103 (codes "id=") (decimal attr.gid) refl (decimal_no_blank attr.gid (omega (arith, is.gid))), tt)))
+attr_are attr is = (
+  keyed 109 (codes "ode=") (mode_text attr.mode) refl
+      (mode_no_blank attr.mode),
+  (
+    keyed 117 (codes "id=") (decimal attr.uid) refl
+        (decimal_no_blank attr.uid (omega (arith, is.uid))),
+    (keyed 103 (codes "id=") (decimal attr.gid) refl (decimal_no_blank attr.gid (omega (arith, is.gid))), tt),
+  ),
+)
 
 stripe_are : (s : Option Stripe) → IfTellingStripe s → AreWords (stripe_words s)
 stripe_are None is = tt
@@ -154,8 +161,14 @@ more_are Logplay is = tt
 more_are Mount is = tt
 more_are Fsck is = tt
 more_are (Mkdir path attr) is = (path_word path is.0, attr_are attr is.1)
-more_are (Creat path size attr stripe fill) is =
-    (path_word path is.0, (decimal_word size is.1, are-append (attr_words attr) (seed_words fill ++ stripe_words stripe) (attr_are attr is.2) (are-append (seed_words fill) (stripe_words stripe) (seed_are fill is.4) (stripe_are stripe is.3))))
+more_are (Creat path size attr stripe fill) is = (
+  path_word path is.0,
+  (
+    decimal_word size is.1,
+    are-append (attr_words attr) (seed_words fill ++ stripe_words stripe) (attr_are attr is.2)
+        (are-append (seed_words fill) (stripe_words stripe) (seed_are fill is.4) (stripe_are stripe is.3)),
+  ),
+)
 more_are (Cp path attr stripe bytes) is =
     (path_word path is.0, (decimal_word (length bytes) is.1, are-append (attr_words attr) (stripe_words stripe) (attr_are attr is.2) (stripe_are stripe is.3)))
 more_are (Verify path against) is = (path_word path is.0, against_are against is.1)

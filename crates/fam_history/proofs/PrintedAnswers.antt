@@ -305,7 +305,8 @@ answer_spaced (told.Bytes m bytes) =
 answer_spaced (told.NotFound m) = simp append-nil refl
 answer_spaced (told.IsDirectory m) = simp append-nil refl
 answer_spaced (told.Checked m checked) =
-    ten (codes "checked") (number m) (codes " missing") (number checked.missing) (codes " extra") (number checked.extra) (codes " changed") (number checked.changed) (codes " first") (path_or_none checked.first)
+    ten (codes "checked") (number m) (codes " missing") (number checked.missing) (codes " extra") (number checked.extra) (codes " changed") (number checked.changed) (codes " first")
+    (path_or_none checked.first)
     ∙ ap (λ (l : List ℕ). codes "checked" ++ (number m ++ (codes " missing" ++ (number checked.missing ++ (codes " extra" ++ (number checked.extra ++ (codes " changed" ++ (number checked.changed ++ (codes " first" ++ l)))))))))
     (first_spaced checked.first ∙ ap (λ (l : List ℕ). 32 ∷ l) (sym (append-nil (first_word checked.first))))
 answer_spaced (told.Report true) = refl
@@ -361,7 +362,28 @@ answer_are (told.Length m size wanted) is = (free (codes "differs") refl, (decim
 answer_are (told.Bytes m bytes) is = (decimal_word m is.0, (bytes_are bytes is.1, tt))
 answer_are (told.NotFound m) is = (free (codes "found") refl, (decimal_word m is, tt))
 answer_are (told.IsDirectory m) is = (free (codes "a") refl, (free (codes "directory") refl, (decimal_word m is, tt)))
-answer_are (told.Checked m checked) is = (decimal_word m is.0, (free (codes "missing") refl, (decimal_word checked.missing is.1.missing, (free (codes "extra") refl, (decimal_word checked.extra is.1.extra, (free (codes "changed") refl, (decimal_word checked.changed is.1.changed, (free (codes "first") refl, (first_is checked.first is.1.first, tt)))))))))
+answer_are (told.Checked m checked) is = (
+  decimal_word m is.0,
+  (
+    free
+        (codes "missing") refl,
+    (
+      decimal_word checked.missing is.1.missing,
+      (
+        free
+            (codes "extra") refl,
+        (
+          decimal_word checked.extra is.1.extra,
+          (
+            free
+                (codes "changed") refl,
+            (decimal_word checked.changed is.1.changed, (free (codes "first") refl, (first_is checked.first is.1.first, tt))),
+          ),
+        ),
+      ),
+    ),
+  ),
+)
 answer_are (told.Report true) is = (free (codes "sound") refl, tt)
 answer_are (told.Report false) is = (free (codes "damaged") refl, tt)
 answer_are (told.NoSuperblock (NoSuper word)) is = (free (codes "superblock") refl, (decimal_word word is, tt))
@@ -474,10 +496,13 @@ answer_prints (Replied (reply.Bytes m bytes)) = alone (codes "bytes" ++ number m
 answer_prints (Replied (reply.NotFound m)) = alone (codes "not found" ++ number m)
 answer_prints (Replied (reply.IsDirectory m)) = alone (codes "is a directory" ++ number m)
 answer_prints (Replied (reply.Checks m checked)) =
-    ap (λ (l : List ℕ). line (codes "checked" ++ number m ++ codes " missing" ++ number checked.missing ++ codes " extra" ++ number checked.extra ++ codes " changed" ++ number checked.changed ++ codes " first" ++ l)) (first_same checked.first)
+    ap (λ (l : List ℕ). line
+    (codes "checked" ++ number m ++ codes " missing" ++ number checked.missing ++ codes " extra" ++ number checked.extra ++ codes " changed" ++ number checked.changed ++ codes " first" ++ l)) (first_same checked.first)
     ∙ alone (checked_text m (checked_told checked))
 answer_prints (Replied (reply.Reports r)) =
-    eight (line (told_answer_text (answer_told (Replied (reply.Reports r))))) (line (super_state_text r.superblock)) (line (log_state_text r.log)) (line (codes "files" ++ number r.files ++ codes " directories" ++ number r.directories)) (line (codes "units used" ++ number r.used ++ codes " free" ++ number r.free)) (line (overlap_text r.overlap)) (line (bad_text r.bad)) (line (codes "past gate" ++ number r.past))
+    eight (line (told_answer_text (answer_told (Replied (reply.Reports r))))) (line (super_state_text r.superblock)) (line (log_state_text r.log))
+    (line (codes "files" ++ number r.files ++ codes " directories" ++ number r.directories)) (line (codes "units used" ++ number r.used ++ codes " free" ++ number r.free))
+    (line (overlap_text r.overlap)) (line (bad_text r.bad)) (line (codes "past gate" ++ number r.past))
 answer_prints (Replied (reply.NoSuperblock fault)) = alone (super_text fault)
 answer_prints (Replied (reply.BadHeader fault)) = alone (log_text fault)
 answer_prints (Replied (reply.BadSlot seq why)) = alone (slot_text seq why)

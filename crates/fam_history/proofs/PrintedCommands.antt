@@ -91,7 +91,8 @@ stripe_read : (seeds : Bool) (column : ℕ) (attr : Attr) (seed : Option ℕ) (s
     → file_options (record { seed = seeds; stripe = true }) (and_seed attr seed) (placed column (stripe_words s)) ≡ Reads (record (and_seed attr seed) { stripe = s }) []
 stripe_read seeds column attr seed None is = refl
 stripe_read seeds column attr seed (Some s) is =
-    next (record { seed = seeds; stripe = true }) (and_seed attr seed) (record (and_seed attr seed) { stripe = Some s }) column (codes "stripe=" ++ stripe_value s) [] (stripe_taken seeds attr seed s is)
+    next (record { seed = seeds; stripe = true }) (and_seed attr seed) (record (and_seed attr seed) { stripe = Some s }) column (codes "stripe=" ++ stripe_value s) []
+    (stripe_taken seeds attr seed s is)
 
 -- the seed that is told
 abbrev seed_of : Content → Option ℕ
@@ -104,7 +105,8 @@ seed_read : (column : ℕ) (attr : Attr) (fill : Content) (s : Option Stripe) �
 seed_read column attr content.Zero s is stripe = stripe_read true column attr None s stripe
 seed_read column attr (content.Bytes bytes) s is stripe = absurd is
 seed_read column attr (content.Seed seed) s is stripe =
-    next creat_takes (with_attr attr) (and_seed attr (Some seed)) column (codes "seed=" ++ decimal seed) (placed (column + length (codes "seed=" ++ decimal seed) + 1) (stripe_words s)) (seed_taken attr seed is)
+    next creat_takes (with_attr attr) (and_seed attr (Some seed)) column (codes "seed=" ++ decimal seed) (placed (column + length (codes "seed=" ++ decimal seed) + 1) (stripe_words s))
+    (seed_taken attr seed is)
     ∙ stripe_read true (column + length (codes "seed=" ++ decimal seed) + 1) attr (Some seed) s stripe
 
 -- Commands.
@@ -122,7 +124,8 @@ abbrev past : ℕ → List ℕ → ℕ
 past column text = column + length text + 1
 
 module _ (end column : ℕ) where
-  mkdir_reads : (path : List ℕ) (attr : Attr) → IsTelling (Mkdir path attr) → told_line end (placed column (name_word (Mkdir path attr) ∷ more_words (Mkdir path attr))) ≡ Reads (told.Plain (Mkdir path attr)) []
+  mkdir_reads : (path : List ℕ) (attr : Attr) → IsTelling (Mkdir path attr) → told_line end (placed column (name_word (Mkdir path attr) ∷ more_words (Mkdir path attr))) ≡ Reads
+      (told.Plain (Mkdir path attr)) []
   unfolding told_line command_word
   mkdir_reads path attr is =
       rw (path-escaped path is.0, attr_read mkdir_takes (past (past column (codes "mkdir")) (escaped path)) attr [] is.1) refl

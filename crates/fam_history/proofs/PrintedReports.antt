@@ -43,7 +43,8 @@ not_none n small = cases (bytes_eq (decimal n) (codes "none")) refl
 -- Superblock.
 
 module _ (column end : ℕ) where
-  no_super : (word : ℕ) → word < 2 ^ 64 → superblock_line end (placed column (answer_first (told.NoSuperblock (NoSuper word)) ∷ answer_more (told.NoSuperblock (NoSuper word)))) ≡ Reads (superblock.NoSuper word) []
+  no_super : (word : ℕ) → word < 2 ^ 64 → superblock_line end (placed column (answer_first (told.NoSuperblock (NoSuper word)) ∷ answer_more (told.NoSuperblock (NoSuper word)))) ≡ Reads
+      (superblock.NoSuper word) []
   no_super word is = rw (number-decimal word is) refl
 
   pub super_reads : (s : SuperState) → IsTellingSuperState s → superblock_line end (words_from column (super_state_text s)) ≡ Reads s []
@@ -54,10 +55,12 @@ module _ (column end : ℕ) where
 
   -- Log.
 
-  log_words : (entries slots : ℕ) → (entries < 2 ^ 64) × (slots < 2 ^ 64) → words_from column (codes "log sound" ++ number entries ++ codes " of" ++ number slots) ≡ placed column (codes "log" ∷ codes "sound" ∷ decimal entries ∷ codes "of" ∷ decimal slots ∷ [])
+  log_words : (entries slots : ℕ) → (entries < 2 ^ 64) × (slots < 2 ^ 64) → words_from column (codes "log sound" ++ number entries ++ codes " of" ++ number slots) ≡ placed column
+      (codes "log" ∷ codes "sound" ∷ decimal entries ∷ codes "of" ∷ decimal slots ∷ [])
   log_words entries slots is =
       placed_words column (codes "log sound" ++ number entries ++ codes " of" ++ number slots) (codes "log") (codes "sound" ∷ decimal entries ∷ codes "of" ∷ decimal slots ∷ [])
-      (four (codes "log sound") (number entries) (codes " of") (number slots) ∙ ap (λ (l : List ℕ). codes "log sound" ++ (number entries ++ (codes " of" ++ (32 ∷ l)))) (sym (append-nil (decimal slots))))
+      (four (codes "log sound") (number entries) (codes " of") (number slots) ∙ ap (λ (l : List ℕ). codes "log sound" ++ (number entries ++ (codes " of" ++ (32 ∷ l))))
+      (sym (append-nil (decimal slots))))
       (free (codes "log") refl, (free (codes "sound") refl, (decimal_word entries is.0, (free (codes "of") refl, (decimal_word slots is.1, tt)))))
 
   pub log_reads : (s : LogState) → IsTellingLogState s → log_state_line end (words_from column (log_state_text s)) ≡ Reads s []
@@ -71,8 +74,10 @@ module _ (column end : ℕ) where
   pub files_read : (files directories : ℕ) → files < 2 ^ 64 → directories < 2 ^ 64
       → files_line end (words_from column (codes "files" ++ number files ++ codes " directories" ++ number directories)) ≡ Reads (files, directories) []
   files_read files directories first second =
-      ap (files_line end) (placed_words column (codes "files" ++ number files ++ codes " directories" ++ number directories) (codes "files") (decimal files ∷ codes "directories" ∷ decimal directories ∷ [])
-      (four (codes "files") (number files) (codes " directories") (number directories) ∙ ap (λ (l : List ℕ). codes "files" ++ (number files ++ (codes " directories" ++ (32 ∷ l)))) (sym (append-nil (decimal directories))))
+      ap (files_line end) (placed_words column (codes "files" ++ number files ++ codes " directories" ++ number directories) (codes "files")
+      (decimal files ∷ codes "directories" ∷ decimal directories ∷ [])
+      (four (codes "files") (number files) (codes " directories") (number directories) ∙ ap (λ (l : List ℕ). codes "files" ++ (number files ++ (codes " directories" ++ (32 ∷ l))))
+      (sym (append-nil (decimal directories))))
       (free (codes "files") refl, (decimal_word files first, (free (codes "directories") refl, (decimal_word directories second, tt)))))
       ∙ rw (number-decimal files first, number-decimal directories second) refl
 
@@ -80,7 +85,8 @@ module _ (column end : ℕ) where
       → units_line end (words_from column (codes "units used" ++ number used ++ codes " free" ++ number unused)) ≡ Reads (used, unused) []
   units_read used unused first second =
       ap (units_line end) (placed_words column (codes "units used" ++ number used ++ codes " free" ++ number unused) (codes "units") (codes "used" ∷ decimal used ∷ codes "free" ∷ decimal unused ∷ [])
-      (four (codes "units used") (number used) (codes " free") (number unused) ∙ ap (λ (l : List ℕ). codes "units used" ++ (number used ++ (codes " free" ++ (32 ∷ l)))) (sym (append-nil (decimal unused))))
+      (four (codes "units used") (number used) (codes " free") (number unused) ∙ ap (λ (l : List ℕ). codes "units used" ++ (number used ++ (codes " free" ++ (32 ∷ l))))
+      (sym (append-nil (decimal unused))))
       (free (codes "units") refl, (free (codes "used") refl, (decimal_word used first, (free (codes "free") refl, (decimal_word unused second, tt))))))
       ∙ rw (number-decimal used first, number-decimal unused second) refl
 
@@ -99,10 +105,12 @@ module _ (column end : ℕ) where
 
   pub bad_reads : (bad : Option (ℕ × Reason)) → IfTellingSlot bad → bad_entry_line end (words_from column (bad_text bad)) ≡ Reads bad []
   bad_reads None is =
-      ap (bad_entry_line end) (placed_words column (codes "bad entry none") (codes "bad") (codes "entry" ∷ codes "none" ∷ []) refl (free (codes "bad") refl, (free (codes "entry") refl, (free (codes "none") refl, tt))))
+      ap (bad_entry_line end)
+      (placed_words column (codes "bad entry none") (codes "bad") (codes "entry" ∷ codes "none" ∷ []) refl (free (codes "bad") refl, (free (codes "entry") refl, (free (codes "none") refl, tt))))
   bad_reads (Some bad) is = ap (bad_entry_line end) (answer_words (told.BadSlot bad.0 bad.1) column is) ∙ bad_words bad.0 bad.1 is
 
   pub past_reads : (n : ℕ) → n < 2 ^ 64 → past_line end (words_from column (codes "past gate" ++ number n)) ≡ Reads n []
   past_reads n small =
-      ap (past_line end) (placed_words column (codes "past gate" ++ number n) (codes "past") (codes "gate" ∷ decimal n ∷ []) (simp append-nil refl) (free (codes "past") refl, (free (codes "gate") refl, (decimal_word n small, tt))))
+      ap (past_line end) (placed_words column (codes "past gate" ++ number n) (codes "past") (codes "gate" ∷ decimal n ∷ []) (simp append-nil refl)
+      (free (codes "past") refl, (free (codes "gate") refl, (decimal_word n small, tt))))
       ∙ rw (number-decimal n small) refl

@@ -121,7 +121,8 @@ place_free false d is = is
 pub uuid_is_word : (id : List ℕ) → IsOneWord (hyphenated_text lower id)
 uuid_is_word id =
     one_word (hyphenated_text lower id) (omega (arith, by_index_length {X = ℕ} 36 (λ k. if is_hyphen_place k then 45 else uuid_digit lower (nibble id (digit_place k)))))
-    (indexed_free 36 (λ k. if is_hyphen_place k then 45 else uuid_digit lower (nibble id (digit_place k))) (λ k. place_free (is_hyphen_place k) _ (digit_free (nibble id (digit_place k)) (nibble_small id (digit_place k)))))
+    (indexed_free 36 (λ k. if is_hyphen_place k then 45 else uuid_digit lower (nibble id (digit_place k)))
+    (λ k. place_free (is_hyphen_place k) _ (digit_free (nibble id (digit_place k)) (nibble_small id (digit_place k)))))
 
 all_bytes : (id : List ℕ) → ((i : ℕ) → slice_index id i < 256) → All (λ b. b < 256) id
 all_bytes [] fits = All-nil (λ b. b < 256)
@@ -130,7 +131,8 @@ all_bytes (b ∷ id) fits = All-cons (λ b. b < 256) b id (fits 0) (all_bytes id
 pub uuid_back : (id : List ℕ) → IsUuid id → uuid_of (hyphenated_text lower id) ≡ Some id
 unfolding uuid_of
 uuid_back id is =
-    ap (λ (t : Bool). cond t (parsed (hyphenated_text lower id)) None) (is_utf8-from_IsUtf8 (hyphenated_text lower id) (IsUtf8-from_ascii (hyphenated_text lower id) (hyphenated_ascii lower id (inl refl))))
+    ap (λ (t : Bool). cond t (parsed (hyphenated_text lower id)) None)
+    (is_utf8-from_IsUtf8 (hyphenated_text lower id) (IsUtf8-from_ascii (hyphenated_text lower id) (hyphenated_ascii lower id (inl refl))))
     ∙ sym (parses_hyphenated lower id (inl refl) is.count (all_bytes id is.fits))
 
 -- Names of files.

@@ -77,7 +77,11 @@ told_answer_text (told.MediaFault at) = fault_text at
 -- the seven other lines of a report
 abbrev pub report_lines : Report → List ℕ
 report_lines r =
-    line (super_state_text r.superblock) ++ (line (log_state_text r.log) ++ (line (codes "files" ++ number r.files ++ codes " directories" ++ number r.directories) ++ (line (codes "units used" ++ number r.used ++ codes " free" ++ number r.free) ++ (line (overlap_text r.overlap) ++ (line (bad_text r.bad) ++ line (codes "past gate" ++ number r.past))))))
+    line (super_state_text r.superblock)
+    ++ (line (log_state_text r.log)
+    ++ (line (codes "files" ++ number r.files ++ codes " directories" ++ number r.directories)
+    ++ (line (codes "units used" ++ number r.used ++ codes " free" ++ number r.free)
+    ++ (line (overlap_text r.overlap) ++ (line (bad_text r.bad) ++ line (codes "past gate" ++ number r.past))))))
 
 -- the lines that follow it
 abbrev pub reply_lines : Reply → List ℕ

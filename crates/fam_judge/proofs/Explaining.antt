@@ -18,8 +18,11 @@ one_more past (first ∷ before) note = one_more (past_after past first) before 
 -- what is legal behind some notes is allowed for the bytes that they have
 legal_allowed : (start : Image) (before notes : List Note) → LegalBehind (past_of start before) notes → AreAllowedForSome start before notes
 legal_allowed start before [] legal = tt
-legal_allowed start before (note ∷ notes) legal =
-    (record { chosen = before; alike = refl; allowed = legal.0 }, legal_allowed start (before ++ note ∷ []) notes (subst (λ (past : Past). LegalBehind past notes) (sym (one_more (first_past start) before note)) legal.1))
+legal_allowed start before (note ∷ notes) legal = (
+  record { chosen = before; alike = refl; allowed = legal.0 },
+  legal_allowed start (before ++ note ∷ []) notes
+      (subst (λ (past : Past). LegalBehind past notes) (sym (one_more (first_past start) before note)) legal.1),
+)
 
 pub legal_explained : (start : Image) (journal : List Note) → Legal start journal → AreFormed (length start) [] journal → IsExplained start journal
 legal_explained start journal legal formed =

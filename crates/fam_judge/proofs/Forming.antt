@@ -25,8 +25,14 @@ module _ (lines : ℕ) (hosts : List HostShape) (name : List ℕ) (h : ℕ) (hos
 
   module _ (note : Note) (is : TaskNote h host.uuid t note) where
     acts : OperationsShape h hosts (note ∷ []) × (length (note ∷ []) ≤ 1)
-    acts =
-        ((subst (λ (o : Option HostShape). OfRunning o (λ me u. TaskNote h me u note)) (sym declared) (subst (λ (o : Option TaskShape). OfTask o (λ u. TaskNote h host.uuid u note)) (sym runs) is), tt), omega arith)
+    acts = (
+      (
+        subst (λ (o : Option HostShape). OfRunning o (λ me u. TaskNote h me u note)) (sym declared)
+            (subst (λ (o : Option TaskShape). OfTask o (λ u. TaskNote h host.uuid u note)) (sym runs) is),
+        tt,
+      ),
+      omega arith,
+    )
 
     free : FreeShape (call.Steps name) lines hosts (note ∷ [])
     free =
