@@ -1,5 +1,5 @@
 -- The first refusal of a call, by the number of its host and what is known of that.
-use Rattle.std.proofs.Common.{◌≡◌, ℕ, ◌*◌, List, [], length, map, Bool, false, Option, Some, None, refl, ap, ◌∙◌, subst}
+use Rattle.std.proofs.Common.{◌≡◌, ℕ, ◌*◌, List, length, map, Bool, false, Option, Some, None, refl, ap, subst}
 use Rattle.std.specs.Prelude.{◌&&◌, is_some, slice_get, option_map, nat_le, nat_lt, not}
 use Rattle.std.proofs.lemmas.List.{length-replicate}
 use Rattle.std.proofs.lemmas.Option.{same_Some}

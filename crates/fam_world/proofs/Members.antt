@@ -1,5 +1,5 @@
 -- Hosts of which one is written: how they look, and what stays of all of them.
-use Rattle.std.proofs.Common.{◌≡◌, ℕ, inl, inr, set, List, [], ◌∷◌, ◌++◌, length, map, Some, refl, ap, sym, ◌∙◌, subst}
+use Rattle.std.proofs.Common.{◌≡◌, ℕ, inl, inr, set, List, [], ◌∷◌, length, map, Some, refl, ap, sym, ◌∙◌, subst}
 use Prim.Native.Nat.{zero, suc}
 use Rattle.std.specs.Prelude.{slice_get, option_map}
 use Rattle.std.proofs.lemmas.Bool.{cases_eq}

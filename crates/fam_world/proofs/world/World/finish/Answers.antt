@@ -1,4 +1,4 @@
-use Rattle.std.proofs.Common.{◌≡◌, ◌++◌, ◌∷◌, [], List, length, Option, None, Some, Result, Ok, Err, set, refl, ap, sym, subst, ◌∙◌, true, lt_of_lt_of_le}
+use Rattle.std.proofs.Common.{◌≡◌, ◌++◌, ◌∷◌, [], List, Option, None, Some, Result, Ok, Err, set, refl, ap, sym, subst, ◌∙◌, true, lt_of_lt_of_le}
 use Rattle.fam_media.specs.States.{change}
 use Rattle.std.specs.Prelude.{IfSome, IsErrOf, OnErr, OnOk, is_some}
 use Rattle.fam_base.specs.declared.line.OutOfMemory.{OutOfMemory}

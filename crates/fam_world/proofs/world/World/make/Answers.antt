@@ -1,4 +1,4 @@
-use Rattle.std.proofs.Common.{set, ◌≡◌, ◌*◌, ◌++◌, ◌∷◌, [], List, Err, length, refl, ap, ◌∙◌, subst, None}
+use Rattle.std.proofs.Common.{set, ◌≡◌, ◌*◌, ◌++◌, ◌∷◌, [], List, Err, refl, ap, ◌∙◌, subst, None}
 use Rattle.fam_media.specs.States.{change}
 use Rattle.std.proofs.lemmas.Option.{slice_get_read}
 use Rattle.fam_rules.specs.Place.{line_bytes}

@@ -1,4 +1,4 @@
-use Rattle.std.proofs.Common.{set, ◌<◌, ◌++◌, ◌∷◌, [], List, Err, None, length, refl, ap, ◌∙◌, subst}
+use Rattle.std.proofs.Common.{set, ◌<◌, ◌++◌, ◌∷◌, [], List, Err, None, refl, ap, ◌∙◌, subst}
 use Rattle.fam_media.specs.States.{change}
 use Rattle.std.proofs.lemmas.Option.{slice_get_read}
 use Rattle.fam_machine.specs.Caches.{Cache}

@@ -1,5 +1,5 @@
 use Rattle.std.specs.Prelude.{IsErrOf, OnErr}
-use Rattle.std.proofs.Common.{◌≡◌, Result, ◌++◌, ◌∷◌, [], List, length, Ok, Err, false, refl, ap, sym, subst, ◌∙◌, set, lt_of_lt_of_le}
+use Rattle.std.proofs.Common.{◌≡◌, Result, ◌++◌, ◌∷◌, [], List, Ok, Err, false, refl, ap, sym, subst, ◌∙◌, set, lt_of_lt_of_le}
 use Rattle.std.proofs.lemmas.Option.{slice_get_read}
 use Rattle.fam_media.specs.States.{change}
 use Rattle.fam_journal.specs.Calls as call
