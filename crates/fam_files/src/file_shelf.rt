@@ -4,7 +4,7 @@
 //! socket and is asked for as `/dev/stdin`: it is read whole when its size is asked for. Whatever else a name stands for, be
 //! it a named pipe, a terminal or a closed standard input, has no size that can be known beforehand, and is a fault.
 
-ghost use Rattle.std.specs.Prelude.{◌≡◌, ◌≤◌, IfSome, None, length};
+ghost use Rattle.std.specs.Prelude.{◌≡◌, ◌≤◌, IfSome, None, drop, length};
 
 use crate::open_file::open_to_read;
 use fam_base::NameText;
@@ -12,10 +12,14 @@ use fam_media::{Failed, Shelf};
 use std::fs;
 use std::fs::File;
 use std::io::{ErrorKind, Read, Seek, SeekFrom};
+use std::mem::replace;
 use std::os::unix::fs::{FileExt, FileTypeExt};
 
-/// The bytes that are read in one call at most.
+/// The bytes that are read in one call at most where little is asked for, or where memory lacks.
 const PIECE_BYTES: usize = 16384;
+
+/// The bytes that are read in one call at most where more is asked for.
+const ROOM_BYTES: usize = 262_144;
 
 /// The name of the standard input.
 const INPUT: &str = "/dev/stdin";
@@ -40,6 +44,8 @@ pub struct FileShelf<'a> {
     shorts: u64,
     /// What is being read, with its name.
     open: Option<(NameText, Source)>,
+    /// Where large reads go through: none before the first of them.
+    room: Vec<u8>,
 }
 
 /// No file has the name: nothing stands there, or a folder does, or the name can't be one.
@@ -66,6 +72,11 @@ fn copied(bytes: &[u8], offset: u64, piece: &mut [u8]) -> usize
     count
 }
 
+/// Makes room for large reads where it is missing, and says whether there is memory for that.
+fn has_room(room: &mut Vec<u8>) -> bool {
+    room.len() == ROOM_BYTES || room.resize(ROOM_BYTES, 0).is_ok()
+}
+
 impl<'a> FileShelf<'a> {
     /// All files that the process may read.
     pub fn new(rt: &'a HostRuntime) -> FileShelf<'a> {
@@ -74,6 +85,7 @@ impl<'a> FileShelf<'a> {
             faults: 0,
             shorts: 0,
             open: None,
+            room: Vec::new(rt.alloc()),
         }
     }
 
@@ -165,6 +177,57 @@ impl<'a> FileShelf<'a> {
             None => None,
         }
     }
+
+    /// Reads from a source through a piece into the front of `into`, and says how many bytes. A read that fails leaves
+    /// `into` as it was.
+    fn read_through(
+        &mut self,
+        piece: &mut [u8],
+        name: &str,
+        offset: u64,
+        into: &mut [u8],
+    ) -> Option<usize>
+        ensures within { IfSome result (λ count. count ≤ length into.old) }
+        ensures rest { IfSome result (λ count. drop count into.new ≡ drop count into.old) }
+        ensures none { result ≡ None → into.new ≡ into.old }
+        ensures faults { self.new.faults ≡ self.old.faults }
+        ensures shorts { self.new.shorts ≡ self.old.shorts }
+    {
+        let most = into.len().min(piece.len());
+        let count = self.read(name, offset, &mut piece[..most])?;
+        into[..count].copy_from_slice(&piece[..count]);
+        Some(count)
+    }
+
+    /// As `read_through`, through a piece of its own.
+    fn read_small(&mut self, name: &str, offset: u64, into: &mut [u8]) -> Option<usize>
+        ensures within { IfSome result (λ count. count ≤ length into.old) }
+        ensures rest { IfSome result (λ count. drop count into.new ≡ drop count into.old) }
+        ensures none { result ≡ None → into.new ≡ into.old }
+        ensures faults { self.new.faults ≡ self.old.faults }
+        ensures shorts { self.new.shorts ≡ self.old.shorts }
+    {
+        let mut piece = [0u8; PIECE_BYTES];
+        self.read_through(&mut piece, name, offset, into)
+    }
+
+    /// As `read_through`, through the shelf's room, or where there is no memory for that through a piece.
+    fn read_large(&mut self, name: &str, offset: u64, into: &mut [u8]) -> Option<usize>
+        ensures within { IfSome result (λ count. count ≤ length into.old) }
+        ensures rest { IfSome result (λ count. drop count into.new ≡ drop count into.old) }
+        ensures none { result ≡ None → into.new ≡ into.old }
+        ensures faults { self.new.faults ≡ self.old.faults }
+        ensures shorts { self.new.shorts ≡ self.old.shorts }
+    {
+        let mut room = replace(&mut self.room, Vec::new(self.rt.alloc()));
+        let count = if has_room(&mut room) {
+            self.read_through(room.as_mut_slice(), name, offset, into)
+        } else {
+            self.read_small(name, offset, into)
+        };
+        self.room = room;
+        count
+    }
 }
 
 impl Shelf for FileShelf<'_> {
@@ -186,13 +249,15 @@ impl Shelf for FileShelf<'_> {
     }
 
     fn read_at(&mut self, name: &str, offset: u64, into: &mut [u8]) -> Result<usize, Failed> {
-        let mut piece = [0u8; PIECE_BYTES];
-        let most = into.len().min(PIECE_BYTES);
-        let Some(count) = self.read(name, offset, &mut piece[..most]) else {
+        let read = if into.len() > PIECE_BYTES {
+            self.read_large(name, offset, into)
+        } else {
+            self.read_small(name, offset, into)
+        };
+        let Some(count) = read else {
             self.faults = self.faults.saturating_add(1);
             return Err(Failed);
         };
-        into[..count].copy_from_slice(&piece[..count]);
         if count == 0 {
             self.shorts = self.shorts.saturating_add(1);
         }
