@@ -38,7 +38,7 @@ use Rattle.fam_journal.specs.Shapes.{HostShaped, IsShaped, Pairs, shapes_behind,
 use Rattle.fam_journal.specs.Kept.{Held}
 use Rattle.fam_journal.specs.Machines.{HostState, Machines, machine_of, with_machine}
 use Rattle.fam_journal.specs.Members.{changed_at}
-use Rattle.fam_journal.specs.ReadsUuid.{AreNamed}
+use Rattle.fam_journal.specs.Names.{AreNamed}
 use Rattle.fam_journal.specs.Notes.{Cut, Made, Note, Refused}
 use Rattle.fam_journal.specs.View.{HostStandsAt, HostView, WorldStands, WorldView}
 use Rattle.fam_journal.specs.ByWorld.{number_in, refusal_in}
