@@ -5,9 +5,10 @@ use Rattle.fam_journal.specs.Legal.{Allowed, Legal, LegalBehind}
 use Rattle.fam_journal.specs.Notes.{Note}
 use Rattle.fam_journal.specs.Past.{Past, first_past, past_after, past_behind, past_of}
 use Rattle.fam_journal.specs.Shapes.{HostShape, shapes_after}
-use Rattle.fam_judge.specs.Alike.{AreTold}
-use Rattle.fam_judge.specs.Explained.{AreAllowedForSome, AreFormed, IsExplained, IsExplainedBy}
-use Rattle.fam_judge.proofs.Showing.{parts, shows_itself, whole}
+use Rattle.fam_judge.specs.Alike.{AreAlikeNotes, AreTold}
+use Rattle.fam_judge.specs.Explained.{AreAllowedForSome, IsExplained, IsExplainedBy}
+use Rattle.fam_judge.specs.Formed.{AreFormed, AreSoundNotes}
+use Rattle.fam_judge.proofs.Showing.{parts, same_shown, shows_itself, whole}
 use Rattle.fam_judge.proofs.Telling.{alike_is, told-append}
 
 -- one note more
@@ -15,18 +16,29 @@ one_more : (past : Past) (before : List Note) (note : Note) → past_behind past
 one_more past [] note = refl
 one_more past (first ∷ before) note = one_more (past_after past first) before note
 
--- what is legal behind some notes is allowed for the bytes that they have
-legal_allowed : (start : Image) (before notes : List Note) → LegalBehind (past_of start before) notes → AreAllowedForSome start before notes
-legal_allowed start before [] legal = tt
-legal_allowed start before (note ∷ notes) legal = (
-  record { chosen = before; alike = refl; allowed = legal.0 },
-  legal_allowed start (before ++ note ∷ []) notes
+sound-append : (a b : List Note) → AreSoundNotes a → AreSoundNotes b → AreSoundNotes (a ++ b)
+sound-append [] b none more = more
+sound-append (note ∷ a) b some more = (some.0, sound-append a b some.1 more)
+
+-- what is legal and formed behind some notes is allowed for the bytes that they have
+legal_allowed : (start : Image) (before notes : List Note) (hosts : List HostShape) → AreSoundNotes before → AreFormed (length start) hosts notes
+    → LegalBehind (past_of start before) notes → AreAllowedForSome start before notes
+legal_allowed start before [] hosts sound formed legal = tt
+legal_allowed start before (note ∷ notes) hosts sound formed legal = (
+  record { chosen = before; alike = refl; sound = sound; allowed = legal.0 },
+  legal_allowed start (before ++ note ∷ []) notes (shapes_after hosts note) (sound-append before (note ∷ []) sound (formed.0.sound, tt)) formed.1
       (subst (λ (past : Past). LegalBehind past notes) (sym (one_more (first_past start) before note)) legal.1),
 )
 
+-- a legal journal that is formed explains itself
 pub legal_explained : (start : Image) (journal : List Note) → Legal start journal → AreFormed (length start) [] journal → IsExplained start journal
 legal_explained start journal legal formed =
-    (journal, record { shown = shows_itself journal; formed = formed; allowed = legal_allowed start [] journal legal })
+    (journal, record { shown = shows_itself journal; formed = formed; allowed = legal_allowed start [] journal [] tt formed legal })
+
+-- a history that tells the same is explained by the same journal
+pub same_explained : (start : Image) (a b : List Note) → AreAlikeNotes a b → IsExplained start a → IsExplained start b
+same_explained start a b alike is =
+    (is.0, record { shown = same_shown a b is.0 alike is.1.shown; formed = is.1.formed; allowed = is.1.allowed })
 
 -- of the first part of a journal
 formed_front : (lines : ℕ) (hosts : List HostShape) (front back : List Note) → AreFormed lines hosts (front ++ back) → AreFormed lines hosts front
@@ -37,6 +49,7 @@ allowed_front : (start : Image) (before front back : List Note) → AreAllowedFo
 allowed_front start before [] back allowed = tt
 allowed_front start before (note ∷ front) back allowed = (allowed.0, allowed_front start (before ++ note ∷ []) front back allowed.1)
 
+-- a first part of the journal explains the first lines
 pub first_explained : (start : Image) (first rest : List Note) → IsExplained start (first ++ rest) → IsExplained start first
 first_explained start first rest is =
     let part = parts first rest is.0 is.1.shown in (
@@ -58,10 +71,11 @@ allowed_legal start before (note ∷ notes) told more allowed = (
       (allowed_legal start (before ++ note ∷ []) notes (told-append before (note ∷ []) told (more.0, tt)) more.1 allowed.1),
 )
 
+-- the journal is the history, where this tells all
 pub explained_legal : (start : Image) (history journal : List Note) → IsExplainedBy start history journal → length history ≡ length journal → AreTold history
     → Legal start history × AreFormed (length start) [] history
 explained_legal start history journal is same told =
-    let one : journal ≡ history = sym (whole history journal is.shown same) in (
+    let one : journal ≡ history = sym (alike_is history journal told (whole history journal is.shown same)) in (
       allowed_legal start [] history tt told (subst (λ (l : List Note). AreAllowedForSome start [] l) one is.allowed),
       subst (λ (l : List Note). AreFormed (length start) [] l) one is.formed,
     )

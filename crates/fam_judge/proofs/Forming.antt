@@ -1,14 +1,30 @@
 -- What a running command gives next has the form of the tables.
-use Rattle.std.proofs.Common.{◌≡◌, ℕ, ◌≤◌, Bool, true, List, [], ◌∷◌, length, Option, Some, None, ap, sym, ◌∙◌, subst, arith}
+use Rattle.std.proofs.Common.{◌≡◌, ℕ, Bool, true, List, [], ◌∷◌, Option, Some, None, ap, sym, ◌∙◌, subst, arith}
 use Rattle.std.specs.Prelude.{slice_get, is_some, not, option_map}
 use Rattle.std.proofs.lemmas.Option.{slice_get-map}
 use Rattle.fam_journal.specs.declared.refusal.Refusal.{Refusal}
 use Rattle.fam_journal.specs.declared.refusal.Refusal.TheVariants as why
-use Rattle.fam_journal.specs.Calls as call
-use Rattle.fam_journal.specs.Calls.{busy_at, idle_refusal, is_busy_host, number_of, on_host, refusal_of, when}
-use Rattle.fam_journal.specs.Notes.{Note}
-use Rattle.fam_journal.specs.Shapes.{ActsShape, AtShape, FreeShape, HostShape, OfHostShape, OfRunning, OfTask, OperationsShape, ShapeByRefusal, TaskNote, TaskShape, refusal_told, shown_running, shown_shape, shown_shapes}
-use Rattle.fam_judge.specs.Explained.{IsFormedNote}
+use Rattle.fam_journal.specs.declared.event.Event.TheVariants as event
+use Rattle.fam_journal.specs.Calls.{busy_at, idle_refusal, is_busy_host, number_of, on_host, when}
+use Rattle.fam_journal.specs.EventShapes.{StepsShape}
+use Rattle.fam_journal.specs.Notes.{Note, Host, Made, Cut, Start, Mark, Found, Writes, Answered, Stop, Halt, Umount, Refused}
+use Rattle.fam_journal.specs.Shapes.{HostShape, OfRunning, OfTask, OperationsShape, ShapeByRefusal, TaskNote, TaskShape, shown_running, shown_shape, shown_shapes}
+use Rattle.fam_judge.specs.Formed.{IsFormedNote, IsPlaced, IsSoundNote}
+
+-- a running command begins no other
+task_sound : (h : ℕ) (me : List ℕ) (t : TaskShape) (note : Note) → TaskNote h me t note → IsSoundNote note
+task_sound h me t (Host name uuid) is = absurd is
+task_sound h me t (Made host p) is = absurd is
+task_sound h me t (Cut host k) is = absurd is
+task_sound h me t (Start host cmd) is = absurd is
+task_sound h me t (Mark host) is = tt
+task_sound h me t (Found host n) is = tt
+task_sound h me t (Writes host seq entry) is = tt
+task_sound h me t (Answered host answer) is = tt
+task_sound h me t (Stop host) is = absurd is
+task_sound h me t (Halt host) is = absurd is
+task_sound h me t (Umount host) is = absurd is
+task_sound h me t (Refused name cause) is = absurd is
 
 module _ (lines : ℕ) (hosts : List HostShape) (name : List ℕ) (h : ℕ) (host : HostShape) (t : TaskShape)
     (number : number_of name (shown_shapes lines hosts) ≡ Some h) (declared : slice_get hosts h ≡ Some host) (runs : host.task ≡ Some t) where
@@ -17,28 +33,28 @@ module _ (lines : ℕ) (hosts : List HostShape) (name : List ℕ) (h : ℕ) (hos
       ap is_busy_host (slice_get-map shown_shape hosts h ∙ ap (option_map shown_shape) declared)
       ∙ ap (λ (o : Option TaskShape). is_some (shown_running o)) runs
 
-  none : refusal_told (call.Steps name) lines hosts ≡ None
-  unfolding refusal_of
+  none : on_host (number_of name (shown_shapes lines hosts)) (λ k. idle_refusal k (shown_shapes lines hosts)) ≡ None
   none =
       ap (λ (o : Option ℕ). on_host o (λ k. idle_refusal k (shown_shapes lines hosts))) number
       ∙ ap (λ (b : Bool). when (not b) why.Idle) busy
 
-  module _ (note : Note) (is : TaskNote h host.uuid t note) where
-    acts : OperationsShape h hosts (note ∷ []) × (length (note ∷ []) ≤ 1)
-    acts = (
-      (
-        subst (λ (o : Option HostShape). OfRunning o (λ me u. TaskNote h me u note)) (sym declared)
-            (subst (λ (o : Option TaskShape). OfTask o (λ u. TaskNote h host.uuid u note)) (sym runs) is),
-        tt,
-      ),
-      omega arith,
+  module _ (note : Note) (is : TaskNote h host.uuid t note) (placed : IsPlaced hosts note) where
+    operations : OperationsShape h hosts (note ∷ [])
+    operations = (
+      subst (λ (o : Option HostShape). OfRunning o (λ me u. TaskNote h me u note)) (sym declared)
+          (subst (λ (o : Option TaskShape). OfTask o (λ u. TaskNote h host.uuid u note)) (sym runs) is),
+      tt,
     )
 
-    free : FreeShape (call.Steps name) lines hosts (note ∷ [])
-    free =
-        subst (λ (o : Option ℕ). AtShape o hosts (λ k x. ActsShape (call.Steps name) k x lines hosts (note ∷ []))) (sym number)
-        (subst (λ (o : Option HostShape). OfHostShape o (λ x. ActsShape (call.Steps name) h x lines hosts (note ∷ []))) (sym declared) acts)
+    steps : StepsShape 1 name lines hosts (note ∷ [])
+    steps = record { host = h; number = number; operations = operations; within = omega arith }
 
+    -- a step gives the note
     pub task_formed : IsFormedNote lines hosts note
-    task_formed =
-        (call.Steps name, subst (λ (o : Option Refusal). ShapeByRefusal name o (note ∷ []) (FreeShape (call.Steps name) lines hosts (note ∷ []))) (sym none) free)
+    task_formed = record {
+      event = event.Step name 1;
+      valid = tt;
+      shape = subst (λ (o : Option Refusal). ShapeByRefusal name o (note ∷ []) (StepsShape 1 name lines hosts (note ∷ []))) (sym none) steps;
+      sound = task_sound h host.uuid t note is;
+      placed = placed;
+    }

@@ -1,4 +1,5 @@
-pub mod Showing
 pub mod Telling
+pub mod Showing
 pub mod Explaining
 pub mod Forming
+pub mod Following

@@ -1,7 +1,9 @@
 -- What a history shows.
-use Rattle.std.proofs.Common.{◌≡◌, ◌≤◌, inl, inr, List, [], ◌∷◌, ◌++◌, length, refl, ap, ◌∙◌, arith}
+use Rattle.std.proofs.Common.{◌≡◌, ◌≤◌, inl, inr, List, [], ◌∷◌, ◌++◌, length, map, refl, ap, sym, ◌∙◌, arith}
 use Rattle.fam_journal.specs.Notes.{Note}
+use Rattle.fam_judge.specs.Alike.{AreAlikeNotes, told_note}
 use Rattle.fam_judge.specs.Shows.{Shows}
+use Rattle.fam_judge.proofs.Telling.{both, heads, none_is_more, more_is_none, tails}
 
 -- a journal shows itself
 pub shows_itself : (journal : List Note) → Shows journal journal
@@ -15,16 +17,26 @@ no_longer (line ∷ lines) [] shows = absurd shows
 no_longer (line ∷ lines) (note ∷ notes) (inl here) = let rest : length lines ≤ length notes = no_longer lines notes here.1 in omega arith
 no_longer (line ∷ lines) (note ∷ notes) (inr out) = let rest : length (line ∷ lines) ≤ length notes = no_longer (line ∷ lines) notes out.1 in omega arith
 
--- one that is as long is it
-pub whole : (history journal : List Note) → Shows history journal → length history ≡ length journal → history ≡ journal
+-- one that is as long tells the same
+pub whole : (history journal : List Note) → Shows history journal → length history ≡ length journal → AreAlikeNotes history journal
 whole [] [] shows same = refl
 whole [] (note ∷ notes) shows same = absurd (omega arith)
 whole (line ∷ lines) [] shows same = absurd shows
-whole (line ∷ lines) (note ∷ notes) (inl here) same =
-    let rest : lines ≡ notes = whole lines notes here.1 (omega arith) in
-    ap (λ (n : Note). n ∷ lines) here.0 ∙ ap (λ (l : List Note). note ∷ l) rest
+whole (line ∷ lines) (note ∷ notes) (inl here) same = both here.0 (whole lines notes here.1 (omega arith))
 whole (line ∷ lines) (note ∷ notes) (inr out) same =
     let rest : length (line ∷ lines) ≤ length notes = no_longer (line ∷ lines) notes out.1 in absurd (omega arith)
+
+-- a history that tells the same shows the same
+pub same_shown : (a b journal : List Note) → AreAlikeNotes a b → Shows a journal → Shows b journal
+same_shown [] [] journal alike shows = shows
+same_shown [] (line ∷ b) journal alike shows = absurd (none_is_more (told_note line) (map told_note b) alike)
+same_shown (line ∷ a) [] journal alike shows = absurd (more_is_none (told_note line) (map told_note a) alike)
+same_shown (line ∷ a) (other ∷ b) [] alike shows = absurd shows
+same_shown (line ∷ a) (other ∷ b) (note ∷ notes) alike (inl here) =
+    let one : told_note line ≡ told_note other = heads (told_note line) (told_note other) (map told_note a) (map told_note b) alike in
+    let more : AreAlikeNotes a b = tails (told_note line) (told_note other) (map told_note a) (map told_note b) alike in
+    inl (sym one ∙ here.0, same_shown a b notes more here.1)
+same_shown (line ∷ a) (other ∷ b) (note ∷ notes) alike (inr out) = inr (out.0, same_shown (line ∷ a) (other ∷ b) notes alike out.1)
 
 -- a journal whose first part is shown by a history's first lines, and what is left
 pub record Parts (first rest journal : List Note) : Type 0 where

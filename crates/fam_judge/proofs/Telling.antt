@@ -40,28 +40,37 @@ note_back (Halt h) note e = same_Some (Halt h) note e
 note_back (Umount h) note e = same_Some (Umount h) note e
 note_back (Refused name cause) note e = same_Some (Refused name cause) note e
 
-heads : (a b : ToldNote) (xs ys : List ToldNote) → a ∷ xs ≡ b ∷ ys → a ≡ b
+-- equal lists have equal first members
+pub heads : (a b : ToldNote) (xs ys : List ToldNote) → a ∷ xs ≡ b ∷ ys → a ≡ b
 heads a b xs ys e = cc
 
-tails : (a b : ToldNote) (xs ys : List ToldNote) → a ∷ xs ≡ b ∷ ys → xs ≡ ys
+-- and equal rests
+pub tails : (a b : ToldNote) (xs ys : List ToldNote) → a ∷ xs ≡ b ∷ ys → xs ≡ ys
 tails a b xs ys e = cc
+
+-- and the other way about
+pub both : {a b : ToldNote} {xs ys : List ToldNote} → a ≡ b → xs ≡ ys → a ∷ xs ≡ b ∷ ys
+both one more = cc
+
+-- no list is empty and not
+pub none_is_more : (x : ToldNote) (xs : List ToldNote) → [] ≡ x ∷ xs → ⊥
+none_is_more x xs e = cc
+
+-- so the other way round
+pub more_is_none : (x : ToldNote) (xs : List ToldNote) → x ∷ xs ≡ [] → ⊥
+more_is_none x xs e = cc
 
 -- a journal of which all is told is alike to none but itself
 pub alike_is : (a b : List Note) → AreTold a → AreAlikeNotes a b → a ≡ b
 alike_is [] [] told same = refl
-alike_is [] (n ∷ b) told same = absurd (differ (told_note n) (map told_note b) same)
-  where
-    differ : (x : ToldNote) (xs : List ToldNote) → [] ≡ x ∷ xs → ⊥
-    differ x xs e = cc
-alike_is (m ∷ a) [] told same = absurd (differ (told_note m) (map told_note a) same)
-  where
-    differ : (x : ToldNote) (xs : List ToldNote) → x ∷ xs ≡ [] → ⊥
-    differ x xs e = cc
+alike_is [] (n ∷ b) told same = absurd (none_is_more (told_note n) (map told_note b) same)
+alike_is (m ∷ a) [] told same = absurd (more_is_none (told_note m) (map told_note a) same)
 alike_is (m ∷ a) (n ∷ b) told same =
     let one : n ≡ m = note_back n m (ap whole_note (sym (heads (told_note m) (told_note n) (map told_note a) (map told_note b) same)) ∙ told.0) in
     let more : a ≡ b = alike_is a b told.1 (tails (told_note m) (told_note n) (map told_note a) (map told_note b) same) in
     ap (λ (x : Note). x ∷ a) (sym one) ∙ ap (λ (l : List Note). n ∷ l) more
 
+-- so of both parts
 pub told-append : (a b : List Note) → AreTold a → AreTold b → AreTold (a ++ b)
 told-append [] b none more = more
 told-append (note ∷ a) b some more = (some.0, told-append a b some.1 more)

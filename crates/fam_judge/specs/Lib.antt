@@ -1,3 +1,4 @@
-pub mod Shows
 pub mod Alike
+pub mod Shows
+pub mod Formed
 pub mod Explained

@@ -1,6 +1,8 @@
--- Histories that show a journal. A history is notes as a recorder wrote them down: it may leave out what a task tells on its way.
+-- Histories that show a journal. A history is notes as a recorder wrote them down: it may leave out what a task tells on its way,
+-- and of each note it tells what a text does.
 use Rattle.std.specs.Prelude.{⊤, ◌≡◌, ◌⊎◌, IsTrue, Bool, true, false, List, [], ◌∷◌}
 use Rattle.fam_journal.specs.Notes.{Note, Host, Made, Cut, Start, Mark, Found, Writes, Answered, Stop, Halt, Umount, Refused}
+use Rattle.fam_judge.specs.Alike.{told_note}
 
 -- a note that a history may leave out
 abbrev pub is_inner : Note → Bool
@@ -17,9 +19,9 @@ is_inner (Halt h) = false
 is_inner (Umount h) = false
 is_inner (Refused name cause) = false
 
--- the history is the journal without some of its marks, founds and writes
+-- the history tells the same as the journal without some of its marks, founds and writes
 abbrev pub Shows : List Note → List Note → Type 0
 Shows [] [] = ⊤
 Shows [] (note ∷ notes) = IsTrue (is_inner note) × Shows [] notes
 Shows (line ∷ lines) [] = ⊥
-Shows (line ∷ lines) (note ∷ notes) = ((line ≡ note) × Shows lines notes) ⊎ (IsTrue (is_inner note) × Shows (line ∷ lines) notes)
+Shows (line ∷ lines) (note ∷ notes) = ((told_note line ≡ told_note note) × Shows lines notes) ⊎ (IsTrue (is_inner note) × Shows (line ∷ lines) notes)

@@ -2,14 +2,18 @@
 
 ghost use Rattle.std.specs.Prelude.{◌≡◌, ◌++◌, ℕ, [], List, Some, length, slice_get};
 ghost use Rattle.fam_base.specs.Image.{Image};
+ghost use Rattle.fam_journal.specs.declared.event.Event.{Event};
+ghost use Rattle.fam_journal.specs.EventShapes.{FollowsShape};
+ghost use Rattle.fam_journal.specs.Laws.{AreSound};
 ghost use Rattle.fam_journal.specs.Legal.{Legal};
 ghost use Rattle.fam_journal.specs.Calls.{number_of};
 ghost use Rattle.fam_journal.specs.Notes.{Note};
 ghost use Rattle.fam_journal.specs.Shapes.{HostShape, TaskNote, TaskShape, shown_shapes};
-ghost use Rattle.fam_judge.specs.Alike.{AreTold};
-ghost use Rattle.fam_judge.specs.Explained.{AreFormed, IsExplained, IsExplainedBy, IsFormedNote};
+ghost use Rattle.fam_judge.specs.Alike.{AreAlikeNotes, AreTold};
+ghost use Rattle.fam_judge.specs.Explained.{IsExplained, IsExplainedBy};
+ghost use Rattle.fam_judge.specs.Formed.{AreFormed, ArePlaced, AreSoundNotes, IsFormedNote, IsPlaced};
 
-/// A legal journal whose tasks have the form of the tables is explained as it stands.
+/// A legal journal whose notes have the form of the tables (`AreFormed`) is explained as it stands.
 pub fn what_is_legal_is_explained()
     ensures { (start : Image) (journal : List Note) → Legal start journal → AreFormed (length start) [] journal
         → IsExplained start journal }
@@ -21,19 +25,33 @@ pub fn first_lines_are_explained()
     ensures { (start : Image) (first rest : List Note) → IsExplained start (first ++ rest) → IsExplained start first }
 {}
 
-/// A history that leaves no line out is the journal that explains it (`same`). So where it takes nothing from sources it is
-/// legal, and its tasks have the form of the tables (`legal`).
+/// A history that is the same but for bytes as one that is explained is explained.
+pub fn the_same_but_for_bytes()
+    ensures { (start : Image) (a b : List Note) → AreAlikeNotes a b → IsExplained start a → IsExplained start b }
+{}
+
+/// A history that leaves no line out tells the same as the journal that explains it (`same`). So where it takes nothing from
+/// sources it is legal, and its notes have the form of the tables (`legal`).
 pub fn where_no_line_is_left_out()
     ensures same { (start : Image) (history journal : List Note) → IsExplainedBy start history journal
-        → length history ≡ length journal → history ≡ journal }
+        → length history ≡ length journal → AreAlikeNotes history journal }
     ensures legal { (start : Image) (history journal : List Note) → IsExplainedBy start history journal
         → length history ≡ length journal → AreTold history
         → Legal start history × AreFormed (length start) [] history }
 {}
 
-/// The note that a host's running command may give next (`TaskNote` of fam_journal) has the form of the tables.
+/// The note that a host's running command may give next (`TaskNote` of fam_journal) has the form of the tables, where an answer
+/// stands where these give it (`IsPlaced`).
 pub fn a_task_is_formed()
     ensures { (lines : ℕ) (hosts : List HostShape) (name : List ℕ) (h : ℕ) (host : HostShape) (task : TaskShape) (note : Note)
         → number_of name (shown_shapes lines hosts) ≡ Some h → slice_get hosts h ≡ Some host → host.task ≡ Some task
-        → TaskNote h host.uuid task note → IsFormedNote lines hosts note }
+        → TaskNote h host.uuid task note → IsPlaced hosts note → IsFormedNote lines hosts note }
+{}
+
+/// What events within their limits add one after another (`FollowsShape` of fam_journal) has the form of the tables, where its
+/// commands are sound and its answers stand where the tables give them.
+pub fn what_follows_is_formed()
+    ensures { (lines : ℕ) (events : List Event) (hosts : List HostShape) (journal : List Note)
+        → AreSound events → FollowsShape lines events hosts journal → AreSoundNotes journal → ArePlaced hosts journal
+        → AreFormed lines hosts journal }
 {}

@@ -1,12 +1,12 @@
 //! Which recorded histories hosts that keep the promise could have had: definitions, and laws whose functions do nothing.
 //!
-//! `specs/Shows.antt` says what a history may leave out, `specs/Alike.antt` which journals are the same but for bytes, and
-//! `specs/Explained.antt` which histories are explained.
+//! `specs/Shows.antt` says what a history may leave out, `specs/Alike.antt` which journals are the same but for bytes,
+//! `specs/Formed.antt` what the form of the tables is, and `specs/Explained.antt` which histories are explained.
 #![tactic(auto)]
 
 mod laws;
 
 pub use laws::{
-    a_task_is_formed, first_lines_are_explained, what_is_legal_is_explained,
-    where_no_line_is_left_out,
+    a_task_is_formed, first_lines_are_explained, the_same_but_for_bytes, what_follows_is_formed,
+    what_is_legal_is_explained, where_no_line_is_left_out,
 };
