@@ -34,11 +34,15 @@ const PAGE_BYTES: usize = 65536;
 /// The lines that are read or written by one call at most: those of a page.
 const PAGE_LINES: usize = 1024;
 
-/// The lines of a run that is read as its lines are one by one: those of a slot at most.
+/// The lines of a run that is written by one call of few bytes: those of a slot at most.
 const FEW_LINES: usize = 16;
 
 /// Their bytes.
 const FEW_BYTES: usize = 1024;
+
+/// The lines of a run that is read as its lines are one by one, so that what was read ahead serves: those of a row of slots at
+/// most.
+const ROW_LINES: usize = 128;
 
 /// The bytes that are read ahead where no line before this one was given.
 const FIRST_BYTES: usize = 4096;
@@ -363,11 +367,11 @@ impl FileMedia {
         Ok(())
     }
 
-    /// Reads few lines: at once where all of them were read ahead, and else one by one.
+    /// Reads the lines of a row: at once where all of them were read ahead, and else one by one.
     #[inline]
-    fn read_few(&mut self, first: u64, lines: &mut [Line]) -> Result<(), RunFailed>
+    fn read_row(&mut self, first: u64, lines: &mut [Line]) -> Result<(), RunFailed>
         requires within { first + length lines.old ≤ self.old.lines }
-        requires few { length lines.old ≤ FEW_LINES }
+        requires few { length lines.old ≤ ROW_LINES }
         ensures before { IfErr result (λ failed. failed.done < length lines.old) }
         ensures len { length lines.new ≡ length lines.old }
         ensures lines { self.new.lines ≡ self.old.lines }
@@ -490,11 +494,11 @@ impl Media for FileMedia {
         Err(Failed)
     }
 
-    /// By one call for the lines of a page. Few lines come from what was read ahead, and those up to the gate's, and lines where
-    /// there is no page, are read one by one.
+    /// By one call for the lines of a page. The lines of a row come from what was read ahead, and those up to the gate's, and lines
+    /// where there is no page, are read one by one.
     fn read_run(&mut self, first: LineNo, lines: &mut [Line]) -> Result<(), RunFailed> {
-        if lines.len() <= FEW_LINES {
-            return self.read_few(first.0, lines);
+        if lines.len() <= ROW_LINES {
+            return self.read_row(first.0, lines);
         }
         if first.0 <= GATE_LINE || self.page.len() < PAGE_BYTES {
             return self.read_each(first.0, lines);
