@@ -115,10 +115,17 @@ module _ (against : Content) (e : Entry) (words : List ℕ) (n : ℕ) where
 -- A file that is read from an offset on.
 
 -- the bytes that a read gives, by the words
-pub wanted_bytes : (loaded : List ℕ) (offset count size : ℕ) → file_bytes_from offset count (bytes_by loaded (64 * (offset / 64)) size) ≡ map (λ i. byte_in loaded (offset % 64 + i)) (range_with_len 0 (min size (offset + count) - offset))
+pub wanted_bytes : (loaded : List ℕ) (offset count size : ℕ) → file_bytes_from offset count (bytes_by loaded (64 * (offset / 64)) size)
+    ≡ map (λ i. byte_in loaded (offset % 64 + i)) (range_with_len 0 (min size (offset + count) - offset))
 wanted_bytes loaded offset count size =
     same_lists (file_bytes_from offset count all) (map (λ i. byte_in loaded (offset % 64 + i)) (range_with_len 0 (min size (offset + count) - offset)))
-    (omega (arith, length-take count (drop offset all), length-drop offset all, length-bytes loaded (64 * (offset / 64)) size, length-map-range_with_len (λ i. byte_in loaded (offset % 64 + i)) 0 (min size (offset + count) - offset)))
+    (omega (
+      arith,
+      length-take count (drop offset all),
+      length-drop offset all,
+      length-bytes loaded (64 * (offset / 64)) size,
+      length-map-range_with_len (λ i. byte_in loaded (offset % 64 + i)) 0 (min size (offset + count) - offset),
+    ))
     (λ k d below.
     let small : k < min size (offset + count) - offset = omega (arith, length-take count (drop offset all), length-drop offset all, length-bytes loaded (64 * (offset / 64)) size) in
     get_or-take count (drop offset all) k d (omega arith)

@@ -62,11 +62,13 @@ module _ (words : List ℕ) (lines : ℕ) where
   unfolding report_of
   report_on_super fault is = ap (report_super (fed_head words)) is
 
-  report_on_header : (p : Params) (fault : LogFault) → fed_super words lines ≡ Ok p → log_fault (fed_head words log_line) p ≡ Some fault → report_of (fed_head words) (line_bytes * lines) ≡ log_report fault
+  report_on_header : (p : Params) (fault : LogFault) → fed_super words lines ≡ Ok p → log_fault (fed_head words log_line) p ≡ Some fault
+      → report_of (fed_head words) (line_bytes * lines) ≡ log_report fault
   unfolding report_of
   report_on_header p fault super is = ap (report_super (fed_head words)) super ∙ ap (report_log (fed_head words) p) is
 
-  report_on_gate : (p : Params) (fault : LogFault) → fed_super words lines ≡ Ok p → log_fault (fed_head words log_line) p ≡ None → gate_fault (fed_gate words) p ≡ Some fault → report_of (fed_head words) (line_bytes * lines) ≡ log_report fault
+  report_on_gate : (p : Params) (fault : LogFault) → fed_super words lines ≡ Ok p → log_fault (fed_head words log_line) p ≡ None
+      → gate_fault (fed_gate words) p ≡ Some fault → report_of (fed_head words) (line_bytes * lines) ≡ log_report fault
   unfolding report_of
   report_on_gate p fault super header is = ap (report_super (fed_head words)) super ∙ ap (report_log (fed_head words) p) header ∙ ap (report_below (fed_head words) p) is
 
@@ -78,7 +80,9 @@ module _ (words : List ℕ) (lines : ℕ) where
       (ap₂ (λ (xs ys : List ℕ). xs ++ ys) (head_line p words 0 1 (omega arith)) (head_line p words 0 2 (omega arith)))
 
   -- a sound head leaves the report to the slots
-  pub report_on_slots : (p : Params) → fed_super words lines ≡ Ok p → log_fault (fed_head words log_line) p ≡ None → gate_fault (fed_gate words) p ≡ None → report_of (fed p 0 words) (line_bytes * lines) ≡ report_by p (fed_gate words) (survey_slots (fed p 0 words) p (fed_gate words) 0 p.slots no_survey)
+  pub report_on_slots : (p : Params) → fed_super words lines ≡ Ok p → log_fault (fed_head words log_line) p ≡ None
+      → gate_fault (fed_gate words) p ≡ None → report_of (fed p 0 words) (line_bytes * lines) ≡ report_by p (fed_gate words)
+      (survey_slots (fed p 0 words) p (fed_gate words) 0 p.slots no_survey)
   unfolding report_of
   report_on_slots p super header within =
       let least : 8 ≤ (geometry p).lines = (shape p).lines in
@@ -94,11 +98,13 @@ module _ (words : List ℕ) (lines : ℕ) where
   super_reply cmd fault is = refl
 
   -- where the header is
-  pub header_reply : (cmd : Cmd) (p : Params) (fault : LogFault) → fed_super words lines ≡ Ok p → log_fault (fed_head words log_line) p ≡ Some fault → fault_reply cmd words lines (reply.BadHeader fault) ≡ log_fault_reply cmd fault
+  pub header_reply : (cmd : Cmd) (p : Params) (fault : LogFault) → fed_super words lines ≡ Ok p → log_fault (fed_head words log_line) p ≡ Some fault
+      → fault_reply cmd words lines (reply.BadHeader fault) ≡ log_fault_reply cmd fault
   header_reply Fsck p fault super is = ap reply.Reports (report_on_header p fault super is)
   header_reply cmd p fault super is = refl
 
   -- where the gate is
-  pub gate_reply : (cmd : Cmd) (p : Params) (fault : LogFault) → fed_super words lines ≡ Ok p → log_fault (fed_head words log_line) p ≡ None → gate_fault (fed_gate words) p ≡ Some fault → fault_reply cmd words lines (reply.BadHeader fault) ≡ log_fault_reply cmd fault
+  pub gate_reply : (cmd : Cmd) (p : Params) (fault : LogFault) → fed_super words lines ≡ Ok p → log_fault (fed_head words log_line) p ≡ None
+      → gate_fault (fed_gate words) p ≡ Some fault → fault_reply cmd words lines (reply.BadHeader fault) ≡ log_fault_reply cmd fault
   gate_reply Fsck p fault super header is = ap reply.Reports (report_on_gate p fault super header is)
   gate_reply cmd p fault super header is = refl

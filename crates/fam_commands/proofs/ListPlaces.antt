@@ -50,7 +50,8 @@ module _ {A : Type 0} (f : ℕ → List A) (w : ℕ) (even : (j : ℕ) → lengt
 
   -- a place in the piece of number i, where the first one has number first
   pub pieces_from : (first n i r m : ℕ) (rest : List A) → first ≤ i → i < first + n → r < w → m ≡ w * (i - first) + r → slice_get (flat_map f (range_with_len first n) ++ rest) m ≡ slice_get (f i) r
-  pieces_from first n i r m rest behind below small is = piece_from first n (i - first) r m rest (omega arith) small is ∙ ap (λ (k : ℕ). slice_get (f k) r) (let z : first + (i - first) ≡ i = omega arith in z)
+  pieces_from first n i r m rest behind below small is = piece_from first n (i - first) r m rest (omega arith) small is
+      ∙ ap (λ (k : ℕ). slice_get (f k) r) (let z : first + (i - first) ≡ i = omega arith in z)
 
   -- and what stands behind them
   pub after_from : (first n r m : ℕ) (rest : List A) → m ≡ w * n + r → slice_get (flat_map f (range_with_len first n) ++ rest) m ≡ slice_get rest r

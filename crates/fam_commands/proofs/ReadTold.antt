@@ -54,7 +54,8 @@ same_params a b same =
     let unit = and_parts (a.unit == b.unit) _ slots.1 in
     let device = and_parts (a.device == b.device) _ unit.1 in
     let ids = and_parts (path_eq a.fs b.fs) (path_eq a.master b.master) device.1 in
-    same_parts a b (eqb-true a.format b.format format.0) (eqb-true a.log_length b.log_length log.0) (eqb-true a.slots b.slots slots.0) (eqb-true a.unit b.unit unit.0) (eqb-true a.device b.device device.0)
+    same_parts a b (eqb-true a.format b.format format.0) (eqb-true a.log_length b.log_length log.0) (eqb-true a.slots b.slots slots.0)
+    (eqb-true a.unit b.unit unit.0) (eqb-true a.device b.device device.0)
     ((pointwise_decides Decides-eqb a.fs b.fs).0 ids.0) ((pointwise_decides Decides-eqb a.master b.master).0 ids.1)
 
 -- Entries that join.
@@ -107,13 +108,19 @@ not_sound i reason p entries is = absurd cc
 -- the entries of a sound reading join, where those with which it begins do
 reading_joins : (line : Lines) (p q : Params) (n from : ℕ) (list entries : List Entry) → AllJoin p list → read_slots line p from n list ≡ Sound q entries → AllJoin p entries
 reading_joins line p q zero from list entries joined is = subst (AllJoin p) (sound_entries p q list entries is) joined
-reading_joins line p q (suc n) from list entries joined is = by_slot (slot_in line p from) (λ e fault is'. reading_joins line p q n (from + 1) (list ++ e ∷ []) entries (joins_more p list e joined fault) is') is
+reading_joins line p q (suc n) from list entries joined is =
+    by_slot (slot_in line p from) (λ e fault is'. reading_joins line p q n (from + 1) (list ++ e ∷ []) entries (joins_more p list e joined fault) is')
+    is
   where
-    by_join : (e : Entry) (f : Option Reason) → join_fault p list e ≡ f → ((e : Entry) → join_fault p list e ≡ None → read_slots line p (from + 1) n (list ++ e ∷ []) ≡ Sound q entries → AllJoin p entries) → joined_or from f (read_slots line p (from + 1) n (list ++ e ∷ [])) ≡ Sound q entries → AllJoin p entries
+    by_join : (e : Entry) (f : Option Reason) → join_fault p list e ≡ f
+        → ((e : Entry) → join_fault p list e ≡ None → read_slots line p (from + 1) n (list ++ e ∷ []) ≡ Sound q entries → AllJoin p entries)
+        → joined_or from f (read_slots line p (from + 1) n (list ++ e ∷ [])) ≡ Sound q entries → AllJoin p entries
     by_join e (Some reason) fault rest is' = absurd (not_sound from reason q entries is')
     by_join e None fault rest is' = rest e fault is'
 
-    by_slot : (r : Result Entry Reason) → ((e : Entry) → join_fault p list e ≡ None → read_slots line p (from + 1) n (list ++ e ∷ []) ≡ Sound q entries → AllJoin p entries) → slot_or p list from r (λ e. read_slots line p (from + 1) n (list ++ e ∷ [])) ≡ Sound q entries → AllJoin p entries
+    by_slot : (r : Result Entry Reason)
+        → ((e : Entry) → join_fault p list e ≡ None → read_slots line p (from + 1) n (list ++ e ∷ []) ≡ Sound q entries → AllJoin p entries)
+        → slot_or p list from r (λ e. read_slots line p (from + 1) n (list ++ e ∷ [])) ≡ Sound q entries → AllJoin p entries
     by_slot (Err reason) rest is' = absurd (not_sound from reason q entries is')
     by_slot (Ok e) rest is' = by_join e (join_fault p list e) refl rest is'
 

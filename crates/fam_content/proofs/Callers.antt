@@ -43,11 +43,13 @@ pub lies_in : (e : Entry) (o b : ℕ) → b ≡ place e o → IsProperEntry e �
 lies_in e o b is file below = subst (IsIn e.extents) (sym is) (place_in file.params e o file.sound file.proper below)
 
 -- and is no other byte of the file
-pub no_other : (e : Entry) (o b : ℕ) → b ≡ place e o → o < e.size → (p : Params) (other : ℕ) → SoundParams p → Proper p e → IsOnce (units_in p.unit e.extents) → other < e.size → place e other ≡ b → other ≡ o
+pub no_other : (e : Entry) (o b : ℕ) → b ≡ place e o → o < e.size → (p : Params) (other : ℕ) → SoundParams p → Proper p e
+    → IsOnce (units_in p.unit e.extents) → other < e.size → place e other ≡ b → other ≡ o
 no_other e o b is below p other sound proper once other_below same = place_once p e other o sound proper once other_below below (same ∙ is)
 
 -- the byte of a place is a line's first, and the line's others follow it
-pub line_follows : (e : Entry) (j at : ℕ) → at ≡ place e (line_bytes * j) → IsProperEntry e → line_bytes * j < e.size → (b : ℕ) → b < line_bytes → place e (line_bytes * j + b) ≡ line_bytes * (at / line_bytes) + b
+pub line_follows : (e : Entry) (j at : ℕ) → at ≡ place e (line_bytes * j) → IsProperEntry e → line_bytes * j < e.size → (b : ℕ) → b < line_bytes
+    → place e (line_bytes * j + b) ≡ line_bytes * (at / line_bytes) + b
 line_follows e j at is file below b within =
     line_place file.params e j b file.sound file.proper below within ∙ ap (λ (n : ℕ). line_bytes * (n / line_bytes) + b) (sym is)
 

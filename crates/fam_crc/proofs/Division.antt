@@ -97,7 +97,9 @@ top_off a c h i =
 step_divides : (r : ℕ) → r < 2 ^ 32 → IsMultiple (bit_xor (reversed 32 r * 2) (reversed 32 (step r)))
 step_divides r h =
     elim (parity r) [
-      | inl e ↦ subst (λ (x : ℕ). IsMultiple x) (sym (ap (bit_xor (reversed 32 r * 2)) (ap (reversed 32) (step_even r e)) ∙ ap (λ (x : ℕ). bit_xor x (reversed 32 (r / 2))) (even_moves 31 r h e) ∙ xor_self (reversed 32 (r / 2)))) nothing
+      | inl e ↦ subst (λ (x : ℕ). IsMultiple x)
+          (sym (ap (bit_xor (reversed 32 r * 2)) (ap (reversed 32) (step_even r e)) ∙ ap (λ (x : ℕ). bit_xor x (reversed 32 (r / 2)))
+          (even_moves 31 r h e) ∙ xor_self (reversed 32 (r / 2)))) nothing
       | inr e ↦ subst (λ (x : ℕ). IsMultiple x)
           (sym (ap (bit_xor (reversed 32 r * 2)) (ap (reversed 32) (step_odd r e) ∙ reversed_xor 32 (r / 2) reflected_polynomial ∙ ap (bit_xor (reversed 32 (r / 2))) reflected)
           ∙ ap (λ (x : ℕ). bit_xor x (bit_xor (reversed 32 (r / 2)) 0x04c11db7)) (odd_moves 31 r h e)

@@ -20,7 +20,9 @@ zero_in n r more =
     ∙ ap (λ (x : ℕ). fold after_byte x (bytes_of_words more)) (ap (steps 64) (xor_zero_r (steps n r)) ∙ sym (steps-add n 64 r))
 
 -- it is the register behind the head's words
-pub behind_head : (a b c d e f : ℕ) (words more behind : List ℕ) → AreSmall a b c d e f → words ≡ a ∷ b ∷ 0 ∷ c ∷ d ∷ e ∷ f ∷ more → more ≡ replicate 35 0 ++ behind → fold after_byte (head_steps a b c d e f) (bytes_of_words behind) ≡ fold after_byte all_ones (bytes_of_words words)
+pub behind_head : (a b c d e f : ℕ) (words more behind : List ℕ) → AreSmall a b c d e f → words ≡ a ∷ b ∷ 0 ∷ c ∷ d ∷ e ∷ f ∷ more
+    → more ≡ replicate 35 0 ++ behind → fold after_byte (head_steps a b c d e f) (bytes_of_words behind) ≡ fold after_byte all_ones
+    (bytes_of_words words)
 unfolding head_steps
 behind_head a b c d e f words more behind small is zeros =
     let r1 : ℕ = steps 64 (bit_xor all_ones a) in
@@ -60,7 +62,9 @@ three_bytes : (n x : ℕ) → bit_xor (steps (8 + (8 + n)) (x % 256)) (bit_xor (
 three_bytes n x = sym (steps_byte (8 + n) x ∙ ap (bit_xor (steps (8 + (8 + n)) (x % 256))) (level n (2 ^ 8) x))
 
 -- the register behind a head, by what each of its words makes alone
-head_sum : (a b c d e f : ℕ) → bit_xor (bit_xor (bit_xor (bit_xor (bit_xor (bit_xor 0xd2d7576e (steps 2688 a)) (steps 2624 b)) (steps 2496 c)) (steps 2432 d)) (steps 2368 e)) (steps 2304 f) ≡ head_steps a b c d e f
+head_sum : (a b c d e f : ℕ) → bit_xor
+    (bit_xor (bit_xor (bit_xor (bit_xor (bit_xor 0xd2d7576e (steps 2688 a)) (steps 2624 b)) (steps 2496 c)) (steps 2432 d)) (steps 2368 e))
+    (steps 2304 f) ≡ head_steps a b c d e f
 unfolding head_steps
 head_sum a b c d e f =
     let r1 : ℕ = steps 64 (bit_xor all_ones a) in
@@ -76,11 +80,15 @@ head_sum a b c d e f =
     ∙ ap (λ (x : ℕ). bit_xor x (steps 2624 b)) (steps_xor 2688 all_ones a))))))
 
 -- the look-ups of a word stand together
-grouped : (k a1 a2 a3 b1 c1 c2 d1 d2 e1 e2 f1 : ℕ) → bit_xor (bit_xor (bit_xor (bit_xor (bit_xor (bit_xor (bit_xor (bit_xor (bit_xor (bit_xor (bit_xor k a1) a2) a3) b1) c1) c2) d1) d2) e1) e2) f1 ≡ bit_xor (bit_xor (bit_xor (bit_xor (bit_xor (bit_xor k (bit_xor a1 (bit_xor a2 a3))) b1) (bit_xor c1 c2)) (bit_xor d1 d2)) (bit_xor e1 e2)) f1
+grouped : (k a1 a2 a3 b1 c1 c2 d1 d2 e1 e2 f1 : ℕ)
+    → bit_xor (bit_xor (bit_xor (bit_xor (bit_xor (bit_xor (bit_xor (bit_xor (bit_xor (bit_xor (bit_xor k a1) a2) a3) b1) c1) c2) d1) d2) e1) e2) f1
+    ≡ bit_xor (bit_xor (bit_xor (bit_xor (bit_xor (bit_xor k (bit_xor a1 (bit_xor a2 a3))) b1) (bit_xor c1 c2)) (bit_xor d1 d2)) (bit_xor e1 e2)) f1
 grouped k a1 a2 a3 b1 c1 c2 d1 d2 e1 e2 f1 = simp xor_assoc refl
 
 -- the look-ups of a head
-pub head_split : (a b c d e f a1 a2 a3 b1 c1 c2 d1 d2 e1 e2 f1 : ℕ) → a1 ≡ steps 2688 (a % 256) → a2 ≡ steps 2680 (a / 2 ^ 8 % 256) → a3 ≡ steps 2672 (a / 2 ^ 16) → b1 ≡ steps 2624 b → c1 ≡ steps 2496 (c % 256) → c2 ≡ steps 2488 (c / 2 ^ 8) → d1 ≡ steps 2432 (d % 256) → d2 ≡ steps 2424 (d / 2 ^ 8) → e1 ≡ steps 2368 (e % 256) → e2 ≡ steps 2360 (e / 2 ^ 8) → f1 ≡ steps 2304 f →
+pub head_split : (a b c d e f a1 a2 a3 b1 c1 c2 d1 d2 e1 e2 f1 : ℕ) → a1 ≡ steps 2688 (a % 256) → a2 ≡ steps 2680 (a / 2 ^ 8 % 256)
+    → a3 ≡ steps 2672 (a / 2 ^ 16) → b1 ≡ steps 2624 b → c1 ≡ steps 2496 (c % 256) → c2 ≡ steps 2488 (c / 2 ^ 8) → d1 ≡ steps 2432 (d % 256)
+    → d2 ≡ steps 2424 (d / 2 ^ 8) → e1 ≡ steps 2368 (e % 256) → e2 ≡ steps 2360 (e / 2 ^ 8) → f1 ≡ steps 2304 f →
     bit_xor (bit_xor (bit_xor (bit_xor (bit_xor (bit_xor (bit_xor (bit_xor (bit_xor (bit_xor (bit_xor 0xd2d7576e a1) a2) a3) b1) c1) c2) d1) d2) e1) e2) f1 ≡ head_steps a b c d e f
 head_split a b c d e f a1 a2 a3 b1 c1 c2 d1 d2 e1 e2 f1 pa1 pa2 pa3 pb pc1 pc2 pd1 pd2 pe1 pe2 pf =
     let first : bit_xor a1 (bit_xor a2 a3) ≡ steps 2688 a = rw (pa1, pa2, pa3) (three_bytes 2672 a) in

@@ -44,11 +44,16 @@ step_xor a b =
     elim (parity a) [
       | inl p ↦ elim (parity b) [
         | inl q ↦ step_even _ (low_bits a b 0 0 p q) ∙ halves a b ∙ sym (ap (λ (z : ℕ). bit_xor z (step b)) (step_even a p) ∙ ap (bit_xor (a / 2)) (step_even b q))
-        | inr q ↦ step_odd _ (low_bits a b 0 1 p q) ∙ ap (λ (z : ℕ). bit_xor z reflected_polynomial) (halves a b) ∙ xor_assoc (a / 2) (b / 2) reflected_polynomial ∙ sym (ap (λ (z : ℕ). bit_xor z (step b)) (step_even a p) ∙ ap (bit_xor (a / 2)) (step_odd b q))
+        | inr q ↦ step_odd _ (low_bits a b 0 1 p q) ∙ ap (λ (z : ℕ). bit_xor z reflected_polynomial) (halves a b)
+            ∙ xor_assoc (a / 2) (b / 2) reflected_polynomial
+            ∙ sym (ap (λ (z : ℕ). bit_xor z (step b)) (step_even a p) ∙ ap (bit_xor (a / 2)) (step_odd b q))
       ]
       | inr p ↦ elim (parity b) [
-        | inl q ↦ step_odd _ (low_bits a b 1 0 p q) ∙ ap (λ (z : ℕ). bit_xor z reflected_polynomial) (halves a b) ∙ sym (swap_right (a / 2) (b / 2) reflected_polynomial) ∙ sym (ap (λ (z : ℕ). bit_xor z (step b)) (step_odd a p) ∙ ap (bit_xor (bit_xor (a / 2) reflected_polynomial)) (step_even b q))
-        | inr q ↦ step_even _ (low_bits a b 1 1 p q) ∙ halves a b ∙ sym (cancel (a / 2) (b / 2) reflected_polynomial) ∙ sym (ap (λ (z : ℕ). bit_xor z (step b)) (step_odd a p) ∙ ap (bit_xor (bit_xor (a / 2) reflected_polynomial)) (step_odd b q))
+        | inl q ↦ step_odd _ (low_bits a b 1 0 p q) ∙ ap (λ (z : ℕ). bit_xor z reflected_polynomial) (halves a b)
+            ∙ sym (swap_right (a / 2) (b / 2) reflected_polynomial)
+            ∙ sym (ap (λ (z : ℕ). bit_xor z (step b)) (step_odd a p) ∙ ap (bit_xor (bit_xor (a / 2) reflected_polynomial)) (step_even b q))
+        | inr q ↦ step_even _ (low_bits a b 1 1 p q) ∙ halves a b ∙ sym (cancel (a / 2) (b / 2) reflected_polynomial)
+            ∙ sym (ap (λ (z : ℕ). bit_xor z (step b)) (step_odd a p) ∙ ap (bit_xor (bit_xor (a / 2) reflected_polynomial)) (step_odd b q))
       ]
     ]
 
@@ -166,11 +171,17 @@ level n p x = steps_byte n (x / p) ∙ ap (λ (q : ℕ). bit_xor (steps (8 + n) 
 
 -- the eight look-ups
 pub word_split : (r w a b c d e f g h : ℕ) → r < 2 ^ 32 → w < 2 ^ 64 → let x : ℕ = bit_xor w r in
-    a ≡ steps 64 (x % 256) → b ≡ steps 56 (x / 2 ^ 8 % 256) → c ≡ steps 48 (x / 2 ^ 16 % 256) → d ≡ steps 40 (x / 2 ^ 24 % 256) → e ≡ steps 32 (x / 2 ^ 32 % 256) → f ≡ steps 24 (x / 2 ^ 40 % 256) → g ≡ steps 16 (x / 2 ^ 48 % 256) → h ≡ steps 8 (x / 2 ^ 56) →
+    a ≡ steps 64 (x % 256) → b ≡ steps 56 (x / 2 ^ 8 % 256) → c ≡ steps 48 (x / 2 ^ 16 % 256) → d ≡ steps 40 (x / 2 ^ 24 % 256)
+    → e ≡ steps 32 (x / 2 ^ 32 % 256) → f ≡ steps 24 (x / 2 ^ 40 % 256) → g ≡ steps 16 (x / 2 ^ 48 % 256) → h ≡ steps 8 (x / 2 ^ 56) →
     bit_xor (bit_xor (bit_xor (bit_xor (bit_xor (bit_xor (bit_xor a b) c) d) e) f) g) h ≡ fold after_byte r (to_le_bytes w64 w)
 word_split r w a b c d e f g h _ below pa pb pc pd pe pf pg ph =
     let x : ℕ = bit_xor w r in
-    let sum : bit_xor (steps 64 (x % 256)) (bit_xor (steps 56 (x / 2 ^ 8 % 256)) (bit_xor (steps 48 (x / 2 ^ 16 % 256)) (bit_xor (steps 40 (x / 2 ^ 24 % 256)) (bit_xor (steps 32 (x / 2 ^ 32 % 256)) (bit_xor (steps 24 (x / 2 ^ 40 % 256)) (bit_xor (steps 16 (x / 2 ^ 48 % 256)) (steps 8 (x / 2 ^ 56)))))))) ≡ steps 64 x =
+    let sum : bit_xor (steps 64 (x % 256))
+    (bit_xor (steps 56 (x / 2 ^ 8 % 256))
+    (bit_xor (steps 48 (x / 2 ^ 16 % 256))
+    (bit_xor (steps 40 (x / 2 ^ 24 % 256))
+    (bit_xor (steps 32 (x / 2 ^ 32 % 256))
+    (bit_xor (steps 24 (x / 2 ^ 40 % 256)) (bit_xor (steps 16 (x / 2 ^ 48 % 256)) (steps 8 (x / 2 ^ 56)))))))) ≡ steps 64 x =
     sym (steps_byte 56 x ∙ ap (bit_xor (steps 64 (x % 256)))
     (level 48 (2 ^ 8) x ∙ ap (bit_xor (steps 56 (x / 2 ^ 8 % 256)))
     (level 40 (2 ^ 16) x ∙ ap (bit_xor (steps 48 (x / 2 ^ 16 % 256)))
@@ -190,11 +201,14 @@ none_there n y none = sym (ap (steps n) none ∙ steps_zero n)
 
 -- the four look-ups of a word of which the higher half adds nothing
 pub half_split : (r w a b c d : ℕ) → r < 2 ^ 32 → w < 2 ^ 64 → let x : ℕ = bit_xor w r in
-    x < 2 ^ 32 → a ≡ steps 64 (x % 256) → b ≡ steps 56 (x / 2 ^ 8 % 256) → c ≡ steps 48 (x / 2 ^ 16 % 256) → d ≡ steps 40 (x / 2 ^ 24 % 256) → bit_xor (bit_xor (bit_xor a b) c) d ≡ fold after_byte r (to_le_bytes w64 w)
+    x < 2 ^ 32 → a ≡ steps 64 (x % 256) → b ≡ steps 56 (x / 2 ^ 8 % 256) → c ≡ steps 48 (x / 2 ^ 16 % 256) → d ≡ steps 40 (x / 2 ^ 24 % 256)
+    → bit_xor (bit_xor (bit_xor a b) c) d ≡ fold after_byte r (to_le_bytes w64 w)
 half_split r w a b c d fits below small pa pb pc pd =
     let x : ℕ = bit_xor w r in
     sym (xor_zero_r _ ∙ xor_zero_r _ ∙ xor_zero_r _ ∙ xor_zero_r _)
-    ∙ word_split r w a b c d 0 0 0 0 fits below pa pb pc pd (none_there 32 (x / 2 ^ 32 % 256) (omega (arith, small))) (none_there 24 (x / 2 ^ 40 % 256) (omega (arith, small))) (none_there 16 (x / 2 ^ 48 % 256) (omega (arith, small))) (none_there 8 (x / 2 ^ 56) (omega (arith, small)))
+    ∙ word_split r w a b c d 0 0 0 0 fits below pa pb pc pd (none_there 32 (x / 2 ^ 32 % 256) (omega (arith, small)))
+    (none_there 24 (x / 2 ^ 40 % 256) (omega (arith, small))) (none_there 16 (x / 2 ^ 48 % 256) (omega (arith, small)))
+    (none_there 8 (x / 2 ^ 56) (omega (arith, small)))
 
 -- the highest byte of a word and a register
 pub top_fits : (w r : ℕ) → w < 2 ^ 64 → r < 2 ^ 32 → bit_xor w r / 2 ^ 56 < 256
@@ -210,22 +224,27 @@ zero_bytes (suc n) r =
     ∙ ap (λ (k : ℕ). steps k r) e
 
 -- the four look-ups of a register that has zeros behind it
-pub zeros_split : (n r a b c d : ℕ) → a ≡ steps (8 + (8 + (8 + n))) (r % 256) → b ≡ steps (8 + (8 + n)) (r / 2 ^ 8 % 256) → c ≡ steps (8 + n) (r / 2 ^ 16 % 256) → d ≡ steps n (r / 2 ^ 24) → bit_xor (bit_xor (bit_xor a b) c) d ≡ steps (8 + (8 + (8 + n))) r
+pub zeros_split : (n r a b c d : ℕ) → a ≡ steps (8 + (8 + (8 + n))) (r % 256) → b ≡ steps (8 + (8 + n)) (r / 2 ^ 8 % 256)
+    → c ≡ steps (8 + n) (r / 2 ^ 16 % 256) → d ≡ steps n (r / 2 ^ 24) → bit_xor (bit_xor (bit_xor a b) c) d ≡ steps (8 + (8 + (8 + n))) r
 zeros_split n r a b c d pa pb pc pd =
-    let sum : bit_xor (steps (8 + (8 + (8 + n))) (r % 256)) (bit_xor (steps (8 + (8 + n)) (r / 2 ^ 8 % 256)) (bit_xor (steps (8 + n) (r / 2 ^ 16 % 256)) (steps n (r / 2 ^ 24)))) ≡ steps (8 + (8 + (8 + n))) r =
+    let sum : bit_xor (steps (8 + (8 + (8 + n))) (r % 256))
+    (bit_xor (steps (8 + (8 + n)) (r / 2 ^ 8 % 256)) (bit_xor (steps (8 + n) (r / 2 ^ 16 % 256)) (steps n (r / 2 ^ 24))))
+    ≡ steps (8 + (8 + (8 + n))) r =
     sym (steps_byte (8 + (8 + n)) r ∙ ap (bit_xor (steps (8 + (8 + (8 + n))) (r % 256)))
     (level (8 + n) (2 ^ 8) r ∙ ap (bit_xor (steps (8 + (8 + n)) (r / 2 ^ 8 % 256)))
     (level n (2 ^ 16) r))) in
     rw (pa, pb, pc, pd) (simp xor_assoc sum)
 
 -- the checksum goes on behind bytes of zero
-pub behind_bytes : (n r : ℕ) (words behind : List ℕ) → bytes_of_words words ≡ replicate n 0 ++ bytes_of_words behind → fold after_byte (steps (8 * n) r) (bytes_of_words behind) ≡ fold after_byte r (bytes_of_words words)
+pub behind_bytes : (n r : ℕ) (words behind : List ℕ) → bytes_of_words words ≡ replicate n 0 ++ bytes_of_words behind
+    → fold after_byte (steps (8 * n) r) (bytes_of_words behind) ≡ fold after_byte r (bytes_of_words words)
 behind_bytes n r words behind zeros =
     sym (ap (fold after_byte r) zeros
     ∙ fold-append after_byte r (replicate n 0) (bytes_of_words behind) ∙ ap (λ (x : ℕ). fold after_byte x (bytes_of_words behind)) (zero_bytes n r))
 
 -- behind sixteen words of zero
-pub behind_sixteen : (r : ℕ) (words behind : List ℕ) → words ≡ 0 ∷ 0 ∷ 0 ∷ 0 ∷ 0 ∷ 0 ∷ 0 ∷ 0 ∷ 0 ∷ 0 ∷ 0 ∷ 0 ∷ 0 ∷ 0 ∷ 0 ∷ 0 ∷ behind → fold after_byte (steps 1024 r) (bytes_of_words behind) ≡ fold after_byte r (bytes_of_words words)
+pub behind_sixteen : (r : ℕ) (words behind : List ℕ) → words ≡ 0 ∷ 0 ∷ 0 ∷ 0 ∷ 0 ∷ 0 ∷ 0 ∷ 0 ∷ 0 ∷ 0 ∷ 0 ∷ 0 ∷ 0 ∷ 0 ∷ 0 ∷ 0 ∷ behind
+    → fold after_byte (steps 1024 r) (bytes_of_words behind) ≡ fold after_byte r (bytes_of_words words)
 behind_sixteen r words behind e = behind_bytes 128 r words behind (ap bytes_of_words e)
 
 -- behind three

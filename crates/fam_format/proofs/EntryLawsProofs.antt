@@ -44,13 +44,15 @@ spelling_passes g p e seq s =
           record { mode_fits = s.proper.mode; uid_fits = s.proper.uid; gid_fits = s.proper.gid };
       fifth = path_passes g (spelling g e seq) e.path (field 6 (length e.path) (omega arith) refl) (path_of_spelling g e seq s.room) s.short s.proper.path;
       sixth = both_pass (is_map_words (spelling g e seq)) (is_map p (fields_of (spelling g e seq)))
-          (map_words_pass (spelling g e seq) e.map (length e.extents) (field 7 (map_word e.map) (omega arith) refl) (field 8 (chunk_word e.map) (omega arith) refl) (field 9 (length e.extents) (omega arith) refl) s.room.extents)
+          (map_words_pass (spelling g e seq) e.map (length e.extents) (field 7 (map_word e.map) (omega arith) refl)
+          (field 8 (chunk_word e.map) (omega arith) refl) (field 9 (length e.extents) (omega arith) refl) s.room.extents)
           (ap (is_map p) (fields_read g e seq s.room) ∙ s.proper.map);
       seventh = rest_passes g e seq s.room;
     }
 
 -- what words tell that pass is proper
-pub proper_back : (p : Params) (words : List ℕ) → AttributesFit (get_or words 3 0) (get_or words 4 0) (get_or words 5 0) → PathPasses (geometry p).path_limit (get_or words 6 0) (is_path (path_of words)) → is_map p (fields_of words) ≡ true → Proper p (fields_of words)
+pub proper_back : (p : Params) (words : List ℕ) → AttributesFit (get_or words 3 0) (get_or words 4 0) (get_or words 5 0)
+    → PathPasses (geometry p).path_limit (get_or words 6 0) (is_path (path_of words)) → is_map p (fields_of words) ≡ true → Proper p (fields_of words)
 unfolding fields_of
 proper_back p words attributes path map =
     record {
@@ -63,7 +65,8 @@ proper_back p words attributes path map =
     }
 
 -- and they are its spelling
-pub words_found : (g : Geometry) (p : Params) (words : List ℕ) (seq : ℕ) → path_word ≤ g.words - 1 → length words ≡ g.words → ((k : ℕ) → get_or words k 0 < 2 ^ 64) → SlotPasses g p words seq → words ≡ spelling g (fields_of words) seq
+pub words_found : (g : Geometry) (p : Params) (words : List ℕ) (seq : ℕ) → path_word ≤ g.words - 1 → length words ≡ g.words
+    → ((k : ℕ) → get_or words k 0 < 2 ^ 64) → SlotPasses g p words seq → words ≡ spelling g (fields_of words) seq
 words_found g p words seq prefix long fits h =
     words_back g words seq prefix long fits
     (same_if_none (get_or words (g.words - 1) 0) (slot_crc g words) _ h.first)
@@ -80,13 +83,15 @@ proper_found p words seq h = proper_back p words (attributes_back words h.fourth
 pub read_of_pass : (p : Params) (words : List ℕ) (seq : ℕ) → SlotPasses (geometry p) p words seq → entry_of p words seq ≡ Ok (fields_of words)
 unfolding entry_of
 read_of_pass p words seq h =
-    all_pass (crc_fault (geometry p) words) (seq_fault words seq) (kind_fault words) (attribute_fault words) (path_fault (geometry p) words) (map_fault p words) (rest_fault (geometry p) words) (fields_of words) h
+    all_pass (crc_fault (geometry p) words) (seq_fault words seq) (kind_fault words) (attribute_fault words) (path_fault (geometry p) words)
+    (map_fault p words) (rest_fault (geometry p) words) (fields_of words) h
 
 -- and what passes where it answers with an entry
 pub pass_of_read : (p : Params) (words : List ℕ) (seq : ℕ) (e : Entry) → entry_of p words seq ≡ Ok e → SlotPasses (geometry p) p words seq × (fields_of words ≡ e)
 unfolding entry_of
 pass_of_read p words seq e h =
-    all_passed (crc_fault (geometry p) words) (seq_fault words seq) (kind_fault words) (attribute_fault words) (path_fault (geometry p) words) (map_fault p words) (rest_fault (geometry p) words) (fields_of words) e h
+    all_passed (crc_fault (geometry p) words) (seq_fault words seq) (kind_fault words) (attribute_fault words) (path_fault (geometry p) words)
+    (map_fault p words) (rest_fault (geometry p) words) (fields_of words) e h
 
 -- a proper entry has room in a slot
 pub room_of_proper : (p : Params) (e : Entry) → Proper p e → HasRoom (geometry p) e
@@ -111,7 +116,8 @@ read_proper p words seq e h =
     subst (λ (f : Entry). Proper p f) both.1 (proper_found p words seq both.0)
 
 -- and the words are its spelling
-pub read_spelled : (p : Params) (words : List ℕ) (seq : ℕ) (e : Entry) → length words ≡ (geometry p).words → ((i : ℕ) → get_or words i 0 < 2 ^ 64) → entry_of p words seq ≡ Ok e → words ≡ spelling (geometry p) e seq
+pub read_spelled : (p : Params) (words : List ℕ) (seq : ℕ) (e : Entry) → length words ≡ (geometry p).words → ((i : ℕ) → get_or words i 0 < 2 ^ 64)
+    → entry_of p words seq ≡ Ok e → words ≡ spelling (geometry p) e seq
 read_spelled p words seq e long fits h =
     let both = pass_of_read p words seq e h in
     words_found (geometry p) p words seq (omega (arith, (shape p).words, (shape p).lines)) long fits both.0 ∙ ap (λ (f : Entry). spelling (geometry p) f seq) both.1
@@ -125,7 +131,8 @@ entry_of_spelling p q e f m n he hf same =
 pub number_of_spelling : (p q : Params) (e f : Entry) (m n : ℕ) → Proper p e → Proper q f → spelling (geometry p) e m ≡ spelling (geometry q) f n → m ≡ n
 unfolding slot_word_at
 number_of_spelling p q e f m n he hf same =
-    sym (field_read (geometry p) e m 0 m (room_of_proper p e he) (omega arith) refl) ∙ ap (λ (w : List ℕ). get_or w 0 0) same ∙ field_read (geometry q) f n 0 n (room_of_proper q f hf) (omega arith) refl
+    sym (field_read (geometry p) e m 0 m (room_of_proper p e he) (omega arith) refl) ∙ ap (λ (w : List ℕ). get_or w 0 0) same
+    ∙ field_read (geometry q) f n 0 n (room_of_proper q f hf) (omega arith) refl
 
 -- a result is not both
 refuted : {T E : Type 0} (r : Result T E) (x : T) (reason : E) → r ≡ Ok x → r ≡ Err reason → ⊥

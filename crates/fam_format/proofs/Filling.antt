@@ -35,7 +35,8 @@ pub spelled_in_front : (g : Geometry) (e : Entry) (seq n : ℕ) (words : List �
 unfolding spelling
 spelled_in_front g e seq n words is long each =
     let crc : ℕ = crc32 (bytes_of_words (take n words)) in
-    let body : take n words ≡ slot_body g e seq = prefix_of (slot_word_at e seq) n words (omega arith) each ∙ ap (λ (k : ℕ). map (slot_word_at e seq) (range_with_len 0 k)) (let last : n ≡ g.words - 1 = omega arith in last) in
+    let body : take n words ≡ slot_body g e seq = prefix_of (slot_word_at e seq) n words (omega arith) each
+    ∙ ap (λ (k : ℕ). map (slot_word_at e seq) (range_with_len 0 k)) (let last : n ≡ g.words - 1 = omega arith in last) in
     let parts : set words n crc ≡ (take n words ++ crc ∷ []) ++ drop (suc n) words = set_split words n crc long ∙ sym (append_assoc (take n words) (crc ∷ []) (drop (suc n) words)) in
     ap (take g.words) parts
     ∙ take_at (take n words ++ crc ∷ []) (drop (suc n) words) g.words (omega (arith, is, length_push (take n words) crc, length-take-le n words (omega arith)))
@@ -59,7 +60,8 @@ length_of_spelling g e seq some =
     omega (arith, length_push (slot_body g e seq) (crc32 (bytes_of_words (slot_body g e seq))), length-map-range_with_len (slot_word_at e seq) 0 (g.words - 1))
 
 -- the last member, and what stands before it
-last_word : (f : ℕ → ℕ) (g : List ℕ → ℕ) (n : ℕ) → get_or (map f (range_with_len 0 n) ++ g (map f (range_with_len 0 n)) ∷ []) n 0 ≡ g (take n (map f (range_with_len 0 n) ++ g (map f (range_with_len 0 n)) ∷ []))
+last_word : (f : ℕ → ℕ) (g : List ℕ → ℕ) (n : ℕ) → get_or (map f (range_with_len 0 n) ++ g (map f (range_with_len 0 n)) ∷ []) n 0
+    ≡ g (take n (map f (range_with_len 0 n) ++ g (map f (range_with_len 0 n)) ∷ []))
 last_word f g n =
     let body : List ℕ = map f (range_with_len 0 n) in
     let long : length body ≡ n = length-map-range_with_len f 0 n in
@@ -80,7 +82,8 @@ filled_is f g n words long last each =
     ext_get_or 0 words (body ++ g body ∷ []) (omega (arith, length_push body (g body)))
     (λ k below. elim (cases_lt k n) [
       | inl before ↦ each k before ∙ sym (prefix_word f n (g body ∷ []) k before)
-      | inr past ↦ let at : k ≡ n = omega arith in ap (λ (i : ℕ). get_or words i 0) at ∙ last ∙ ap g prefix ∙ sym (get_or_at body (g body) [] 0 n count) ∙ ap (λ (i : ℕ). get_or (body ++ g body ∷ []) i 0) (sym at)
+      | inr past ↦ let at : k ≡ n = omega arith in ap (λ (i : ℕ). get_or words i 0) at ∙ last ∙ ap g prefix
+          ∙ sym (get_or_at body (g body) [] 0 n count) ∙ ap (λ (i : ℕ). get_or (body ++ g body ∷ []) i 0) (sym at)
     ])
 
 -- words that agree with the table, with a right checksum, are the spelling

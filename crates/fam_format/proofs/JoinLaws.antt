@@ -36,7 +36,8 @@ directory_from File h = absurd (cc)
 directory_from Directory h = refl
 
 -- what stands at the parent is a directory
-parent_from : (tree : Tree) (path : List ℕ) (there : Option Entry) → map.get tree path ≡ there → parent_fault there ≡ None → (directory : Entry) × (map.get tree path ≡ Some directory) × (directory.kind ≡ Directory)
+parent_from : (tree : Tree) (path : List ℕ) (there : Option Entry) → map.get tree path ≡ there → parent_fault there ≡ None
+    → (directory : Entry) × (map.get tree path ≡ Some directory) × (directory.kind ≡ Directory)
 parent_from tree path None is h = absurd (cc)
 parent_from tree path (Some parent) is h = (parent, is, directory_from parent.kind h)
 

@@ -35,11 +35,14 @@ other a b h same = grind (arith, nat_tests)
 abbrev with_unit : (ℕ → Bool) → ℕ → ℕ → Bool
 with_unit used u v = (v == u) || used v
 
-free_at : (used : ℕ → Bool) (u : ℕ) (us : List ℕ) → used u ≡ false → ((k : ℕ) → k < length us → with_unit used u (get_or us k 0) ≡ false) → (k : ℕ) → k < length (u ∷ us) → used (get_or (u ∷ us) k 0) ≡ false
+free_at : (used : ℕ → Bool) (u : ℕ) (us : List ℕ) → used u ≡ false → ((k : ℕ) → k < length us → with_unit used u (get_or us k 0) ≡ false) → (k : ℕ)
+    → k < length (u ∷ us) → used (get_or (u ∷ us) k 0) ≡ false
 free_at used u us new rest zero below = new
 free_at used u us new rest (suc k) below = (neither (get_or us k 0 == u) (used (get_or us k 0)) (rest k (omega arith))).1
 
-once_at : (used : ℕ → Bool) (u : ℕ) (us : List ℕ) → ((k : ℕ) → k < length us → with_unit used u (get_or us k 0) ≡ false) → ((i j : ℕ) → i < j → j < length us → get_or us i 0 ≢ get_or us j 0) → (i j : ℕ) → i < j → j < length (u ∷ us) → get_or (u ∷ us) i 0 ≢ get_or (u ∷ us) j 0
+once_at : (used : ℕ → Bool) (u : ℕ) (us : List ℕ) → ((k : ℕ) → k < length us → with_unit used u (get_or us k 0) ≡ false)
+    → ((i j : ℕ) → i < j → j < length us → get_or us i 0 ≢ get_or us j 0) → (i j : ℕ) → i < j → j < length (u ∷ us)
+    → get_or (u ∷ us) i 0 ≢ get_or (u ∷ us) j 0
 once_at used u us new rest zero zero less below = absurd (omega arith)
 once_at used u us new rest (suc i) zero less below = absurd (omega arith)
 once_at used u us new rest zero (suc j) less below = other u (get_or us j 0) (neither (get_or us j 0 == u) (used (get_or us j 0)) (new j (omega arith))).0
@@ -57,7 +60,9 @@ taken_more used u us k x (inl h) =
     elim (either (x == u) (used x) h) [ inl same ↦ inr (0, omega arith, sym (eqb-true x u same)) | inr taken ↦ inl taken ]
 taken_more used u us k x (inr (i, less, is)) = inr (suc i, omega arith, is)
 
-by_rest : (used : ℕ → Bool) (u : ℕ) (us : List ℕ) → used u ≡ false → (r : Option ℕ) → MatchOption r (AreFree (with_unit used u) us) (IsFirstOverlap (with_unit used u) us) → MatchOption r (AreFree used (u ∷ us)) (IsFirstOverlap used (u ∷ us))
+by_rest : (used : ℕ → Bool) (u : ℕ) (us : List ℕ) → used u ≡ false → (r : Option ℕ)
+    → MatchOption r (AreFree (with_unit used u) us) (IsFirstOverlap (with_unit used u) us)
+    → MatchOption r (AreFree used (u ∷ us)) (IsFirstOverlap used (u ∷ us))
 by_rest used u us new None rest = free_more used u us new rest
 by_rest used u us new (Some x) rest =
     record {
@@ -68,7 +73,9 @@ by_rest used u us new (Some x) rest =
       before = free_more used u (take rest.place us) new rest.before;
     }
 
-by_first : (used : ℕ → Bool) (u : ℕ) (us : List ℕ) (b : Bool) → used u ≡ b → MatchOption (first_overlap (with_unit used u) us) (AreFree (with_unit used u) us) (IsFirstOverlap (with_unit used u) us) → MatchOption (if b then Some u else first_overlap (with_unit used u) us) (AreFree used (u ∷ us)) (IsFirstOverlap used (u ∷ us))
+by_first : (used : ℕ → Bool) (u : ℕ) (us : List ℕ) (b : Bool) → used u ≡ b
+    → MatchOption (first_overlap (with_unit used u) us) (AreFree (with_unit used u) us) (IsFirstOverlap (with_unit used u) us)
+    → MatchOption (if b then Some u else first_overlap (with_unit used u) us) (AreFree used (u ∷ us)) (IsFirstOverlap used (u ∷ us))
 by_first used u us true is rest = record { place = 0; below = omega arith; is = refl; taken = inl is; before = none_free used }
 by_first used u us false is rest = by_rest used u us is (first_overlap (with_unit used u) us) rest
 

@@ -83,7 +83,8 @@ module _ (line : Lines) (p : Params) where
     rest : next entry ≡ told
 
   -- a slot behind which reading goes on, or the bad one
-  after_join : (list : List Entry) (i : ℕ) (e : Entry) (next : Entry → Reading) (told : Reading) (fault : Option Reason) → slot_in line p i ≡ Ok e → join_fault p list e ≡ fault → joined_or i fault (next e) ≡ told →
+  after_join : (list : List Entry) (i : ℕ) (e : Entry) (next : Entry → Reading) (told : Reading) (fault : Option Reason) → slot_in line p i ≡ Ok e
+      → join_fault p list e ≡ fault → joined_or i fault (next e) ≡ told →
       GoesOn list i next told ⊎ ((reason : Reason) × IsAgainst line p list i reason × (BadSlot i reason ≡ told))
   after_join list i e next told None reads is h = inl record { entry = e; reads = reads; joins = is; rest = h }
   after_join list i e next told (Some reason) reads is h = inr (reason, inr (e, reads, is), h)
@@ -120,7 +121,8 @@ module _ (line : Lines) (p : Params) where
     against : IsAgainst line p before j reason
     below : j < last
 
-  bad_found : HasWords line → (more i j : ℕ) (list : List Entry) (reason : Reason) → length list ≡ i → AreSlots line p list → read_slots line p i more list ≡ BadSlot j reason → Stopped (i + more) j reason
+  bad_found : HasWords line → (more i j : ℕ) (list : List Entry) (reason : Reason) → length list ≡ i → AreSlots line p list
+      → read_slots line p i more list ≡ BadSlot j reason → Stopped (i + more) j reason
   bad_found words zero i j list reason count slots h = absurd (cc)
   bad_found words (suc more) i j list reason count slots h =
       elim (after_slot list i (λ e. read_slots line p (i + 1) more (list ++ e ∷ [])) (BadSlot j reason) (slot_in line p i) refl h) [
@@ -162,7 +164,8 @@ module _ (line : Lines) (p : Params) where
       ap (λ (r : Result Entry Reason). slot_or p before i r (λ f. read_slots line p (i + 1) more (before ++ f ∷ []))) reads
       ∙ ap (λ (f : Option Reason). joined_or i f (read_slots line p (i + 1) more (before ++ e ∷ []))) fault
 
-  bad_stops : (more i j : ℕ) (before : List Entry) (reason : Reason) → i ≤ j → j < i + more → length before ≡ j → AreSlots line p before → IsAgainst line p before j reason → read_slots line p i more (take i before) ≡ BadSlot j reason
+  bad_stops : (more i j : ℕ) (before : List Entry) (reason : Reason) → i ≤ j → j < i + more → length before ≡ j → AreSlots line p before
+      → IsAgainst line p before j reason → read_slots line p i more (take i before) ≡ BadSlot j reason
   bad_stops zero i j before reason low high count slots against = absurd (omega arith)
   bad_stops (suc more) i j before reason low high count slots against =
       elim (cases_lt i j) [
@@ -187,7 +190,8 @@ record HeadReads (line : Lines) (have : ℕ) (told : Reading) : Type 0 where
   rest : read_slots line params 0 (gate_in line) [] ≡ told
 
 module _ (line : Lines) (have : ℕ) (told : Reading) (some_super : (f : SuperFault) → NoSuperblock f ≡ told → ⊥) (some_log : (f : LogFault) → BadHeader f ≡ told → ⊥) where
-  by_gate : (p : Params) (f : Option LogFault) → super_in line have ≡ Ok p → log_fault (line log_line) p ≡ None → gate_fault (gate_in line) p ≡ f → read_below line p f ≡ told → HeadReads line have told
+  by_gate : (p : Params) (f : Option LogFault) → super_in line have ≡ Ok p → log_fault (line log_line) p ≡ None → gate_fault (gate_in line) p ≡ f
+      → read_below line p f ≡ told → HeadReads line have told
   by_gate p (Some f) super header gate h = absurd (some_log f h)
   by_gate p None super header gate h = record { params = p; head = record { super = super; header = header; gate = gate_counts (gate_in line) p gate }; rest = h }
 

@@ -48,7 +48,8 @@ unfolding slot_word_at
 word_between e seq i behind before = grind (arith, nat_tests)
 
 -- the words before the extents: what holds of the ten by place holds of each
-pub words_before : (f : ℕ → ℕ) (e : Entry) (seq : ℕ) → f 0 ≡ seq → f 1 ≡ kind_word e.kind → f 2 ≡ e.size → f 3 ≡ e.mode → f 4 ≡ e.uid → f 5 ≡ e.gid → f 6 ≡ length e.path → f 7 ≡ map_word e.map → f 8 ≡ chunk_word e.map → f 9 ≡ length e.extents →
+pub words_before : (f : ℕ → ℕ) (e : Entry) (seq : ℕ) → f 0 ≡ seq → f 1 ≡ kind_word e.kind → f 2 ≡ e.size → f 3 ≡ e.mode → f 4 ≡ e.uid → f 5 ≡ e.gid
+    → f 6 ≡ length e.path → f 7 ≡ map_word e.map → f 8 ≡ chunk_word e.map → f 9 ≡ length e.extents →
     (k : ℕ) → k < extents_word → f k ≡ slot_word_at e seq k
 unfolding slot_word_at
 words_before f e seq a b c d p q r s t u zero below = a
@@ -106,9 +107,11 @@ extent_read g e seq k room below =
     let first : extents_word + 2 * k - extents_word ≡ 2 * k = omega arith in
     let second : extents_word + 1 + 2 * k - extents_word ≡ 2 * k + 1 = omega arith in
     let a : get_or (spelling g e seq) (extents_word + 2 * k) 0 ≡ (get_or e.extents k no_extent).offset =
-    word_of_spelling g e seq (extents_word + 2 * k) (omega arith) ∙ word_between e seq (extents_word + 2 * k) (omega arith) (omega arith) ∙ ap (extent_word e.extents) first ∙ extent_word_even e.extents k in
+    word_of_spelling g e seq (extents_word + 2 * k) (omega arith) ∙ word_between e seq (extents_word + 2 * k) (omega arith) (omega arith)
+    ∙ ap (extent_word e.extents) first ∙ extent_word_even e.extents k in
     let b : get_or (spelling g e seq) (extents_word + 1 + 2 * k) 0 ≡ (get_or e.extents k no_extent).length =
-    word_of_spelling g e seq (extents_word + 1 + 2 * k) (omega arith) ∙ word_between e seq (extents_word + 1 + 2 * k) (omega arith) (omega arith) ∙ ap (extent_word e.extents) second ∙ extent_word_odd e.extents k in
+    word_of_spelling g e seq (extents_word + 1 + 2 * k) (omega arith) ∙ word_between e seq (extents_word + 1 + 2 * k) (omega arith) (omega arith)
+    ∙ ap (extent_word e.extents) second ∙ extent_word_odd e.extents k in
     same_extent _ _ (get_or e.extents k no_extent) a b
 
 -- the extents are read back
@@ -143,7 +146,8 @@ abbrev entry : Kind → List ℕ → ℕ → ℕ → ℕ → ℕ → MapKind →
 entry kind path size mode uid gid map extents = record { kind = kind; path = path; size = size; mode = mode; uid = uid; gid = gid; map = map; extents = extents }
 
 -- equal fields make the entry
-same_entry : (e : Entry) (kind : Kind) (path : List ℕ) (size mode uid gid : ℕ) (map : MapKind) (extents : List Extent) → kind ≡ e.kind → path ≡ e.path → size ≡ e.size → mode ≡ e.mode → uid ≡ e.uid → gid ≡ e.gid → map ≡ e.map → extents ≡ e.extents →
+same_entry : (e : Entry) (kind : Kind) (path : List ℕ) (size mode uid gid : ℕ) (map : MapKind) (extents : List Extent) → kind ≡ e.kind → path ≡ e.path
+    → size ≡ e.size → mode ≡ e.mode → uid ≡ e.uid → gid ≡ e.gid → map ≡ e.map → extents ≡ e.extents →
     entry kind path size mode uid gid map extents ≡ e
 same_entry e kind path size mode uid gid map extents a b c d p q r s = rw (a, b, c, d, p, q, r, s) refl
 
@@ -164,5 +168,6 @@ fields_read g e seq room =
     (field_read g e seq 3 e.mode room (omega arith) refl)
     (field_read g e seq 4 e.uid room (omega arith) refl)
     (field_read g e seq 5 e.gid room (omega arith) refl)
-    (ap (λ (k : ℕ). map_of k (get_or words 8 0)) (field_read g e seq 7 (map_word e.map) room (omega arith) refl) ∙ ap (map_of (map_word e.map)) (field_read g e seq 8 (chunk_word e.map) room (omega arith) refl) ∙ map_read e.map)
+    (ap (λ (k : ℕ). map_of k (get_or words 8 0)) (field_read g e seq 7 (map_word e.map) room (omega arith) refl) ∙ ap (map_of (map_word e.map))
+    (field_read g e seq 8 (chunk_word e.map) room (omega arith) refl) ∙ map_read e.map)
     (ap (extents_of words) (field_read g e seq 9 (length e.extents) room (omega arith) refl) ∙ extents_read g e seq room)

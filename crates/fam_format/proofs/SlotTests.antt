@@ -68,7 +68,8 @@ attributes_pass words mode uid gid a b c h = rw (a, b, c) (attributes_at mode ui
 
 -- where they pass, they are in range
 attributes_back_at : (mode uid gid : ℕ) →
-    (if nat_lt mode_limit mode then Some (reason.Attribute 3) else if nat_le (2 ^ 32) uid then Some (reason.Attribute 4) else if nat_le (2 ^ 32) gid then Some (reason.Attribute 5) else None) ≡ None → AttributesFit mode uid gid
+    (if nat_lt mode_limit mode then Some (reason.Attribute 3) else if nat_le (2 ^ 32) uid then Some (reason.Attribute 4) else if nat_le
+    (2 ^ 32) gid then Some (reason.Attribute 5) else None) ≡ None → AttributesFit mode uid gid
 attributes_back_at mode uid gid h = record { mode_fits = grind (arith, nat_tests); uid_fits = grind (arith, nat_tests); gid_fits = grind (arith, nat_tests) }
 
 -- so are the words that the test passes
@@ -127,7 +128,8 @@ map_words_of Simple count few = record { known = omega arith; few = few; bare = 
 map_words_of (Striped chunk) count few = record { known = omega arith; few = few; bare = λ other. absurd (other refl) }
 
 -- the test passes at them
-pub map_words_pass : (words : List ℕ) (map : MapKind) (count : ℕ) → get_or words 7 0 ≡ map_word map → get_or words 8 0 ≡ chunk_word map → get_or words 9 0 ≡ count → count ≤ extent_limit → is_map_words words ≡ true
+pub map_words_pass : (words : List ℕ) (map : MapKind) (count : ℕ) → get_or words 7 0 ≡ map_word map → get_or words 8 0 ≡ chunk_word map
+    → get_or words 9 0 ≡ count → count ≤ extent_limit → is_map_words words ≡ true
 map_words_pass words map count a b c few = rw (a, b, c) (map_words_at (map_word map) (chunk_word map) count (map_words_of map count few))
 
 -- the two words of the map say again what they tell
@@ -202,20 +204,24 @@ spelled_extent g e seq i room from before behind =
     word_of_spelling g e seq i (omega arith) ∙ word_between e seq i from before ∙ extent_word_past e.extents (i - extents_word) (omega arith)
 
 -- and the path's bytes past its length are zero
-spelled_byte : (g : Geometry) (e : Entry) (seq i b : ℕ) → HasRoom g e → path_word ≤ i → i < g.words - 1 → b < 8 → get_or (spelling g e seq) 6 0 ≤ 8 * (i - path_word) + b → byte_of (get_or (spelling g e seq) i 0) b ≡ 0
+spelled_byte : (g : Geometry) (e : Entry) (seq i b : ℕ) → HasRoom g e → path_word ≤ i → i < g.words - 1 → b < 8
+    → get_or (spelling g e seq) 6 0 ≤ 8 * (i - path_word) + b → byte_of (get_or (spelling g e seq) i 0) b ≡ 0
 unfolding slot_word_at
 spelled_byte g e seq i b room from below small behind =
     let count : get_or (spelling g e seq) 6 0 ≡ length e.path = field_read g e seq 6 (length e.path) room (omega arith) refl in
-    ap (λ (w : ℕ). byte_of w b) (word_of_spelling g e seq i below ∙ word_behind e seq i from) ∙ byte_of_word e.path (i - path_word) b room.bytes small ∙ get_or_past e.path (8 * (i - path_word) + b) 0 (omega arith)
+    ap (λ (w : ℕ). byte_of w b) (word_of_spelling g e seq i below ∙ word_behind e seq i from) ∙ byte_of_word e.path (i - path_word) b room.bytes small
+    ∙ get_or_past e.path (8 * (i - path_word) + b) 0 (omega arith)
 
 -- so no word of a spelling is stray
 none_stray : (n : ℕ) (g : Geometry) (e : Entry) (seq i : ℕ) → n ≡ 8 → HasRoom g e → extents_word ≤ i → i < g.words - 1 → stray_of n (spelling g e seq) i ≡ false
 none_stray n g e seq i eight room from below =
     elim (cases_lt i path_word) [
-      | inl before ↦ stray_before n (spelling g e seq) i before ∙ stray_extent (get_or (spelling g e seq) i 0) (extents_word + 2 * get_or (spelling g e seq) 9 0) i (spelled_extent g e seq i room from before)
+      | inl before ↦ stray_before n (spelling g e seq) i before ∙ stray_extent (get_or (spelling g e seq) i 0)
+          (extents_word + 2 * get_or (spelling g e seq) 9 0) i (spelled_extent g e seq i room from before)
       | inr behind ↦ stray_behind n (spelling g e seq) i behind
           ∙ any_false (stray_byte (spelling g e seq) i) 0 n
-          (λ b first small. stray_extent (byte_of (get_or (spelling g e seq) i 0) b) (get_or (spelling g e seq) 6 0) (8 * (i - path_word) + b) (spelled_byte g e seq i b room behind below (omega arith)))
+          (λ b first small. stray_extent (byte_of (get_or (spelling g e seq) i 0) b) (get_or (spelling g e seq) 6 0) (8 * (i - path_word) + b)
+          (spelled_byte g e seq i b room behind below (omega arith)))
     ]
 
 -- and the test finds none
@@ -243,8 +249,10 @@ pub record RestIsZero (g : Geometry) (words : List ℕ) : Type 0 where
 -- where the test finds no word, the unused parts are zero
 pub rest_back : (g : Geometry) (words : List ℕ) → rest_fault g words ≡ None → RestIsZero g words
 rest_back g words h =
-    let none : find (is_stray words) (range_with_len extents_word (g.words - 1 - extents_word)) ≡ None = mapped_none reason.Rest (find (is_stray words) (range_with_len extents_word (g.words - 1 - extents_word))) h in
-    let each : (i : ℕ) → extents_word ≤ i → i < g.words - 1 → is_stray words i ≡ false = λ i from below. none_found (is_stray words) extents_word (g.words - 1 - extents_word) none i from (omega arith) in
+    let none : find (is_stray words) (range_with_len extents_word (g.words - 1 - extents_word)) ≡ None =
+    mapped_none reason.Rest (find (is_stray words) (range_with_len extents_word (g.words - 1 - extents_word))) h in
+    let each : (i : ℕ) → extents_word ≤ i → i < g.words - 1 → is_stray words i ≡ false = λ i from below. none_found (is_stray words) extents_word
+    (g.words - 1 - extents_word) none i from (omega arith) in
     record {
       extents = λ i before behind below. extent_zero 8 words i (each i (omega arith) below) before behind;
       path = λ i b from below small behind. byte_zero 8 words i b (each i (omega arith) below) from small behind;

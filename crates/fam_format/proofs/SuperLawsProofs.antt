@@ -54,7 +54,8 @@ crc_passes n body len =
 -- What is spelled is read.
 
 -- parameters are their fields
-same_params : (p : Params) (format log_length slots unit device : ℕ) (fs master : List ℕ) → format ≡ p.format → log_length ≡ p.log_length → slots ≡ p.slots → unit ≡ p.unit → device ≡ p.device → fs ≡ p.fs
+same_params : (p : Params) (format log_length slots unit device : ℕ) (fs master : List ℕ) → format ≡ p.format → log_length ≡ p.log_length
+    → slots ≡ p.slots → unit ≡ p.unit → device ≡ p.device → fs ≡ p.fs
     → master ≡ p.master → record { format = format; log_length = log_length; slots = slots; unit = unit; device = device; fs = fs; master = master } ≡ p
 same_params p v l s u d f m ev el es eu ed ef em = rw (ev, el, es, eu, ed, ef, em) refl
 
@@ -201,7 +202,8 @@ passed word w have p read =
 
 -- sixteen words by their places
 sixteen : (w : List ℕ) → length w ≡ 16
-    → w ≡ get_or w 0 0 ∷ get_or w 1 0 ∷ get_or w 2 0 ∷ get_or w 3 0 ∷ get_or w 4 0 ∷ get_or w 5 0 ∷ get_or w 6 0 ∷ get_or w 7 0 ∷ get_or w 8 0 ∷ get_or w 9 0 ∷ get_or w 10 0 ∷ get_or w 11 0 ∷ get_or w 12 0 ∷ get_or w 13 0 ∷ get_or w 14 0 ∷ get_or w 15 0 ∷ []
+    → w ≡ get_or w 0 0 ∷ get_or w 1 0 ∷ get_or w 2 0 ∷ get_or w 3 0 ∷ get_or w 4 0 ∷ get_or w 5 0 ∷ get_or w 6 0 ∷ get_or w 7 0 ∷ get_or w 8 0 ∷
+    get_or w 9 0 ∷ get_or w 10 0 ∷ get_or w 11 0 ∷ get_or w 12 0 ∷ get_or w 13 0 ∷ get_or w 14 0 ∷ get_or w 15 0 ∷ []
 sixteen w count = fill_by_all (λ (k : ℕ). get_or w k 0) w 16 0 count (λ k below. refl)
 
 -- a body and its checksum

@@ -56,7 +56,8 @@ at_here path e es h = ap (λ (o : Ordering). cond (is_eq o) (Some e) (at es path
 
 -- Among a tree's entries.
 
-find_at : (path : List ℕ) (es : List (List ℕ × Entry)) → map (λ (e : Entry). e.path) (map (λ (e : List ℕ × Entry). e.1) es) ≡ map (λ (e : List ℕ × Entry). e.0) es → find path_cmp path es ≡ at (map (λ (e : List ℕ × Entry). e.1) es) path
+find_at : (path : List ℕ) (es : List (List ℕ × Entry)) → map (λ (e : Entry). e.path) (map (λ (e : List ℕ × Entry). e.1) es)
+    ≡ map (λ (e : List ℕ × Entry). e.0) es → find path_cmp path es ≡ at (map (λ (e : List ℕ × Entry). e.1) es) path
 find_at path [] h = refl
 find_at path (e ∷ es) h =
     let here : e.1.path ≡ e.0 = cc in

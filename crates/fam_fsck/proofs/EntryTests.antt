@@ -48,7 +48,8 @@ entry_same a b h =
     let m = and_parts _ (a.mode == b.mode) u.0 in
     let s = and_parts _ (a.size == b.size) m.0 in
     let p = and_parts (kind_word a.kind == kind_word b.kind) (path_eq a.path b.path) s.0 in
-    same_entry a b (kind_same a.kind b.kind p.0) (same_path a.path b.path p.1) (eqb-true a.size b.size s.1) (eqb-true a.mode b.mode m.1) (eqb-true a.uid b.uid u.1) (eqb-true a.gid b.gid g.1) (map_same a.map b.map t.1 c.1) ((extents_decides a.extents b.extents).0 x.1)
+    same_entry a b (kind_same a.kind b.kind p.0) (same_path a.path b.path p.1) (eqb-true a.size b.size s.1) (eqb-true a.mode b.mode m.1)
+    (eqb-true a.uid b.uid u.1) (eqb-true a.gid b.gid g.1) (map_same a.map b.map t.1 c.1) ((extents_decides a.extents b.extents).0 x.1)
 
 itself : (n : ℕ) → (n == n) ≡ true
 itself n = eq-eqb n n refl

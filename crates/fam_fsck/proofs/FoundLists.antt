@@ -35,7 +35,8 @@ found_at (e ∷ es) (n ∷ ms) zero m same is = ap (option_map (with_mark e)) is
 found_at (e ∷ es) (n ∷ ms) (suc i) m same is = found_at es ms i m (omega (arith, same)) is
 
 -- and its kind
-pub kind_found : (es : List Entry) (ms : List Mark) (i : ℕ) → length es ≡ length ms → i < length es → option_map (λ (f : Found). f.entry.kind) (slice_get (found_of es ms) i) ≡ Some (entry_at es i).kind
+pub kind_found : (es : List Entry) (ms : List Mark) (i : ℕ) → length es ≡ length ms → i < length es
+    → option_map (λ (f : Found). f.entry.kind) (slice_get (found_of es ms) i) ≡ Some (entry_at es i).kind
 kind_found [] ms i same below = absurd (omega (arith, below))
 kind_found (e ∷ es) [] i same below = absurd (omega (arith, same))
 kind_found (e ∷ es) (m ∷ ms) zero same below = refl
@@ -88,7 +89,9 @@ find_past test (a ∷ xs) (suc i) past = find_past test xs i (omega (arith, past
 no_zero : (n m : ℕ) → 0 + n + m ≡ n + m
 no_zero n m = omega arith
 
-count_suc : (test : Kind → Bool) (xs : List Found) (i : ℕ) (k : Kind) → option_map (λ (f : Found). f.entry.kind) (slice_get xs i) ≡ Some k → count_by (λ (e : Entry). test e.kind) (found_entries (drop i xs)) ≡ cond (test k) 1 0 + count_by (λ (e : Entry). test e.kind) (found_entries (drop (suc i) xs))
+count_suc : (test : Kind → Bool) (xs : List Found) (i : ℕ) (k : Kind) → option_map (λ (f : Found). f.entry.kind) (slice_get xs i) ≡ Some k
+    → count_by (λ (e : Entry). test e.kind) (found_entries (drop i xs)) ≡ cond (test k) 1 0 + count_by (λ (e : Entry). test e.kind)
+    (found_entries (drop (suc i) xs))
 count_suc test [] i k is = absurd cc
 count_suc test (x ∷ xs) zero k is =
     sum_by-append (λ (e : Entry). cond (test e.kind) 1 0) (x.entry ∷ []) (found_entries xs)
@@ -96,18 +99,24 @@ count_suc test (x ∷ xs) zero k is =
     ∙ no_zero (cond (test k) 1 0) (count_by (λ (e : Entry). test e.kind) (found_entries xs))
 count_suc test (x ∷ xs) (suc i) k is = count_suc test xs i k is
 
-count_next : (test : Kind → Bool) (xs : List Found) (i : ℕ) (k : Kind) (counts : Bool) → option_map (λ (f : Found). f.entry.kind) (slice_get xs i) ≡ Some k → test k ≡ counts → count_by (λ (e : Entry). test e.kind) (found_entries (drop i xs)) ≡ cond counts 1 0 + count_by (λ (e : Entry). test e.kind) (found_entries (drop (i + 1) xs))
+count_next : (test : Kind → Bool) (xs : List Found) (i : ℕ) (k : Kind) (counts : Bool) → option_map (λ (f : Found). f.entry.kind) (slice_get xs i)
+    ≡ Some k → test k ≡ counts → count_by (λ (e : Entry). test e.kind) (found_entries (drop i xs)) ≡ cond counts 1 0 + count_by
+    (λ (e : Entry). test e.kind) (found_entries (drop (i + 1) xs))
 count_next test xs i k counts is told =
     let one : suc i ≡ i + 1 = omega arith in
     count_suc test xs i k is
     ∙ ap₂ (λ (b : Bool) (n : ℕ). cond b 1 0 + count_by (λ (e : Entry). test e.kind) (found_entries (drop n xs))) told one
 
 -- the one at a place is
-pub count_yes : (test : Kind → Bool) (xs : List Found) (i : ℕ) (k : Kind) → option_map (λ (f : Found). f.entry.kind) (slice_get xs i) ≡ Some k → test k ≡ true → count_by (λ (e : Entry). test e.kind) (found_entries (drop i xs)) ≡ 1 + count_by (λ (e : Entry). test e.kind) (found_entries (drop (i + 1) xs))
+pub count_yes : (test : Kind → Bool) (xs : List Found) (i : ℕ) (k : Kind) → option_map (λ (f : Found). f.entry.kind) (slice_get xs i) ≡ Some k
+    → test k ≡ true → count_by (λ (e : Entry). test e.kind) (found_entries (drop i xs)) ≡ 1 + count_by (λ (e : Entry). test e.kind)
+    (found_entries (drop (i + 1) xs))
 count_yes test xs i k is told = count_next test xs i k true is told
 
 -- it isn't
-pub count_no : (test : Kind → Bool) (xs : List Found) (i : ℕ) (k : Kind) → option_map (λ (f : Found). f.entry.kind) (slice_get xs i) ≡ Some k → test k ≡ false → count_by (λ (e : Entry). test e.kind) (found_entries (drop i xs)) ≡ count_by (λ (e : Entry). test e.kind) (found_entries (drop (i + 1) xs))
+pub count_no : (test : Kind → Bool) (xs : List Found) (i : ℕ) (k : Kind) → option_map (λ (f : Found). f.entry.kind) (slice_get xs i) ≡ Some k
+    → test k ≡ false → count_by (λ (e : Entry). test e.kind) (found_entries (drop i xs)) ≡ count_by (λ (e : Entry). test e.kind)
+    (found_entries (drop (i + 1) xs))
 count_no test xs i k is told =
     let n : ℕ = count_by (λ (e : Entry). test e.kind) (found_entries (drop (i + 1) xs)) in
     let e : 0 + n ≡ n = omega arith in

@@ -124,19 +124,22 @@ module _ (c : Checked) (ts ls : List Entry) where
   -- the listing's first entry stands before all others
   step_extra : (e : Entry) → Below e.path ts → Below e.path ls → plus (with_extra c e) (parts ts ls) ≡ plus c (parts ts (e ∷ ls))
   step_extra e bt bl =
-      told_extra c e (filter (lacks ls) ts) (filter (lacks ts) ls) (filter (differs ts) ls) (below_filter (lacks ls) e.path ts bt) (below_filter (lacks ts) e.path ls bl) (below_filter (differs ts) e.path ls bl)
+      told_extra c e (filter (lacks ls) ts) (filter (lacks ts) ls) (filter (differs ts) ls) (below_filter (lacks ls) e.path ts bt)
+      (below_filter (lacks ts) e.path ls bl) (below_filter (differs ts) e.path ls bl)
       ∙ ap (plus c) (same_told _ _ _ _ _ _ (sym (lacks_more e ls ts bt)) (sym (lacks_head e ts ls bt)) (sym (differs_head e ts ls bt)))
 
   -- the tree's does
   step_missing : (t : Entry) → Below t.path ts → Below t.path ls → plus (with_missing c t) (parts ts ls) ≡ plus c (parts (t ∷ ts) ls)
   step_missing t bt bl =
-      told_missing c t (filter (lacks ls) ts) (filter (lacks ts) ls) (filter (differs ts) ls) (below_filter (lacks ls) t.path ts bt) (below_filter (lacks ts) t.path ls bl) (below_filter (differs ts) t.path ls bl)
+      told_missing c t (filter (lacks ls) ts) (filter (lacks ts) ls) (filter (differs ts) ls) (below_filter (lacks ls) t.path ts bt)
+      (below_filter (lacks ts) t.path ls bl) (below_filter (differs ts) t.path ls bl)
       ∙ ap (plus c) (same_told _ _ _ _ _ _ (sym (lacks_head t ls ts bl)) (sym (lacks_more t ts ls bl)) (sym (differs_more t ts ls bl)))
 
   -- both have the path
   step_pair : (t e : Entry) → e.path ≡ t.path → Below e.path ts → Below e.path ls → Below t.path ls → plus (with_pair c t e) (parts ts ls) ≡ plus c (parts (t ∷ ts) (e ∷ ls))
   step_pair t e same bt bl below =
-      told_pair c e (filter (lacks ls) ts) (filter (lacks ts) ls) (filter (differs ts) ls) (below_filter (lacks ls) e.path ts bt) (below_filter (lacks ts) e.path ls bl) (below_filter (differs ts) e.path ls bl) (entry_eq t e)
+      told_pair c e (filter (lacks ls) ts) (filter (lacks ts) ls) (filter (differs ts) ls) (below_filter (lacks ls) e.path ts bt)
+      (below_filter (lacks ts) e.path ls bl) (below_filter (differs ts) e.path ls bl) (entry_eq t e)
       ∙ ap (plus c) (same_told _ _ _ _ _ _
       (sym (lacks_pair e ls ts t (sym same) ∙ lacks_more e ls ts bt))
       (sym (lacks_pair t ts ls e same ∙ lacks_more t ts ls below))
@@ -151,11 +154,13 @@ tail_sorted : (e : Entry) (es : List Entry) → IsListing (e ∷ es) → IsListi
 tail_sorted e es h = sorted_tail path_cmp e.path (map (λ (x : Entry). x.path) es) h
 
 -- entries of the listing before the tree's first
-pass_told : (c : Checked) (path : List ℕ) (ts ls : List Entry) → ((q : List ℕ) → path_cmp q path ≡ Less → Below q ts) → IsListing ls → plus (passed path c ls) (parts ts (left path ls)) ≡ plus c (parts ts ls)
+pass_told : (c : Checked) (path : List ℕ) (ts ls : List Entry) → ((q : List ℕ) → path_cmp q path ≡ Less → Below q ts) → IsListing ls
+    → plus (passed path c ls) (parts ts (left path ls)) ≡ plus c (parts ts ls)
 pass_told c path ts [] low h = refl
 pass_told c path ts (e ∷ ls) low h =
     let rest = pass_told (with_extra c e) path ts ls low (tail_sorted e ls h) in
-    elim (path_cmp e.path path) as (λ r. path_cmp e.path path ≡ r → plus (cond (is_lt r) (passed path (with_extra c e) ls) c) (parts ts (cond (is_lt r) (left path ls) (e ∷ ls))) ≡ plus c (parts ts (e ∷ ls))) [
+    elim (path_cmp e.path path) as (λ r. path_cmp e.path path ≡ r
+    → plus (cond (is_lt r) (passed path (with_extra c e) ls) c) (parts ts (cond (is_lt r) (left path ls) (e ∷ ls))) ≡ plus c (parts ts (e ∷ ls))) [
       | Less ↦ λ is. rest ∙ step_extra c ts ls e (low e.path is) (head_below e ls h)
       | Equal ↦ λ is. refl
       | Greater ↦ λ is. refl

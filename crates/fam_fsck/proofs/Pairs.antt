@@ -36,7 +36,9 @@ partner_pair unit list last =
     option_map (λ (n : ℕ). (n, last.number)) (option_map (λ (f : Found). f.number) (find (λ (f : Found). overlaps unit (pair_of f, pair_of last)) list))
 
 -- the same, among pairs
-pair_found : (unit : ℕ) (list : List Found) (last : Found) → option_map (λ (pair : (ℕ × Entry) × (ℕ × Entry)). (pair.0.0, pair.1.0)) (find (overlaps unit) (map (λ (a : ℕ × Entry). (a, pair_of last)) (pairs_of list))) ≡ partner_pair unit list last
+pair_found : (unit : ℕ) (list : List Found) (last : Found)
+    → option_map (λ (pair : (ℕ × Entry) × (ℕ × Entry)). (pair.0.0, pair.1.0))
+    (find (overlaps unit) (map (λ (a : ℕ × Entry). (a, pair_of last)) (pairs_of list))) ≡ partner_pair unit list last
 pair_found unit [] last = refl
 pair_found unit (f ∷ more) last = elim (cases_Bool (overlaps unit (pair_of f, pair_of last))) [
   | inl shared ↦ rw shared refl
@@ -48,7 +50,8 @@ option_map_or f None y = refl
 option_map_or f (Some x) y = refl
 
 -- the least pair is an earlier one, or one with the last entry
-pub overlap_more : (unit : ℕ) (before : List Found) (last : Found) → overlap_of unit (pairs_of (before ++ last ∷ [])) ≡ option_or (overlap_of unit (pairs_of before)) (partner_pair unit (before ++ last ∷ []) last)
+pub overlap_more : (unit : ℕ) (before : List Found) (last : Found) → overlap_of unit (pairs_of (before ++ last ∷ []))
+    ≡ option_or (overlap_of unit (pairs_of before)) (partner_pair unit (before ++ last ∷ []) last)
 overlap_more unit before last =
     let numbers : (ℕ × Entry) × (ℕ × Entry) → ℕ × ℕ = λ pair. (pair.0.0, pair.1.0) in
     let fs : List (ℕ × Entry) = pairs_of before in
@@ -88,7 +91,9 @@ none_shared used vs (u ∷ us) has h =
     ap₂ (λ (x y : Bool). x || y) out (none_shared (λ v. (v == u) || used v) vs us (λ v inside. or_right (v == u) (used v) (has v inside)) rest)
 
 -- the last entry overlaps with none before it, nor with itself
-pub none_found : (unit : ℕ) (used : ℕ → Bool) (before : List Found) (last : Found) → ((u : ℕ) → holds (list_units unit (found_entries before)) u ≡ true → used u ≡ true) → first_overlap used (units_in unit last.entry.extents) ≡ None → find (λ (f : Found). overlaps unit (pair_of f, pair_of last)) (before ++ last ∷ []) ≡ None
+pub none_found : (unit : ℕ) (used : ℕ → Bool) (before : List Found) (last : Found)
+    → ((u : ℕ) → holds (list_units unit (found_entries before)) u ≡ true → used u ≡ true) → first_overlap used (units_in unit last.entry.extents)
+    ≡ None → find (λ (f : Found). overlaps unit (pair_of f, pair_of last)) (before ++ last ∷ []) ≡ None
 none_found unit used before last has free = go before has
   where
     own : List ℕ
@@ -103,8 +108,11 @@ none_found unit used before last has free = go before has
       | inr other ↦ rw other apart
     ]
 
-    go : (list : List Found) → ((u : ℕ) → holds (list_units unit (found_entries list)) u ≡ true → used u ≡ true) → find (λ (f : Found). overlaps unit (pair_of f, pair_of last)) (list ++ last ∷ []) ≡ None
-    go [] has = rw (let e : overlaps unit (pair_of last, pair_of last) ≡ false = elim (cases_Bool (last.number == last.number)) [ inl same ↦ rw same once | inr other ↦ absurd (false≢true (sym other ∙ same_number)) ] in e) refl
+    go : (list : List Found) → ((u : ℕ) → holds (list_units unit (found_entries list)) u ≡ true → used u ≡ true)
+        → find (λ (f : Found). overlaps unit (pair_of f, pair_of last)) (list ++ last ∷ []) ≡ None
+    go [] has = rw (let e : overlaps unit (pair_of last, pair_of last) ≡ false =
+        elim (cases_Bool (last.number == last.number)) [ inl same ↦ rw same once | inr other ↦ absurd (false≢true (sym other ∙ same_number)) ] in e)
+        refl
       where
         same_number : (last.number == last.number) ≡ true
         same_number = eq-eqb last.number last.number refl
@@ -116,14 +124,17 @@ none_found unit used before last has free = go before has
         rw (test f apart) (go more (λ u h. has u (parts u ∙ or_right (holds us u) (holds rest u) h)))
 
 -- the same over the units of a file system
-pub none_used : (p : Params) (used : ℕ → Bool) (before : List Found) (last : Found) → ((u : ℕ) → used u ≡ is_used p (found_entries before) u) → first_overlap used (units_in p.unit last.entry.extents) ≡ None → find (λ (f : Found). overlaps p.unit (pair_of f, pair_of last)) (before ++ last ∷ []) ≡ None
+pub none_used : (p : Params) (used : ℕ → Bool) (before : List Found) (last : Found) → ((u : ℕ) → used u ≡ is_used p (found_entries before) u)
+    → first_overlap used (units_in p.unit last.entry.extents) ≡ None
+    → find (λ (f : Found). overlaps p.unit (pair_of f, pair_of last)) (before ++ last ∷ []) ≡ None
 none_used p used before last is free =
     none_found p.unit used before last (λ u h. is u ∙ or_right (nat_lt u (head_units p)) (holds (list_units p.unit (found_entries before)) u) h) free
 
 -- The least pair with one entry more.
 
 -- it is the one known, or one with the last entry
-pub least_of : (unit : ℕ) (found before : List Found) (last : Found) (known result : Option (ℕ × ℕ)) → found ≡ before ++ last ∷ [] → known ≡ overlap_of unit (pairs_of before) → result ≡ option_or known (partner_pair unit found last) → result ≡ overlap_of unit (pairs_of found)
+pub least_of : (unit : ℕ) (found before : List Found) (last : Found) (known result : Option (ℕ × ℕ)) → found ≡ before ++ last ∷ []
+    → known ≡ overlap_of unit (pairs_of before) → result ≡ option_or known (partner_pair unit found last) → result ≡ overlap_of unit (pairs_of found)
 least_of unit found before last known result more is h =
     h
     ∙ ap₂ (λ (o : Option (ℕ × ℕ)) (fs : List Found). option_or o (partner_pair unit fs last)) is more
@@ -135,11 +146,14 @@ pub least_known : (unit : ℕ) (found : List Found) (last : Found) (known : Opti
 least_known unit found last known pair h = ap (λ (o : Option (ℕ × ℕ)). option_or o (partner_pair unit found last)) (sym h)
 
 -- none yet
-pub least_new : (unit : ℕ) (found : List Found) (last : Found) (known result : Option (ℕ × ℕ)) → known ≡ None → result ≡ partner_pair unit found last → result ≡ option_or known (partner_pair unit found last)
+pub least_new : (unit : ℕ) (found : List Found) (last : Found) (known result : Option (ℕ × ℕ)) → known ≡ None → result ≡ partner_pair unit found last
+    → result ≡ option_or known (partner_pair unit found last)
 least_new unit found last known result h r = r ∙ ap (λ (o : Option (ℕ × ℕ)). option_or o (partner_pair unit found last)) (sym h)
 
 -- none at all
-pub none_new : (p : Params) (used : ℕ → Bool) (found before : List Found) (last : Found) → found ≡ before ++ last ∷ [] → ((u : ℕ) → used u ≡ is_used p (found_entries before) u) → first_overlap used (units_in p.unit last.entry.extents) ≡ None → None ≡ partner_pair p.unit found last
+pub none_new : (p : Params) (used : ℕ → Bool) (found before : List Found) (last : Found) → found ≡ before ++ last ∷ []
+    → ((u : ℕ) → used u ≡ is_used p (found_entries before) u) → first_overlap used (units_in p.unit last.entry.extents) ≡ None
+    → None ≡ partner_pair p.unit found last
 none_new p used found before last more is free =
     sym (ap (λ (fs : List Found). partner_pair p.unit fs last) more
     ∙ ap (λ (o : Option Found). option_map (λ (n : ℕ). (n, last.number)) (option_map (λ (f : Found). f.number) o)) (none_used p used before last is free))

@@ -10,12 +10,14 @@ use Rattle.fam_entry.specs.Tests.{read_as}
 use Rattle.fam_fsck.specs.Scan.{Scan, past_by}
 
 -- below the gate
-pub slot_below : (s : Scan) (words : List ℕ) (read : Result Entry Reason) → s.added < s.gate → read ≡ entry_of s.params words s.added → below_gate s.survey s.added read ≡ survey_slot s.params s.gate s.added words s.survey
+pub slot_below : (s : Scan) (words : List ℕ) (read : Result Entry Reason) → s.added < s.gate → read ≡ entry_of s.params words s.added
+    → below_gate s.survey s.added read ≡ survey_slot s.params s.gate s.added words s.survey
 unfolding survey_slot
 slot_below s words read below h = rw (lt-ltb s.added s.gate below) (ap (below_gate s.survey s.added) h)
 
 -- at or past it
-pub slot_past : (s : Scan) (words : List ℕ) (read : Result Entry Reason) → s.gate ≤ s.added → read ≡ entry_of s.params words s.added → past_gate s.survey read ≡ survey_slot s.params s.gate s.added words s.survey
+pub slot_past : (s : Scan) (words : List ℕ) (read : Result Entry Reason) → s.gate ≤ s.added → read ≡ entry_of s.params words s.added
+    → past_gate s.survey read ≡ survey_slot s.params s.gate s.added words s.survey
 unfolding survey_slot
 slot_past s words read past h = rw (le-ltb s.added s.gate past) (ap (past_gate s.survey) h)
 
@@ -24,7 +26,8 @@ past_is : (v : Survey) (read : Result Entry Reason) → past_by v (is_ok read) �
 past_is v (Ok e) = refl
 past_is v (Err reason) = refl
 
-pub slot_past_by : (s : Scan) (words : List ℕ) (read : Result Entry Reason) → s.gate ≤ s.added → read ≡ entry_of s.params words s.added → past_by s.survey (is_ok read) ≡ survey_slot s.params s.gate s.added words s.survey
+pub slot_past_by : (s : Scan) (words : List ℕ) (read : Result Entry Reason) → s.gate ≤ s.added → read ≡ entry_of s.params words s.added
+    → past_by s.survey (is_ok read) ≡ survey_slot s.params s.gate s.added words s.survey
 slot_past_by s words read past h = past_is s.survey read ∙ slot_past s words read past h
 
 -- what is told of a reading is the reading

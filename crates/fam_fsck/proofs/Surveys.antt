@@ -68,7 +68,8 @@ or_assoc true y z = refl
 or_assoc false y z = refl
 
 -- and used after it
-pub used_more : (p : Params) (list : List Found) (i : ℕ) (e : Entry) (fault : Option Reason) (u : ℕ) → (is_used p (found_entries list) u || holds (units_in p.unit e.extents) u) ≡ is_used p (found_entries (list ++ found_as i e fault ∷ [])) u
+pub used_more : (p : Params) (list : List Found) (i : ℕ) (e : Entry) (fault : Option Reason) (u : ℕ)
+    → (is_used p (found_entries list) u || holds (units_in p.unit e.extents) u) ≡ is_used p (found_entries (list ++ found_as i e fault ∷ [])) u
 used_more p list i e fault u =
     let us : List ℕ = list_units p.unit (found_entries list) in
     let own : List ℕ = units_in p.unit e.extents in
@@ -85,7 +86,8 @@ counted_from : (map : List Bool) (f : ℕ → Bool) (a : ℕ) → ((k : ℕ) →
 counted_from [] f a same = refl
 counted_from (b ∷ more) f a same =
     let first : b ≡ f a = same 0 (omega arith) ∙ ap f (let e : a + 0 ≡ a = omega arith in e) in
-    let rest : count_by (λ b. b) more ≡ count_by f (range_with_len (a + 1) (length more)) = counted_from more f (a + 1) (λ k below. same (suc k) (omega arith) ∙ ap f (let e : a + suc k ≡ a + 1 + k = omega arith in e)) in
+    let rest : count_by (λ b. b) more ≡ count_by f (range_with_len (a + 1) (length more)) =
+    counted_from more f (a + 1) (λ k below. same (suc k) (omega arith) ∙ ap f (let e : a + suc k ≡ a + 1 + k = omega arith in e)) in
     sum_by-append (λ (c : Bool). cond c 1 0) (b ∷ []) more
     ∙ ap₂ (λ (c : Bool) (n : ℕ). 0 + cond c 1 0 + n) first rest
     ∙ sym (sum_by-append (λ (u : ℕ). cond (f u) 1 0) (a ∷ []) (range_with_len (a + 1) (length more)))

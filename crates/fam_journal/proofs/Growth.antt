@@ -34,7 +34,8 @@ pub count_same : (a b : List HostView) → map heading a ≡ map heading b → l
 count_same a b e = sym (length-map a heading) ∙ ap (λ (xs : List (List ℕ × List ℕ)). length xs) e ∙ length-map b heading
 
 -- one operation more
-pub operations_more : (h n : ℕ) (old : Machines) (notes : List Note) (mid : Machines) (more : List Note) (new : Machines) → DoesOperations h n old notes mid → busy_at h mid ≡ true → Operation h mid more new → DoesOperations h (suc n) old (notes ++ more) new
+pub operations_more : (h n : ℕ) (old : Machines) (notes : List Note) (mid : Machines) (more : List Note) (new : Machines)
+    → DoesOperations h n old notes mid → busy_at h mid ≡ true → Operation h mid more new → DoesOperations h (suc n) old (notes ++ more) new
 operations_more h zero old notes mid more new does busy op =
     let here : mid ≡ old = does.1 in
     inr (
@@ -53,7 +54,16 @@ operations_more h (suc n) old notes mid more new (inr x) busy op =
 
 -- nothing is added
 abbrev pub adds_none : (lines faults : ℕ) (world : WorldView) → Adds lines faults faults world world
-adds_none lines faults world = record { notes = []; joined = sym (append-nil world.journal); counted = omega arith; later = omega arith; named = tt; hosts = refl; fits = λ was. was; shaped = λ is. is }
+adds_none lines faults world = record {
+  notes = [];
+  joined = sym (append-nil world.journal);
+  counted = omega arith;
+  later = omega arith;
+  named = tt;
+  hosts = refl;
+  fits = λ was. was;
+  shaped = λ is. is;
+}
 
 -- and more behind what was added
 abbrev pub adds_both : (lines before mid now : ℕ) (a b c : WorldView) → Adds lines before mid a b → Adds lines mid now b c → Adds lines before now a c

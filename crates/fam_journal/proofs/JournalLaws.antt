@@ -28,7 +28,8 @@ begun image is = record {
 
 pub said : (at : TaskAt) (says : MaySayNext at) → Bridged at.past says.now at.host (task_turn at)
 said at says =
-    bridged at.past.start at.past.hosts at.host at.told at.is at.kept at.task.cmd at.task.me at.task at.words at.made at.word at.joined at.standing (task_turn at) refl at.was at.me says.hosts says.shared says.now at.past.state says.bad says.halted says.stage says.says
+    bridged at.past.start at.past.hosts at.host at.told at.is at.kept at.task.cmd at.task.me at.task at.words at.made at.word at.joined at.standing
+    (task_turn at) refl at.was at.me says.hosts says.shared says.now at.past.state says.bad says.halted says.stage says.says
 
 pub kept_on : (start : Image) (state left : Machines) (old new : WorldView) (call : Call) (notes : List Note) → Held start state old state.memory → IsSoundCall call → Does call state notes left
     → WorldStands (length start) left new → new.journal ≡ old.journal ++ notes → Held start left new left.memory
@@ -51,7 +52,8 @@ part_on start state left old new call notes held does stands journal = record {
   kept = subst (λ (z : List Note). Reached start left z) (sym journal) (part_does start state left old.journal notes call held.kept does);
 }
 
-pub cut_legal : (start : Image) (state left : Machines) (old : WorldView) (call : Call) (notes : List Note) → Held start state old state.memory → CutCall call state notes left → Legal start (old.journal ++ notes)
+pub cut_legal : (start : Image) (state left : Machines) (old : WorldView) (call : Call) (notes : List Note) → Held start state old state.memory
+    → CutCall call state notes left → Legal start (old.journal ++ notes)
 cut_legal start state left old call notes held breaks =
     let b = cut_notes call state left notes breaks in
     subst (λ (z : List Note). Legal start (old.journal ++ z)) (sym b.2) (legal_both (first_past start) old.journal (Refused b.0 b.1 ∷ []) held.kept.held.legal (tt, tt))

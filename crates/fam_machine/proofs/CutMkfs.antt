@@ -50,7 +50,8 @@ module _ (at : LineNo) (left : Machine) where
   cut_more op ops m c = record { done = op ∷ c.done; op = c.op; rest = c.rest; split = ap (λ (l : List Op). op ∷ l) c.split; fails = c.fails }
 
   -- at its first operation, or behind it
-  first_by : (op : Op) (ops : List Op) (m : Machine) (done : List Op) (o : Op) (rest : List Op) → op ∷ ops ≡ done ++ o ∷ rest → Fails o (operated_all done m) at left → Fails op m at left ⊎ Cuts ops (operated op m) at left
+  first_by : (op : Op) (ops : List Op) (m : Machine) (done : List Op) (o : Op) (rest : List Op) → op ∷ ops ≡ done ++ o ∷ rest
+      → Fails o (operated_all done m) at left → Fails op m at left ⊎ Cuts ops (operated op m) at left
   first_by op ops m [] o rest split fails =
       let same : op ≡ o = cc in
       inl (subst (λ (x : Op). Fails x m at left) (sym same) fails)
@@ -203,7 +204,9 @@ module _ (line : ℕ) (words : List ℕ) (image : Image) (cache : Cache) (at : L
       inr (
         mask,
         ap (λ (f : Failure). f.left.image) failure.2
-            ∙ ap (λ (w : List ℕ). with_line line w image) (same_Some failure.0 (masked mask (eight words) (line_at image line)) (sym failure.1 ∙ through) ∙ masked_eight mask words (line_at image line))
+            ∙ ap (λ (w : List ℕ). with_line line w image)
+            (same_Some failure.0 (masked mask (eight words) (line_at image line)) (sym failure.1 ∙ through) ∙ masked_eight mask words
+            (line_at image line))
             ∙ sym (with_masked-with_line image line words mask),
       )
 
@@ -267,7 +270,8 @@ module _ (p : Params) (image : Image) (sound : SoundParams p) (enough : least_li
   puts_left : (left : Image) → CutPut (format_puts p) image left → IsOldNoneOrNew p image left
   puts_left left c = by_left left (cut_left (body p) image some (body_off p) c.done c.put c.rest left c.split c.part)
 
-module _ (p : Params) (m : Machine) (at : LineNo) (left : Machine) (sound : SoundParams p) (enough : least_lines ≤ length m.image) (fits : p.device ≤ line_bytes * length m.image) (normal : map eight m.image ≡ m.image) (whole : HasEightWords m) (head : IsHeadSent m.cache) where
+module _ (p : Params) (m : Machine) (at : LineNo) (left : Machine) (sound : SoundParams p) (enough : least_lines ≤ length m.image)
+    (fits : p.device ≤ line_bytes * length m.image) (normal : map eight m.image ≡ m.image) (whole : HasEightWords m) (head : IsHeadSent m.cache) where
   write_cut : Cuts (write_ops p) (operated_all read_ops m) at left → IsOldNoneOrNew p m.image left.image
   unfolding write_ops
   write_cut c =

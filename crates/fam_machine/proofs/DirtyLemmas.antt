@@ -40,7 +40,8 @@ none_found [] q is found = absurd cc
 none_found (e ∷ lines) q is found =
     let both = counted (is_marked_dirty e.1.mark) (count_lines lines) (sym (count_first e lines) ∙ is) in
     elim (cases_eq q e.0) [
-      | inl same ↦ false≢true (sym both.0 ∙ sym (dirty_marked e.1.mark e.1.words) ∙ sym (ap (λ (b : Bool). is_dirty (cell_of (cond b (Some e.1) (find nat_cmp q lines)))) (same_key q e.0 same)) ∙ found)
+      | inl same ↦ false≢true (sym both.0 ∙ sym (dirty_marked e.1.mark e.1.words)
+          ∙ sym (ap (λ (b : Bool). is_dirty (cell_of (cond b (Some e.1) (find nat_cmp q lines)))) (same_key q e.0 same)) ∙ found)
       | inr other ↦ none_found lines q both.1 (sym (ap (λ (b : Bool). is_dirty (cell_of (cond b (Some e.1) (find nat_cmp q lines)))) (other_key q e.0 other)) ∙ found)
     ]
 

@@ -41,7 +41,8 @@ among_later : (b : Bool) (e : ℕ × CachedLine) (rest : Lines) (q : ℕ) → Is
 among_later true e rest q among = inr among
 among_later false e rest q among = among
 
-among_either : (b : Bool) (e : ℕ × CachedLine) (rest : Lines) (q : ℕ) → IsAmong q (map (λ (e : ℕ × CachedLine). e.0) (cond b (e ∷ rest) rest)) → ((q ≡ e.0) × (b ≡ true)) ⊎ IsAmong q (map (λ (e : ℕ × CachedLine). e.0) rest)
+among_either : (b : Bool) (e : ℕ × CachedLine) (rest : Lines) (q : ℕ) → IsAmong q (map (λ (e : ℕ × CachedLine). e.0) (cond b (e ∷ rest) rest))
+    → ((q ≡ e.0) × (b ≡ true)) ⊎ IsAmong q (map (λ (e : ℕ × CachedLine). e.0) rest)
 among_either true e rest q (inl same) = inl (same, refl)
 among_either true e rest q (inr among) = inr among
 among_either false e rest q among = inr among
@@ -96,7 +97,10 @@ none_after : (lines : List ℕ) (m : Machine) (q : ℕ) → (IsAsked (cell_at m.
 none_after [] m q among is = among is
 none_after (l ∷ lines) m q among is =
     elim (cases_eq q l) [
-      | inl same ↦ none_after lines (send_line l m) q (λ still. absurd (false≢true (sym (ap (λ (x : ℕ). is_asked (cell_at (send_line l m).cache x)) same ∙ ap is_asked (send_here l m) ∙ cleaned_not_asked (cell_at m.cache l)) ∙ still))) is
+      | inl same ↦ none_after lines (send_line l m) q
+          (λ still. absurd (false≢true (sym
+          (ap (λ (x : ℕ). is_asked (cell_at (send_line l m).cache x)) same ∙ ap is_asked (send_here l m) ∙ cleaned_not_asked (cell_at m.cache l))
+          ∙ still))) is
       | inr other ↦ none_after lines (send_line l m) q (λ still. elim (among (sym (ap is_asked (send_other l m q other)) ∙ still)) [ inl same ↦ absurd (other same) | inr later ↦ later ]) is
     ]
 
@@ -136,7 +140,9 @@ lines_away (q ∷ lines) m l none =
     )
 
 -- a fence leaves a line that isn't asked
-pub fence_away : (m : Machine) (l : ℕ) → (IsAsked (cell_at m.cache l) → ⊥) → (line_at (send_lines (asked_lines m.cache) m).image l ≡ line_at m.image l) × (cell_at (send_lines (asked_lines m.cache) m).cache l ≡ cell_at m.cache l)
+pub fence_away : (m : Machine) (l : ℕ) → (IsAsked (cell_at m.cache l) → ⊥)
+    → (line_at (send_lines (asked_lines m.cache) m).image l ≡ line_at m.image l)
+    × (cell_at (send_lines (asked_lines m.cache) m).cache l ≡ cell_at m.cache l)
 fence_away m l none = lines_away (asked_lines m.cache) m l (λ among. none (among_is_asked m.cache l among))
 
 -- an asked line with these words, or one that was sent
@@ -147,7 +153,11 @@ send_one : (words : List ℕ) (l : ℕ) (m : Machine) → l < length m.image →
 send_one words l m within (inl held) =
     inr (send_here l m ∙ ap cleaned held, line_at-with_line m.image l (sent (line_at m.image l) (cell_at m.cache l)) within ∙ ap (λ (c : Cell). eight (sent (line_at m.image l) c)) held)
 send_one words l m within (inr was) =
-    inr (send_here l m ∙ ap cleaned was.0, line_at-with_line m.image l (sent (line_at m.image l) (cell_at m.cache l)) within ∙ ap (λ (c : Cell). eight (sent (line_at m.image l) c)) was.0 ∙ ap eight was.1)
+    inr (
+      send_here l m ∙ ap cleaned was.0,
+      line_at-with_line m.image l (sent (line_at m.image l) (cell_at m.cache l)) within
+          ∙ ap (λ (c : Cell). eight (sent (line_at m.image l) c)) was.0 ∙ ap eight was.1,
+    )
 
 send_each : (words : List ℕ) (l : ℕ) (lines : List ℕ) (m : Machine) → l < length m.image → IsHeldOrSent words l m → IsHeldOrSent words l (send_lines lines m)
 send_each words l [] m within is = is
@@ -162,7 +172,8 @@ send_each words l (q ∷ lines) m within is =
     ])
 
 -- a fence leaves an asked line clean, with its words in memory
-pub fence_here : (m : Machine) (l : ℕ) (words : List ℕ) → l < length m.image → cell_at m.cache l ≡ Dirty true words → (cell_at (send_lines (asked_lines m.cache) m).cache l ≡ Clean words) × (line_at (send_lines (asked_lines m.cache) m).image l ≡ eight words)
+pub fence_here : (m : Machine) (l : ℕ) (words : List ℕ) → l < length m.image → cell_at m.cache l ≡ Dirty true words
+    → (cell_at (send_lines (asked_lines m.cache) m).cache l ≡ Clean words) × (line_at (send_lines (asked_lines m.cache) m).image l ≡ eight words)
 fence_here m l words within held = elim (send_each words l (asked_lines m.cache) m within (inl held)) [
   | inl still ↦ absurd (none_asked m l (ap is_asked still))
   | inr was ↦ was

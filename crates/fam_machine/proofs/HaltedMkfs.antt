@@ -98,7 +98,9 @@ pub none_put : (k : ℕ) (p : Params) (image : Image) → k < first_sent → hal
 none_put k p image early = ap (λ (n : ℕ). put_lines (take n (format_puts p)) image) (lines_before k early)
 
 -- the puts behind the first one, of which none is of line 0 but the last
-rest_off : (p : Params) (j : ℕ) → j ≤ 4 → AreElsewhere 0 (take j ((gate_line, zero_line) ∷ (log_line, log_words p) ∷ (1, slice_range (super_words p) 0 8) ∷ (2, slice_range (super_words p) 8 16) ∷ (0, magic_line) ∷ []))
+rest_off : (p : Params) (j : ℕ) → j ≤ 4
+    → AreElsewhere 0 (take j ((gate_line, zero_line) ∷ (log_line, log_words p) ∷ (1, slice_range (super_words p) 0 8) ∷
+    (2, slice_range (super_words p) 8 16) ∷ (0, magic_line) ∷ []))
 rest_off p zero few = tt
 rest_off p (suc zero) few = (λ e. omega arith, tt)
 rest_off p (suc (suc zero)) few = (λ e. omega arith, (λ e. omega arith, tt))

@@ -26,12 +26,15 @@ use Rattle.fam_machine.proofs.CleanCaches.{clean_sent, clean_wide, clean_with}
 use Rattle.fam_machine.proofs.WideLines.{eight_whole}
 
 -- one line of memory and of the cache changes, to eight words
-whole_with : (line : ℕ) (words : List ℕ) (cell : Cell) (m : Machine) → ((memory : List ℕ) → eight (current (eight memory) cell) ≡ current (eight memory) cell) → HasEightWords m → HasEightWords (machine (with_line line words m.image) (with_cell line cell m.cache))
+whole_with : (line : ℕ) (words : List ℕ) (cell : Cell) (m : Machine)
+    → ((memory : List ℕ) → eight (current (eight memory) cell) ≡ current (eight memory) cell) → HasEightWords m
+    → HasEightWords (machine (with_line line words m.image) (with_cell line cell m.cache))
 whole_with line words cell m new old q =
     elim (cases_eq q line) [
       | inl same ↦
           let here : cell_at (with_cell line cell m.cache) q ≡ cell = ap (cell_at _) same ∙ cell_at-with_cell_same line cell m.cache in
-          subst (λ (c : Cell). eight (current (line_at (with_line line words m.image) q) c) ≡ current (line_at (with_line line words m.image) q) c) (sym here) (new (get_or (with_line line words m.image) q []))
+          subst (λ (c : Cell). eight (current (line_at (with_line line words m.image) q) c) ≡ current (line_at (with_line line words m.image) q) c)
+          (sym here) (new (get_or (with_line line words m.image) q []))
       | inr other ↦
           let here : cell_at (with_cell line cell m.cache) q ≡ cell_at m.cache q = cell_at-with_cell_other line cell m.cache q other in
           let there : line_at (with_line line words m.image) q ≡ line_at m.image q = line_at-with_line_other m.image line words q other in
@@ -92,7 +95,8 @@ puts_normal [] image normal = normal
 puts_normal (put ∷ more) image normal = puts_normal more (put_line image put) (normal-with_line image normal put.0 put.1)
 
 -- what all 81 operations leave
-pub all_left : (p : Params) (m : Machine) → HasEightWords m → operated_all (mkfs_ops p) m ≡ machine (formatted (operated_all read_ops m).image p) (drop_lines (format_puts p) (operated_all read_ops m).cache)
+pub all_left : (p : Params) (m : Machine) → HasEightWords m → operated_all (mkfs_ops p) m ≡ machine (formatted (operated_all read_ops m).image p)
+    (drop_lines (format_puts p) (operated_all read_ops m).cache)
 unfolding write_ops formatted
 all_left p m whole = operated_all-append read_ops (write_ops p) m ∙ put_all (format_puts p) (operated_all read_ops m) (whole_read m whole)
 
@@ -158,7 +162,8 @@ whole_clean : (m : Machine) → IsClean m.cache → HasEightWords m
 whole_clean m clean line = eight_whole (current (line_at m.image line) (cell_at m.cache line)) (clean_wide (line_at m.image line) (cell_at m.cache line) refl (clean line))
 
 -- a line is read: memory stays, and the copy isn't stale
-clean_loaded : (line : ℕ) (image : Image) (cache : Cache) → map eight image ≡ image → IsClean cache → operated_all (load_ops line 8) (machine image cache) ≡ machine image (with_cell line (Clean (line_at image line)) cache)
+clean_loaded : (line : ℕ) (image : Image) (cache : Cache) → map eight image ≡ image → IsClean cache
+    → operated_all (load_ops line 8) (machine image cache) ≡ machine image (with_cell line (Clean (line_at image line)) cache)
 clean_loaded line image cache normal clean =
     let same : (operated (Invalidate (line_no line)) (machine image cache)).image ≡ image =
     ap (λ (ws : List ℕ). with_line line ws image) (clean_sent (line_at image line) (cell_at cache line) (clean line)) ∙ with_line-line_at image normal line in
@@ -224,7 +229,9 @@ count_all p = refl
 pub early_free : (unit log have : ℕ) → early_refusal unit log have ≡ None → (is_geometry unit log ≡ true) × (need log unit ≤ have)
 early_free unit log have none = go (is_geometry unit log) (nat_lt have (need log unit)) refl refl none
   where
-    go : (b few : Bool) → is_geometry unit log ≡ b → nat_lt have (need log unit) ≡ few → (if b then (if few then Some (TooSmall (need log unit) have) else None) else Some (BadGeometry unit log)) ≡ None → (is_geometry unit log ≡ true) × (need log unit ≤ have)
+    go : (b few : Bool) → is_geometry unit log ≡ b → nat_lt have (need log unit) ≡ few
+        → (if b then (if few then Some (TooSmall (need log unit) have) else None) else Some (BadGeometry unit log)) ≡ None
+        → (is_geometry unit log ≡ true) × (need log unit ≤ have)
     go true true is lt none = absurd cc
     go true false is lt none = (is, grind (arith, nat_tests))
     go false few is lt none = absurd cc

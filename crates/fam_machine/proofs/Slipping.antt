@@ -36,7 +36,9 @@ move_wide (Leak mask) m (Dirty a words) wide copy = length-masked mask words m
 move_wide (Fetch mask) m c wide copy = wide
 
 -- a failed send
-send_tears_line : (image left : Image) (cache : Cache) (line : ℕ) → line < length image → (through : ℕ) (o : Option (List ℕ)) → failed_send through (line_at image line) (cell_at cache line) ≡ o → option_map (λ words. with_line line words image) o ≡ Some left → TearsLineAt line image left cache
+send_tears_line : (image left : Image) (cache : Cache) (line : ℕ) → line < length image → (through : ℕ) (o : Option (List ℕ))
+    → failed_send through (line_at image line) (cell_at cache line) ≡ o → option_map (λ words. with_line line words image) o ≡ Some left
+    → TearsLineAt line image left cache
 send_tears_line image left cache line within through None is e = absurd cc
 send_tears_line image left cache line within through (Some words) is e = record {
   within = within;
@@ -52,7 +54,9 @@ send_tears_line image left cache line within through (Some words) is e = record 
     wide (Dirty a own) is = subst (λ (w : List ℕ). length w ≡ 8) (same_Some (masked through own (line_at image line)) words is) (length-masked through own (line_at image line))
 
 -- a failed leak
-leak_tears_line : (image left : Image) (cache : Cache) (line mask : ℕ) → line < length image → (through : ℕ) (o : Option (List ℕ)) → failed_leak mask through (line_at image line) (cell_at cache line) ≡ o → option_map (λ words. with_line line words image) o ≡ Some left → TearsLineAt line image left cache
+leak_tears_line : (image left : Image) (cache : Cache) (line mask : ℕ) → line < length image → (through : ℕ) (o : Option (List ℕ))
+    → failed_leak mask through (line_at image line) (cell_at cache line) ≡ o → option_map (λ words. with_line line words image) o ≡ Some left
+    → TearsLineAt line image left cache
 leak_tears_line image left cache line mask within through None is e = absurd cc
 leak_tears_line image left cache line mask within through (Some words) is e = record {
   within = within;
@@ -66,7 +70,8 @@ leak_tears_line image left cache line mask within through (Some words) is e = re
     wide Absent is = absurd cc
     wide (Clean own) is = absurd cc
     wide (Dirty a own) is =
-        subst (λ (w : List ℕ). length w ≡ 8) (same_Some (masked through (masked mask own (line_at image line)) (line_at image line)) words is) (length-masked through (masked mask own (line_at image line)) (line_at image line))
+        subst (λ (w : List ℕ). length w ≡ 8) (same_Some (masked through (masked mask own (line_at image line)) (line_at image line)) words is)
+        (length-masked through (masked mask own (line_at image line)) (line_at image line))
 
 -- a failed read
 read_tears_line : (image left : Image) (cache : Cache) (line : ℕ) → map eight image ≡ image → line < length image → image ≡ left → TearsLineAt line image left cache
@@ -79,18 +84,23 @@ read_tears_line image left cache line normal within same = record {
 }
 
 -- a line that can't be brought
-bring_tears_line : (l : LineNo) (m : Machine) (failure : Failure) → map eight m.image ≡ m.image → l.0 < length m.image → not_brought l m (cell_at m.cache l.0) ≡ Some failure → TearsLineAt failure.line.0 m.image failure.left.image m.cache
+bring_tears_line : (l : LineNo) (m : Machine) (failure : Failure) → map eight m.image ≡ m.image → l.0 < length m.image
+    → not_brought l m (cell_at m.cache l.0) ≡ Some failure → TearsLineAt failure.line.0 m.image failure.left.image m.cache
 bring_tears_line l m failure normal within e =
-    subst (λ (f : Failure). TearsLineAt f.line.0 m.image f.left.image m.cache) (sym (brought_fails l m (cell_at m.cache l.0) failure e)) (read_tears_line m.image m.image m.cache l.0 normal within refl)
+    subst (λ (f : Failure). TearsLineAt f.line.0 m.image f.left.image m.cache) (sym (brought_fails l m (cell_at m.cache l.0) failure e))
+    (read_tears_line m.image m.image m.cache l.0 normal within refl)
 
 -- a line that can't be sent
-torn_tears_line : (l : LineNo) (m : Machine) (through : ℕ) (failure : Failure) → l.0 < length m.image → not_sent through l m ≡ Some failure → TearsLineAt failure.line.0 m.image failure.left.image m.cache
+torn_tears_line : (l : LineNo) (m : Machine) (through : ℕ) (failure : Failure) → l.0 < length m.image → not_sent through l m ≡ Some failure
+    → TearsLineAt failure.line.0 m.image failure.left.image m.cache
 torn_tears_line l m through failure within e =
     let torn = send_fails l m (failed_send through (line_at m.image l.0) (cell_at m.cache l.0)) failure e in
-    subst (λ (f : Failure). TearsLineAt f.line.0 m.image f.left.image m.cache) (sym torn.2) (send_tears_line m.image (with_line l.0 torn.0 m.image) m.cache l.0 within through (Some torn.0) torn.1 refl)
+    subst (λ (f : Failure). TearsLineAt f.line.0 m.image f.left.image m.cache) (sym torn.2)
+    (send_tears_line m.image (with_line l.0 torn.0 m.image) m.cache l.0 within through (Some torn.0) torn.1 refl)
 
 -- an operation in which the media fails
-pub op_tears_line_at : (op : Op) (m : Machine) (through : Breaking) (failure : Failure) → op ≢ Fence → map eight m.image ≡ m.image → IsInImage op m → failed through op m ≡ Some failure → TearsLineAt failure.line.0 m.image failure.left.image m.cache
+pub op_tears_line_at : (op : Op) (m : Machine) (through : Breaking) (failure : Failure) → op ≢ Fence → map eight m.image ≡ m.image → IsInImage op m
+    → failed through op m ≡ Some failure → TearsLineAt failure.line.0 m.image failure.left.image m.cache
 op_tears_line_at (Load l k) m through failure none normal inside e = bring_tears_line l m failure normal inside e
 op_tears_line_at (Store l k value) m through failure none normal inside e = bring_tears_line l m failure normal inside e
 op_tears_line_at (WriteBack l) m through failure none normal inside e = absurd cc
@@ -108,7 +118,8 @@ one_breaks op m through failure none normal inside e = record {
 }
 
 -- a fence had sent some lines whole
-fence_breaks : (lines rest : List ℕ) (m : Machine) (mask : ℕ) (failure : Failure) → ((line : ℕ) → IsAmong line lines → line < length m.image) → ((line : ℕ) → IsAmong line rest → line < length m.image) → first_not_sent mask rest (send_lines lines m) ≡ Some failure → Breaks m failure
+fence_breaks : (lines rest : List ℕ) (m : Machine) (mask : ℕ) (failure : Failure) → ((line : ℕ) → IsAmong line lines → line < length m.image)
+    → ((line : ℕ) → IsAmong line rest → line < length m.image) → first_not_sent mask rest (send_lines lines m) ≡ Some failure → Breaks m failure
 fence_breaks lines [] m mask failure before inside e = absurd cc
 fence_breaks lines (l ∷ rest) m mask failure before inside e =
     let m' = send_lines lines m in
@@ -148,15 +159,21 @@ breaks_normal m failure b normal =
     subst (λ (i : Image). map eight i ≡ i) (sym b.tears.is) (normal-with_line (send_lines b.sent m).image (send_lines_normal b.sent m normal) failure.line.0 b.tears.words)
 
 -- a cache's own move in which the media fails
-fetch_tears_line : (image left : Image) (cache : Cache) (line : ℕ) → map eight image ≡ image → line < length image → (c : Cell) → option_map (λ words. with_line line words image) (failed_fetch (line_at image line) c) ≡ Some left → TearsLineAt line image left cache
-fetch_tears_line image left cache line normal within Absent e = read_tears_line image left cache line normal within (sym (with_line-line_at image normal line) ∙ same_Some (with_line line (line_at image line) image) left e)
-fetch_tears_line image left cache line normal within (Clean words) e = read_tears_line image left cache line normal within (sym (with_line-line_at image normal line) ∙ same_Some (with_line line (line_at image line) image) left e)
+fetch_tears_line : (image left : Image) (cache : Cache) (line : ℕ) → map eight image ≡ image → line < length image → (c : Cell)
+    → option_map (λ words. with_line line words image) (failed_fetch (line_at image line) c) ≡ Some left → TearsLineAt line image left cache
+fetch_tears_line image left cache line normal within Absent e = read_tears_line image left cache line normal within
+    (sym (with_line-line_at image normal line) ∙ same_Some (with_line line (line_at image line) image) left e)
+fetch_tears_line image left cache line normal within (Clean words) e = read_tears_line image left cache line normal within
+    (sym (with_line-line_at image normal line) ∙ same_Some (with_line line (line_at image line) image) left e)
 fetch_tears_line image left cache line normal within (Dirty a words) e = absurd cc
 
-pub move_tears_line_at : (move : Move) (line : ℕ) (m : Machine) (through : ℕ) (left : Image) → map eight m.image ≡ m.image → line < length m.image → move_failed move line through m ≡ Some left → TearsLineAt line m.image left m.cache
+pub move_tears_line_at : (move : Move) (line : ℕ) (m : Machine) (through : ℕ) (left : Image) → map eight m.image ≡ m.image → line < length m.image
+    → move_failed move line through m ≡ Some left → TearsLineAt line m.image left m.cache
 move_tears_line_at Evict line m through left normal within e = send_tears_line m.image left m.cache line within through (failed_send through (line_at m.image line) (cell_at m.cache line)) refl e
-move_tears_line_at (Leak mask) line m through left normal within e = leak_tears_line m.image left m.cache line mask within through (failed_leak mask through (line_at m.image line) (cell_at m.cache line)) refl e
+move_tears_line_at (Leak mask) line m through left normal within e = leak_tears_line m.image left m.cache line mask within through
+    (failed_leak mask through (line_at m.image line) (cell_at m.cache line)) refl e
 move_tears_line_at (Fetch mask) line m through left normal within e = fetch_tears_line m.image left m.cache line normal within (cell_at m.cache line) e
 
-pub move_tears_line : (move : Move) (line : ℕ) (m : Machine) (through : ℕ) (left : Image) → map eight m.image ≡ m.image → line < length m.image → move_failed move line through m ≡ Some left → TearsLine m.image left m.cache
+pub move_tears_line : (move : Move) (line : ℕ) (m : Machine) (through : ℕ) (left : Image) → map eight m.image ≡ m.image → line < length m.image
+    → move_failed move line through m ≡ Some left → TearsLine m.image left m.cache
 move_tears_line move line m through left normal within e = (line, move_tears_line_at move line m through left normal within e)

@@ -126,7 +126,8 @@ module _ (c : Scene) where
   -- the task goes on from place to place by these operations
   pub data Along : List Op → Phase → Phase → Type 0 where
     stays : {q : Phase} → Along [] q q
-    steps : {op : Op} {more : List Op} {q after end : Phase} → op_of (writing q) ≡ op → ((word : ℕ) → turn_given (writing q) word ≡ Goes (writing after)) → Along more after end → Along (op ∷ more) q end
+    steps : {op : Op} {more : List Op} {q after end : Phase} → op_of (writing q) ≡ op
+        → ((word : ℕ) → turn_given (writing q) word ≡ Goes (writing after)) → Along more after end → Along (op ∷ more) q end
 
   -- and by others behind them
   along_on : {xs ys : List Op} {a b d : Phase} → Along xs a b → Along ys b d → Along (xs ++ ys) a d
@@ -173,7 +174,9 @@ module _ (c : Scene) where
       along_on (subst (λ (q : Phase). Along (slot_line_ops j) (at.StoreSlot j 0) q) (ap (λ (b : Bool). if b then at.StoreSlot (j + 1) 0 else at.FenceSlot) last) (along_line j)) stays
   along_slot_from (suc count) j is =
       let more : nat_lt (j + 1) (geometry c.params).lines ≡ true = grind (arith, nat_tests, is) in
-      along_on (subst (λ (q : Phase). Along (slot_line_ops j) (at.StoreSlot j 0) q) (ap (λ (b : Bool). if b then at.StoreSlot (j + 1) 0 else at.FenceSlot) more) (along_line j)) (along_slot_from count (j + 1) (omega (arith, is)))
+      along_on (subst (λ (q : Phase). Along (slot_line_ops j) (at.StoreSlot j 0) q)
+      (ap (λ (b : Bool). if b then at.StoreSlot (j + 1) 0 else at.FenceSlot) more) (along_line j))
+      (along_slot_from count (j + 1) (omega (arith, is)))
 
   -- and all of them
   along_slot : Along (writes_slot c) (at.StoreSlot 0 0) at.FenceSlot
@@ -201,10 +204,13 @@ module _ (c : Scene) where
       along_on (subst (λ (q : Phase). Along (data_line_ops j) (at.StoreData j 0) q) (ap (λ (b : Bool). if b then at.StoreData (j + 1) 0 else at.StoreSlot 0 0) last) (along_data_line j)) stays
   along_lines (suc count) j is =
       let more : nat_lt (j + 1) (lines_of c.entry.size) ≡ true = grind (arith, nat_tests, is) in
-      along_on (subst (λ (q : Phase). Along (data_line_ops j) (at.StoreData j 0) q) (ap (λ (b : Bool). if b then at.StoreData (j + 1) 0 else at.StoreSlot 0 0) more) (along_data_line j)) (along_lines count (j + 1) (omega (arith, is)))
+      along_on (subst (λ (q : Phase). Along (data_line_ops j) (at.StoreData j 0) q)
+      (ap (λ (b : Bool). if b then at.StoreData (j + 1) 0 else at.StoreSlot 0 0) more) (along_data_line j))
+      (along_lines count (j + 1) (omega (arith, is)))
 
   -- a file of no bytes has none
-  along_data_by : (size count : ℕ) (b : Bool) → (size == 0) ≡ b → c.entry.size ≡ size → lines_of c.entry.size ≡ count → Along (flat_map data_line_ops (range_with_len 0 count)) (if b then at.StoreSlot 0 0 else at.StoreData 0 0) (at.StoreSlot 0 0)
+  along_data_by : (size count : ℕ) (b : Bool) → (size == 0) ≡ b → c.entry.size ≡ size → lines_of c.entry.size ≡ count
+      → Along (flat_map data_line_ops (range_with_len 0 count)) (if b then at.StoreSlot 0 0 else at.StoreData 0 0) (at.StoreSlot 0 0)
   along_data_by size zero true none is lines = stays
   along_data_by size zero false none is lines = absurd (let some : 0 < size = grind (arith, nat_tests) in omega (arith, is, lines))
   along_data_by size (suc count) true none is lines = absurd (let nothing : size ≡ 0 = grind (arith, nat_tests) in omega (arith, is, lines))
@@ -346,9 +352,15 @@ module _ (c : Scene) where
 
     -- it decides
     decides : (cmd : Cmd) (w : Wish) (word : ℕ) → wish_of cmd ≡ Some w → turn_given (reading_task cmd) word ≡ append_turn (reading_task cmd) (decide_wish c.params c.params.master c.entries w)
-    decides (Mkdir path attr) w word is = ap (λ (w : Wish). append_turn (reading_task (Mkdir path attr)) (decide_wish c.params c.params.master c.entries w)) (let some : wish_of (Mkdir path attr) ≡ Some w = is in cc)
-    decides (Creat path size attr stripe fill) w word is = ap (λ (w : Wish). append_turn (reading_task (Creat path size attr stripe fill)) (decide_wish c.params c.params.master c.entries w)) (let some : wish_of (Creat path size attr stripe fill) ≡ Some w = is in cc)
-    decides (Cp path attr stripe bytes) w word is = ap (λ (w : Wish). append_turn (reading_task (Cp path attr stripe bytes)) (decide_wish c.params c.params.master c.entries w)) (let some : wish_of (Cp path attr stripe bytes) ≡ Some w = is in cc)
+    decides (Mkdir path attr) w word is =
+        ap (λ (w : Wish). append_turn (reading_task (Mkdir path attr)) (decide_wish c.params c.params.master c.entries w))
+        (let some : wish_of (Mkdir path attr) ≡ Some w = is in cc)
+    decides (Creat path size attr stripe fill) w word is =
+        ap (λ (w : Wish). append_turn (reading_task (Creat path size attr stripe fill)) (decide_wish c.params c.params.master c.entries w))
+        (let some : wish_of (Creat path size attr stripe fill) ≡ Some w = is in cc)
+    decides (Cp path attr stripe bytes) w word is =
+        ap (λ (w : Wish). append_turn (reading_task (Cp path attr stripe bytes)) (decide_wish c.params c.params.master c.entries w))
+        (let some : wish_of (Cp path attr stripe bytes) ≡ Some w = is in cc)
     decides other w word is = absurd (cc)
 
     -- for the new entry
@@ -356,7 +368,10 @@ module _ (c : Scene) where
     decides_entry = let wish = has_wish (wish_of c.cmd) refl in decides c.cmd wish.0 0 wish.1 ∙ ap (append_turn (reading_task c.cmd)) wish.2
 
     -- a step of the master's task
-    steps_on : (r : Run) (o : Option Run) (settled : ℕ) (all : List File) (turn : Turn) (word : ℕ) (s s' : SharedState) → turn_given r.task word ≡ turn → run_after turn settled r ≡ o → kept_after turn r.task None ≡ None → Invariant (Known c.params all settled) (length c.image) (with_run (Some r)) s → Operates (op_of r.task) c.master s s' word → Invariant (turn_settles turn (Known c.params all settled)) (length c.image) (with_run o) s'
+    steps_on : (r : Run) (o : Option Run) (settled : ℕ) (all : List File) (turn : Turn) (word : ℕ) (s s' : SharedState)
+        → turn_given r.task word ≡ turn → run_after turn settled r ≡ o → kept_after turn r.task None ≡ None
+        → Invariant (Known c.params all settled) (length c.image) (with_run (Some r)) s → Operates (op_of r.task) c.master s s' word
+        → Invariant (turn_settles turn (Known c.params all settled)) (length c.image) (with_run o) s'
     steps_on r o settled all turn word s s' is after keeps invariant operates =
         let steps : Steps c.master word (Known c.params all settled) r (with_run (Some r)) (with_run o) s s' = record {
           is = rw (eq-eqb c.master c.master refl) refl;
@@ -367,28 +382,36 @@ module _ (c : Scene) where
           keeps = sym keeps ∙ ap (λ (x : Turn). kept_after x r.task None) (sym is);
           kept = λ h ne. refl;
         } in
-        let holds : StepHolds (Known c.params all settled) (length c.image) word r (with_run (Some r)) (with_run o) s' = invariant_stepped (length c.image) c.master word (Known c.params all settled) r (with_run (Some r)) (with_run o) s s' invariant steps in
+        let holds : StepHolds (Known c.params all settled) (length c.image) word r (with_run (Some r)) (with_run o) s' =
+        invariant_stepped (length c.image) c.master word (Known c.params all settled) r (with_run (Some r)) (with_run o) s s' invariant steps in
         subst (λ (t : Turn). Invariant (turn_settles t (Known c.params all settled)) (length c.image) (with_run o) s') is holds.invariant
 
     -- and names the entry
     pub invariant_named : Invariant (Known c.params (history c) (next c)) (length c.image) (with_run (Some (run_at (first_store c.entry.size)))) (solo c.image)
-    invariant_named = steps_on deciding (Some (run_at (first_store c.entry.size))) (next c) (old_history c) (Writes (next c) c.entry (writing (first_store c.entry.size))) 0 (solo c.image) (solo c.image) decides_entry refl refl invariant_deciding refl
+    invariant_named = steps_on deciding (Some (run_at (first_store c.entry.size))) (next c) (old_history c)
+        (Writes (next c) c.entry (writing (first_store c.entry.size))) 0 (solo c.image) (solo c.image) decides_entry refl refl invariant_deciding refl
 
     -- the task goes on to its answer
-    pub invariant_answers : {ops : List Op} {q : Phase} {words : List ℕ} {s s' : SharedState} → Answers ops q → RanSteps (all_by c.master ops) words s s' → Invariant (Known c.params (history c) (next c)) (length c.image) (with_run (Some (run_at q))) s
+    pub invariant_answers : {ops : List Op} {q : Phase} {words : List ℕ} {s s' : SharedState} → Answers ops q
+        → RanSteps (all_by c.master ops) words s s' → Invariant (Known c.params (history c) (next c)) (length c.image) (with_run (Some (run_at q))) s
         → Invariant (Known c.params (history c) (settled_after (Ends (Appended (next c))) (next c))) (length c.image) (with_run None) s'
     invariant_answers {s = s} (last {q = q} is on) (goes {s' = s1} word operates ends) invariant =
         steps_on (run_at q) None (next c) (history c) (Ends (Appended (next c))) word s s1 (on word) refl refl invariant (subst (λ (op : Op). Operates op c.master s s1 word) (sym is) operates)
     invariant_answers {s = s} (first {q = q} {after = after} is on rest) (goes {s' = s1} word operates more) invariant =
         invariant_answers rest more
-        (steps_on (run_at q) (Some (run_at after)) (next c) (history c) (Goes (writing after)) word s s1 (on word) refl refl invariant (subst (λ (op : Op). Operates op c.master s s1 word) (sym is) operates))
+        (steps_on (run_at q) (Some (run_at after)) (next c) (history c) (Goes (writing after)) word s s1 (on word) refl refl invariant
+        (subst (λ (op : Op). Operates op c.master s s1 word) (sym is) operates))
 
     -- the reader drops lines
-    pub invariant_drops : (ops : List Op) {words : List ℕ} {s s' : SharedState} (settled : ℕ) (all : List File) (r : Option Run) → AreDrops ops → RanSteps (all_by c.reader ops) words s s' → Invariant (Known c.params all settled) (length c.image) (with_run r) s → Invariant (Known c.params all settled) (length c.image) (with_run r) s'
+    pub invariant_drops : (ops : List Op) {words : List ℕ} {s s' : SharedState} (settled : ℕ) (all : List File) (r : Option Run) → AreDrops ops
+        → RanSteps (all_by c.reader ops) words s s' → Invariant (Known c.params all settled) (length c.image) (with_run r) s
+        → Invariant (Known c.params all settled) (length c.image) (with_run r) s'
     invariant_drops [] settled all r are ends invariant = invariant
     invariant_drops (Invalidate l ∷ ops) {s = s} settled all r are (goes {s' = s1} word operates more) invariant =
         invariant_drops ops settled all r are more
-        (invariant_transferred (length c.image) (with_run r) c.reader l.0 s s1 (transfers_at c.reader l.0 s s1 _ Absent operates (absent_transfers (s.memory l.0) (s.copy c.reader l.0))) (λ none. absurd (let is = reader_is in cc)) (Known c.params all settled) invariant)
+        (invariant_transferred (length c.image) (with_run r) c.reader l.0 s s1
+        (transfers_at c.reader l.0 s s1 _ Absent operates (absent_transfers (s.memory l.0) (s.copy c.reader l.0)))
+        (λ none. absurd (let is = reader_is in cc)) (Known c.params all settled) invariant)
     invariant_drops (Load l k ∷ ops) settled all r are ran invariant = absurd are
     invariant_drops (Store l k value ∷ ops) settled all r are ran invariant = absurd are
     invariant_drops (WriteBack l ∷ ops) settled all r are ran invariant = absurd are
@@ -396,7 +419,11 @@ module _ (c : Scene) where
     invariant_drops (Digest ∷ ops) settled all r are ran invariant = absurd are
 
     -- its cache moves by itself
-    pub invariant_fetches : (lines : List ℕ) {words : List ℕ} {s s' : SharedState} (settled : ℕ) (all : List File) (r : Option Run) → RanSteps (fetches c.reader lines) words s s' → Invariant (Known c.params all settled) (length c.image) (with_run r) s → Invariant (Known c.params all settled) (length c.image) (with_run r) s'
+    pub invariant_fetches : (lines : List ℕ) {words : List ℕ} {s s' : SharedState} (settled : ℕ) (all : List File) (r : Option Run)
+        → RanSteps (fetches c.reader lines) words s s' → Invariant (Known c.params all settled) (length c.image) (with_run r) s
+        → Invariant (Known c.params all settled) (length c.image) (with_run r) s'
     invariant_fetches [] settled all r ends invariant = invariant
     invariant_fetches (l ∷ lines) {s = s} settled all r (moves {s' = s1} transfer more) invariant =
-        invariant_fetches lines settled all r more (invariant_transferred (length c.image) (with_run r) c.reader l s s1 transfer (λ none. absurd (let is = reader_is in cc)) (Known c.params all settled) invariant)
+        invariant_fetches lines settled all r more
+        (invariant_transferred (length c.image) (with_run r) c.reader l s s1 transfer (λ none. absurd (let is = reader_is in cc))
+        (Known c.params all settled) invariant)

@@ -55,7 +55,8 @@ sent_once h l s =
     record { words = done.memory_is; cell = done.copy_is }
 
 -- a line that is sent stays sent
-stays_sent : (h l : ℕ) (words : List ℕ) (cell : Cell) (lines : List ℕ) (s : SharedState) → sent words cell ≡ words → cleaned cell ≡ cell → Has s h l words cell → Has (sent_all h lines s) h l words cell
+stays_sent : (h l : ℕ) (words : List ℕ) (cell : Cell) (lines : List ℕ) (s : SharedState) → sent words cell ≡ words → cleaned cell ≡ cell
+    → Has s h l words cell → Has (sent_all h lines s) h l words cell
 unfolding sent_all
 stays_sent h l words cell [] s still clean has = has
 stays_sent h l words cell (x ∷ lines) s still clean has =
@@ -77,7 +78,8 @@ sent_there h l (x ∷ lines) s among =
     elim (same l x) [
       | inl e ↦
           let once : SentAt h l s (sent_line h x s) = subst (λ (k : ℕ). SentAt h l s (sent_line h k s)) e (sent_once h l s) in
-          let stays = stays_sent h l (sent (s.memory l) (s.copy h l)) (cleaned (s.copy h l)) lines (sent_line h x s) (sent_twice (s.memory l) (s.copy h l)) (cleaned_twice (s.copy h l)) record { words = once.words; cell = once.cell } in
+          let stays = stays_sent h l (sent (s.memory l) (s.copy h l)) (cleaned (s.copy h l)) lines (sent_line h x s)
+          (sent_twice (s.memory l) (s.copy h l)) (cleaned_twice (s.copy h l)) record { words = once.words; cell = once.cell } in
           record { words = stays.words; cell = stays.cell }
       | inr ne ↦
           let done = leaves s h x (sent (s.memory x) (s.copy h x)) (cleaned (s.copy h x)) in

@@ -31,7 +31,8 @@ module _ (p : Params) (n : ℕ) where
     pub copies : (k l : ℕ) → ((j : ℕ) → from ≤ j → j < from + count → l ≢ slot_line p n j) → after.copy k l ≡ s.copy k l
     pub hosts : (k l : ℕ) → k ≢ h → after.copy k l ≡ s.copy k l
 
-  pub at_all : (h : ℕ) (steps : ℕ → List Step) (x : ℕ → Here) (from count : ℕ) (s : SharedState) → ((j : ℕ) → are_here (steps j) ≡ true) → ((j : ℕ) → from ≤ j → j < from + count → Shows s h (slot_line p n j) (x j)) → DidAll h steps x from count s
+  pub at_all : (h : ℕ) (steps : ℕ → List Step) (x : ℕ → Here) (from count : ℕ) (s : SharedState) → ((j : ℕ) → are_here (steps j) ≡ true)
+      → ((j : ℕ) → from ≤ j → j < from + count → Shows s h (slot_line p n j) (x j)) → DidAll h steps x from count s
   at_all h steps x from zero s are shows =
       record { after = s; ran = ends; inside = λ j low high. absurd (omega (arith, low, high)); memory = λ l out. refl; copies = λ k l out. refl; hosts = λ k l ne. refl }
   at_all h steps x from (suc count) s are shows =
@@ -47,7 +48,12 @@ module _ (p : Params) (n : ℕ) where
         inside = λ j low high. elim (same j from) [
           | inl e ↦
               let out : (k : ℕ) → from + 1 ≤ k → k < from + 1 + count → slot_line p n from ≢ slot_line p n k = λ k above below e. omega (arith, e, above) in
-              let is : Shows rest.after h (slot_line p n from) (left_all (steps from) (x from)) = record { words = rest.memory (slot_line p n from) out ∙ first.shows.words; cell = rest.copies h (slot_line p n from) out ∙ first.shows.cell } in
+              let is : Shows rest.after h (slot_line p n from) (left_all (steps from) (x from)) =
+              record {
+                words = rest.memory (slot_line p n from) out ∙ first.shows.words;
+                cell = rest.copies h (slot_line p n from) out
+                    ∙ first.shows.cell;
+              } in
               subst (λ (i : ℕ). Shows rest.after h (slot_line p n i) (left_all (steps i) (x i))) (sym e) is
           | inr ne ↦ rest.inside j (omega (arith, low, ne)) (omega (arith, high))
         ];
@@ -220,7 +226,8 @@ module _ (p : Params) (n : ℕ) where
   pub all_away : (f : ℕ → List Op) (from count : ℕ) → ((j : ℕ) → from ≤ j → j < from + count → AreAway (f j)) → AreAway (flat_map f (range_with_len from count))
   all_away f from zero are = tt
   all_away f from (suc count) are =
-      both_away (f from) (flat_map f (range_with_len (from + 1) count)) (are from (omega arith) (omega arith)) (all_away f (from + 1) count (λ j low high. are j (omega (arith, low)) (omega (arith, high))))
+      both_away (f from) (flat_map f (range_with_len (from + 1) count)) (are from (omega arith) (omega arith))
+      (all_away f (from + 1) count (λ j low high. are j (omega (arith, low)) (omega (arith, high))))
 
   chosen_away : (b : Bool) (op : Op) (rest : List Op) → IsAway op → AreAway rest → AreAway (cond b (op ∷ rest) rest)
   chosen_away true op rest is are = (is, are)
@@ -249,7 +256,8 @@ module _ (p : Params) (n : ℕ) where
   pub all_elsewhere : (f : ℕ → List Op) (from count : ℕ) → ((j : ℕ) → from ≤ j → j < from + count → AreElsewhere (f j)) → AreElsewhere (flat_map f (range_with_len from count))
   all_elsewhere f from zero are = tt
   all_elsewhere f from (suc count) are =
-      both_elsewhere (f from) (flat_map f (range_with_len (from + 1) count)) (are from (omega arith) (omega arith)) (all_elsewhere f (from + 1) count (λ j low high. are j (omega (arith, low)) (omega (arith, high))))
+      both_elsewhere (f from) (flat_map f (range_with_len (from + 1) count)) (are from (omega arith) (omega arith))
+      (all_elsewhere f (from + 1) count (λ j low high. are j (omega (arith, low)) (omega (arith, high))))
 
   module _ (host : Who → ℕ) (two : host Master ≢ host Reader) where
     -- the steps of a phase, where a slot has so many lines
@@ -285,7 +293,9 @@ module _ (p : Params) (n : ℕ) where
         slot_words (Slot j) there = (did.inside j (omega arith) (omega (arith, there))).words
         slot_words Gate there = did.memory gate_line (λ j low high. not_slot j) ∙ shown.words Gate there
 
-      slot_cells : (h k : Who) (steps : ℕ → List Step) (w : Which) (did : DidAll p n (host h) steps (λ j. shared_by v h (Slot j)) 0 (geometry p).lines s) → IsThere p w → did.after.copy (host k) (line w) ≡ (then (AtSlot h steps) v).cell k w
+      slot_cells : (h k : Who) (steps : ℕ → List Step) (w : Which)
+          (did : DidAll p n (host h) steps (λ j. shared_by v h (Slot j)) 0 (geometry p).lines s) → IsThere p w
+          → did.after.copy (host k) (line w) ≡ (then (AtSlot h steps) v).cell k w
       slot_cells Master Master steps (Slot j) did there = (did.inside j (omega arith) (omega (arith, there))).cell
       slot_cells Reader Reader steps (Slot j) did there = (did.inside j (omega arith) (omega (arith, there))).cell
       slot_cells Master Reader steps (Slot j) did there = did.hosts (host Reader) (slot_line p n j) (λ e. two (sym e)) ∙ shown.cell Reader (Slot j) there
@@ -295,14 +305,25 @@ module _ (p : Params) (n : ℕ) where
       pass_slot : (h : Who) (steps : ℕ → List Step) → ((j : ℕ) → are_here (steps j) ≡ true) → Passed (AtSlot h steps) s v
       pass_slot h steps are =
           let did = at_all p n (host h) steps (λ j. shared_by v h (Slot j)) 0 (geometry p).lines s are (λ j low high. here_shown h (Slot j) (omega (arith, high))) in
-          record { after = did.after; ran = did.ran; shown = record { words = slot_words h steps did; cell = λ k w there. slot_cells h k steps w did there; unasked = λ k l apart asked. shown.unasked k l apart (subst IsAsked (did.copies (host k) l (λ j low high e. apart (Slot j) (omega (arith, high)) (sym e))) asked) } }
+          record {
+            after = did.after;
+            ran = did.ran;
+            shown =
+                record {
+                  words = slot_words h steps did;
+                  cell = λ k w there. slot_cells h k steps w did there;
+                  unasked = λ k l apart asked.
+                      shown.unasked k l apart (subst IsAsked (did.copies (host k) l (λ j low high e. apart (Slot j) (omega (arith, high)) (sym e))) asked);
+                };
+          }
 
       -- at the gate
       gate_words : (h : Who) (steps : List Step) (did : Did (host h) gate_line steps (shared_by v h Gate) s) (w : Which) → IsThere p w → did.after.memory (line w) ≡ (then (AtGate h steps) v).words w
       gate_words h steps did (Slot j) there = did.only.memory (slot_line p n j) (λ e. not_slot j (sym e)) ∙ shown.words (Slot j) there
       gate_words h steps did Gate there = did.shows.words
 
-      gate_cells : (h k : Who) (steps : List Step) (did : Did (host h) gate_line steps (shared_by v h Gate) s) (w : Which) → IsThere p w → did.after.copy (host k) (line w) ≡ (then (AtGate h steps) v).cell k w
+      gate_cells : (h k : Who) (steps : List Step) (did : Did (host h) gate_line steps (shared_by v h Gate) s) (w : Which) → IsThere p w
+          → did.after.copy (host k) (line w) ≡ (then (AtGate h steps) v).cell k w
       gate_cells h k steps did (Slot j) there = did.only.lines (host k) (slot_line p n j) (λ e. not_slot j (sym e)) ∙ shown.cell k (Slot j) there
       gate_cells Master Master steps did Gate there = did.shows.cell
       gate_cells Reader Reader steps did Gate there = did.shows.cell
@@ -312,10 +333,21 @@ module _ (p : Params) (n : ℕ) where
       pass_gate : (h : Who) (steps : List Step) → are_here steps ≡ true → Passed (AtGate h steps) s v
       pass_gate h steps are =
           let did = at_one (host h) gate_line steps (shared_by v h Gate) s (here_shown h Gate tt) are in
-          record { after = did.after; ran = did.ran; shown = record { words = gate_words h steps did; cell = λ k w there. gate_cells h k steps did w there; unasked = λ k l apart asked. shown.unasked k l apart (subst IsAsked (did.only.lines (host k) l (λ e. apart Gate tt (sym e))) asked) } }
+          record {
+            after = did.after;
+            ran = did.ran;
+            shown =
+                record {
+                  words = gate_words h steps did;
+                  cell = λ k w there. gate_cells h k steps did w there;
+                  unasked = λ k l apart asked.
+                      shown.unasked k l apart (subst IsAsked (did.only.lines (host k) l (λ e. apart Gate tt (sym e))) asked);
+                };
+          }
 
     -- elsewhere
-    elsewhere_shown : (h : Who) (l : ℕ) (s s' : SharedState) (v : View) → Shown s v → ChangesOnly (host h) l s s' → IsApart l → (IsAsked (s'.copy (host h) l) → IsAsked (s.copy (host h) l)) → Shown s' v
+    elsewhere_shown : (h : Who) (l : ℕ) (s s' : SharedState) (v : View) → Shown s v → ChangesOnly (host h) l s s' → IsApart l
+        → (IsAsked (s'.copy (host h) l) → IsAsked (s.copy (host h) l)) → Shown s' v
     elsewhere_shown h l s s' v shown only apart unasked = record {
       words = λ w there. only.memory (line w) (apart w there) ∙ shown.words w there;
       cell = λ k w there. only.lines (host k) (line w) (apart w there) ∙ shown.cell k w there;
@@ -355,7 +387,8 @@ module _ (p : Params) (n : ℕ) where
         record {
           next = done.next;
           ran = goes 0 done.operates ends;
-          shown = elsewhere_shown h l.0 s done.next v shown done.only apart (λ asked. absurd (never (made_by (Store l k value) x).cell (done.next.copy (host h) l.0) done.shows.cell (λ is. false≢true is) asked));
+          shown = elsewhere_shown h l.0 s done.next v shown done.only apart
+              (λ asked. absurd (never (made_by (Store l k value) x).cell (done.next.copy (host h) l.0) done.shows.cell (λ is. false≢true is) asked));
         }
     pass_op h (WriteBack l) s v shown apart = absurd apart
     pass_op h Fence s v shown apart = absurd apart

@@ -43,17 +43,21 @@ split_at host [] ys zs = refl
 split_at host (x ∷ xs) ys zs = ap (λ (steps : List Step). all_by host (x ∷ []) ++ steps) (split_at host xs ys zs)
 
 -- a range in two parts
-flat_split : (f : ℕ → List Op) (from n m total start : ℕ) → n + m ≡ total → from + n ≡ start → flat_map f (range_with_len from total) ≡ flat_map f (range_with_len from n) ++ flat_map f (range_with_len start m)
+flat_split : (f : ℕ → List Op) (from n m total start : ℕ) → n + m ≡ total → from + n ≡ start
+    → flat_map f (range_with_len from total) ≡ flat_map f (range_with_len from n) ++ flat_map f (range_with_len start m)
 flat_split f from zero m total start whole at =
     ap (λ (k : ℕ). flat_map f (range_with_len from k)) (omega (arith, whole)) ∙ ap (λ (k : ℕ). flat_map f (range_with_len k m)) (omega (arith, at))
 flat_split f from (suc n) m zero start whole at = absurd (omega (arith, whole))
 flat_split f from (suc n) m (suc total) start whole at =
-    ap (λ (ops : List Op). f from ++ ops) (flat_split f (from + 1) n m total start (omega (arith, whole)) (omega (arith, at))) ∙ sym (append_assoc (f from) (flat_map f (range_with_len (from + 1) n)) (flat_map f (range_with_len start m)))
+    ap (λ (ops : List Op). f from ++ ops) (flat_split f (from + 1) n m total start (omega (arith, whole)) (omega (arith, at)))
+    ∙ sym (append_assoc (f from) (flat_map f (range_with_len (from + 1) n)) (flat_map f (range_with_len start m)))
 
 -- a line after each of its words was stored
 abbrev stored_all : List ℕ → List ℕ → List ℕ
 stored_all new old =
-    slice_set (slice_set (slice_set (slice_set (slice_set (slice_set (slice_set (slice_set old 0 (slice_index new 0)) 1 (slice_index new 1)) 2 (slice_index new 2)) 3 (slice_index new 3)) 4 (slice_index new 4)) 5 (slice_index new 5)) 6 (slice_index new 6)) 7 (slice_index new 7)
+    slice_set (slice_set (slice_set
+    (slice_set (slice_set (slice_set (slice_set (slice_set old 0 (slice_index new 0)) 1 (slice_index new 1)) 2 (slice_index new 2)) 3
+    (slice_index new 3)) 4 (slice_index new 4)) 5 (slice_index new 5)) 6 (slice_index new 6)) 7 (slice_index new 7)
 
 -- What the steps are.
 
@@ -115,8 +119,16 @@ module _ (c : Scene) where
   module _ (begins : Begins c) where
     -- the file's lines are apart from the slot's and the gate's
     file_apart : (j : ℕ) → j < lines_of c.entry.size → IsApart c.params (next c) (file_line c.entry j)
-    file_apart j below (Slot k) there e = absurd (slot_no_file c.params (next c) c.entry (file_line c.entry j) (sound c begins) (may c begins).left (may c begins).proper (k, there, sym e) (j, omega (arith, below), refl))
-    file_apart j below Gate there e = absurd (omega (arith, e, line_behind c.params (next c) c.entry (file_line c.entry j) (sound c begins) (may c begins).left (may c begins).proper (inr (j, omega (arith, below), refl))))
+    file_apart j below (Slot k) there e =
+        absurd (slot_no_file c.params (next c) c.entry (file_line c.entry j) (sound c begins) (may c begins).left (may c begins).proper
+        (k, there, sym e) (j, omega (arith, below), refl))
+    file_apart j below Gate there e =
+        absurd (omega (
+          arith,
+          e,
+          line_behind c.params (next c) c.entry (file_line c.entry j) (sound c begins) (may c begins).left
+              (may c begins).proper (inr (j, omega (arith, below), refl)),
+        ))
 
     -- a line of the file is stored and sent
     abbrev data_line : ℕ → List Op
@@ -141,9 +153,11 @@ module _ (c : Scene) where
     Goes phases s v = PassedAll c.params (next c) host two phases s v
 
     -- a run of them, with the words that they give
-    ran_as : (phases : List Phase) (s : SharedState) (v : View) (run : List Step) (words : List ℕ) (went : Goes phases s v) → steps_of_all c.params (next c) host two lines phases ≡ run → words_of_all lines phases v ≡ words → RanSteps run words s went.after
+    ran_as : (phases : List Phase) (s : SharedState) (v : View) (run : List Step) (words : List ℕ) (went : Goes phases s v)
+        → steps_of_all c.params (next c) host two lines phases ≡ run → words_of_all lines phases v ≡ words → RanSteps run words s went.after
     ran_as phases s v run words went steps given =
-        subst (λ (steps : List Step). RanSteps steps words s went.after) steps (subst (λ (words : List ℕ). RanSteps (steps_of_all c.params (next c) host two lines phases) words s went.after) given went.ran)
+        subst (λ (steps : List Step). RanSteps steps words s went.after) steps
+        (subst (λ (words : List ℕ). RanSteps (steps_of_all c.params (next c) host two lines phases) words s went.after) given went.ran)
 
     -- the new file, the last of the history
     abbrev file : File
@@ -164,10 +178,14 @@ module _ (c : Scene) where
     old_gate = sym (read c begins).count
 
     -- what the master put is published
-    published : (s : SharedState) → ((j : ℕ) → j < lines → s.memory (slot_line c.params (next c) j) ≡ stored_all (slot_part new_words j) (memory (slot_line c.params (next c) j))) → s.memory gate_line ≡ slice_set (memory gate_line) 0 (next c + 1) → IsPublished c s
+    published : (s : SharedState) →
+        ((j : ℕ) → j < lines → s.memory (slot_line c.params (next c) j) ≡ stored_all (slot_part new_words j) (memory (slot_line c.params (next c) j)))
+        → s.memory gate_line ≡ slice_set (memory gate_line) 0 (next c + 1) → IsPublished c s
     published s slot gate = record {
       gate = ap gate_of gate ∙ new_gate;
-      slot = ap (λ (words : List ℕ). entry_of c.params words (next c)) (slot_of_parts s.memory c.params (next c) new_words (spelling_count c.params c.entry (next c)) (λ j there. slot j there ∙ part_stored j there))
+      slot = ap (λ (words : List ℕ). entry_of c.params words (next c))
+          (slot_of_parts s.memory c.params (next c) new_words (spelling_count c.params c.entry (next c))
+          (λ j there. slot j there ∙ part_stored j there))
           ∙ spelling_read c.params c.entry (next c) (may c begins).proper;
     }
 
@@ -202,7 +220,9 @@ module _ (c : Scene) where
 
     slot_away : (i : ℕ) → i ≢ next c → AreAway c.params (next c) (reads_slot c i)
     slot_away i other =
-        both_away c.params (next c) (flat_map (λ j. load_ops (slot_line c.params i j) 8) (range_with_len 0 lines)) (Digest ∷ []) (all_away c.params (next c) (λ j. load_ops (slot_line c.params i j) 8) 0 lines (λ j low high. line_away i j other (omega (arith, high)))) (tt, tt)
+        both_away c.params (next c) (flat_map (λ j. load_ops (slot_line c.params i j) 8) (range_with_len 0 lines)) (Digest ∷ [])
+        (all_away c.params (next c) (λ j. load_ops (slot_line c.params i j) 8) 0 lines (λ j low high. line_away i j other (omega (arith, high))))
+        (tt, tt)
 
     kept_away : (i : ℕ) → i ≢ next c → AreAway c.params (next c) (without_drops (reads_slot c i))
     kept_away i other = some_away c.params (next c) (λ op. not (is_drop op)) (reads_slot c i) (slot_away i other)
@@ -233,24 +253,34 @@ module _ (c : Scene) where
     slots_split : (ops : ℕ → List Op) → at_slots ops (next c + 1) ≡ at_slots ops (next c) ++ (ops (next c) ++ [])
     slots_split ops = flat_split ops 0 (next c) 1 (next c + 1) (next c) (omega arith) (omega arith)
 
-    reads_by : (ops : ℕ → List Op) → all_by c.reader (reads_gate ++ at_slots ops (next c + 1)) ≡ all_by c.reader reads_gate ++ (all_by c.reader (at_slots ops (next c)) ++ all_by c.reader (ops (next c) ++ []))
+    reads_by : (ops : ℕ → List Op) → all_by c.reader (reads_gate ++ at_slots ops (next c + 1)) ≡ all_by c.reader reads_gate
+        ++ (all_by c.reader (at_slots ops (next c)) ++ all_by c.reader (ops (next c) ++ []))
     reads_by ops =
-        ap (λ (more : List Op). all_by c.reader (reads_gate ++ more)) (slots_split ops) ∙ ap (λ (more : List Step). all_by c.reader reads_gate ++ more) (map-append (Does c.reader) (at_slots ops (next c)) (ops (next c) ++ []))
+        ap (λ (more : List Op). all_by c.reader (reads_gate ++ more)) (slots_split ops)
+        ∙ ap (λ (more : List Step). all_by c.reader reads_gate ++ more) (map-append (Does c.reader) (at_slots ops (next c)) (ops (next c) ++ []))
 
-    read_slots : (ops : ℕ → List Op) (slot : ℕ → List Step) (s : SharedState) (v : View) → ((j : ℕ) → are_here (slot j) ≡ true) → Shown c.params (next c) host two s v → ((i : ℕ) → i ≢ next c → AreAway c.params (next c) (ops i)) → ((i : ℕ) → loads_in (ops i) ≡ (geometry c.params).words)
-        → steps_of_all c.params (next c) host two lines (AtSlot Reader slot ∷ think ∷ []) ≡ all_by c.reader (ops (next c) ++ []) → words_of_all lines (read_gate ∷ []) v ≡ (next c + 1) ∷ [] → words_of_all lines (AtSlot Reader slot ∷ think ∷ []) (then_all (read_gate ∷ []) v) ≡ slot_words memory c.params (next c) → HasRead ops slot s v
+    read_slots : (ops : ℕ → List Op) (slot : ℕ → List Step) (s : SharedState) (v : View) → ((j : ℕ) → are_here (slot j) ≡ true)
+        → Shown c.params (next c) host two s v → ((i : ℕ) → i ≢ next c → AreAway c.params (next c) (ops i))
+        → ((i : ℕ) → loads_in (ops i) ≡ (geometry c.params).words)
+        → steps_of_all c.params (next c) host two lines (AtSlot Reader slot ∷ think ∷ []) ≡ all_by c.reader (ops (next c) ++ [])
+        → words_of_all lines (read_gate ∷ []) v ≡ (next c + 1) ∷ []
+        → words_of_all lines (AtSlot Reader slot ∷ think ∷ []) (then_all (read_gate ∷ []) v) ≡ slot_words memory c.params (next c)
+        → HasRead ops slot s v
     read_slots ops slot s v here shown away loads steps gate words =
         let first : Goes (read_gate ∷ []) s v = pass_all c.params (next c) host two (read_gate ∷ []) s v shown (refl, tt) in
         let w = then_all (read_gate ∷ []) v in
         let before : Loaded c.params (next c) host two Reader (at_slots ops (next c)) first.after w =
-        load_away c.params (next c) host two Reader (at_slots ops (next c)) first.after w first.shown (all_away c.params (next c) ops 0 (next c) (λ i low high. away i (λ e. omega (arith, e, high)))) in
+        load_away c.params (next c) host two Reader (at_slots ops (next c)) first.after w first.shown
+        (all_away c.params (next c) ops 0 (next c) (λ i low high. away i (λ e. omega (arith, e, high)))) in
         let last : Goes (AtSlot Reader slot ∷ think ∷ []) before.after w = pass_all c.params (next c) host two (AtSlot Reader slot ∷ think ∷ []) before.after w before.shown (here, ((tt, tt), tt)) in
         let gate_ran : RanSteps (all_by c.reader reads_gate) ((next c + 1) ∷ []) s first.after = ran_as (read_gate ∷ []) s v (all_by c.reader reads_gate) _ first refl gate in
-        let last_ran : RanSteps (all_by c.reader (ops (next c) ++ [])) (slot_words memory c.params (next c)) before.after last.after = ran_as (AtSlot Reader slot ∷ think ∷ []) before.after w _ _ last steps words in
+        let last_ran : RanSteps (all_by c.reader (ops (next c) ++ [])) (slot_words memory c.params (next c)) before.after last.after =
+        ran_as (AtSlot Reader slot ∷ think ∷ []) before.after w _ _ last steps words in
         record {
           given = (next c + 1) ∷ (before.words ++ slot_words memory c.params (next c));
           after = last.after;
-          ran = subst (λ (steps : List Step). RanSteps steps ((next c + 1) ∷ (before.words ++ slot_words memory c.params (next c))) s last.after) (sym (reads_by ops)) (ran_on gate_ran (ran_on before.ran last_ran));
+          ran = subst (λ (steps : List Step). RanSteps steps ((next c + 1) ∷ (before.words ++ slot_words memory c.params (next c))) s last.after)
+              (sym (reads_by ops)) (ran_on gate_ran (ran_on before.ran last_ran));
           wrong = stale _ before.words refl (before.count ∙ loads_at ops (geometry c.params).words 0 (next c) loads);
           shown = last.shown;
         }
@@ -263,7 +293,9 @@ module _ (c : Scene) where
     -- the master's stores of the slot
     put_steps : steps_of c.params (next c) host two lines put_slot ≡ all_by c.master (writes_slot c)
     put_steps =
-        either (λ (g : Geometry). steps_of c.params (next c) host two g.lines put_slot ≡ all_by c.master (flat_map (λ j. store_ops (slot_line c.params (next c) j) (slot_part new_words j) ++ WriteBack (line_no (slot_line c.params (next c) j)) ∷ []) (range_with_len 0 g.lines))) refl refl c.params
+        either (λ (g : Geometry). steps_of c.params (next c) host two g.lines put_slot
+        ≡ all_by c.master (flat_map (λ j. store_ops (slot_line c.params (next c) j) (slot_part new_words j)
+        ++ WriteBack (line_no (slot_line c.params (next c) j)) ∷ []) (range_with_len 0 g.lines))) refl refl c.params
 
     -- and what it does behind them
     slot_then : (rest : List Op) → steps_of c.params (next c) host two lines put_slot ++ all_by c.master rest ≡ all_by c.master (writes_slot c ++ rest)
@@ -288,10 +320,12 @@ module _ (c : Scene) where
     abbrev named : Option Run
     named = Some (run_at c (first_store c.entry.size))
 
-    append_behind : (early : List Step) (s : SharedState) (v : View) → RanSteps early [] (solo c.image) s → Shown c.params (next c) host two s v → Invariant (Known c.params (history c) (next c)) (length c.image) (with_run c named) s → Answered early v
+    append_behind : (early : List Step) (s : SharedState) (v : View) → RanSteps early [] (solo c.image) s → Shown c.params (next c) host two s v
+        → Invariant (Known c.params (history c) (next c)) (length c.image) (with_run c named) s → Answered early v
     append_behind early s v ran shown invariant =
         let went : Goes put s v = pass_all c.params (next c) host two put s v shown (data_elsewhere, ((λ j. refl), (tt, (refl, (tt, tt))))) in
-        let appended : RanSteps (all_by c.master (appends c)) [] s went.after = ran_as put s v (all_by c.master (appends c)) [] went append_steps (ap (λ (words : List ℕ). words ++ []) (put_gives (then put_data v))) in
+        let appended : RanSteps (all_by c.master (appends c)) [] s went.after = ran_as put s v (all_by c.master (appends c)) [] went append_steps
+        (ap (λ (words : List ℕ). words ++ []) (put_gives (then put_data v))) in
         record {
           after = went.after;
           began = ran_on ran appended;
@@ -309,26 +343,30 @@ module _ (c : Scene) where
     kept_words : slot_words memory c.params (next c) ≡ words_of_all lines (load ∷ think ∷ []) (then_all (fetch ∷ put_data ∷ put_slot ∷ send ∷ put_gate ∷ send ∷ read_gate ∷ []) at_first)
     unfolding slot_words
     kept_words =
-        either (λ (g : Geometry). map (slot_word memory c.params (next c)) (range_with_len 0 g.words) ≡ words_of_all g.lines (load ∷ think ∷ []) (then_all (fetch ∷ put_data ∷ put_slot ∷ send ∷ put_gate ∷ send ∷ read_gate ∷ []) at_first)) refl refl c.params
+        either (λ (g : Geometry). map (slot_word memory c.params (next c)) (range_with_len 0 g.words) ≡ words_of_all g.lines (load ∷ think ∷ [])
+        (then_all (fetch ∷ put_data ∷ put_slot ∷ send ∷ put_gate ∷ send ∷ read_gate ∷ []) at_first)) refl refl c.params
 
     -- as many words are loaded as of a slot
     kept_loads : (i : ℕ) → loads_in (without_drops (reads_slot c i)) ≡ (geometry c.params).words
     kept_loads i = either (λ (g : Geometry). loads_in (without_drops (loaded_lines i g.lines ++ Digest ∷ [])) ≡ g.words) refl refl c.params
 
     kept_steps : steps_of_all c.params (next c) host two lines (load ∷ think ∷ []) ≡ all_by c.reader (without_drops (reads_slot c (next c)) ++ [])
-    kept_steps = either (λ (g : Geometry). steps_of_all c.params (next c) host two g.lines (load ∷ think ∷ []) ≡ all_by c.reader (without_drops (loaded_lines (next c) g.lines ++ Digest ∷ []) ++ [])) refl refl c.params
+    kept_steps = either (λ (g : Geometry). steps_of_all c.params (next c) host two g.lines (load ∷ think ∷ [])
+        ≡ all_by c.reader (without_drops (loaded_lines (next c) g.lines ++ Digest ∷ []) ++ [])) refl refl c.params
 
     gate_words : (next c + 1) ∷ [] ≡ words_of_all lines (read_gate ∷ []) (then_all (fetch ∷ put) at_first)
     gate_words = ap (λ (gate : ℕ). gate ∷ []) (sym new_gate)
 
     read_kept : (early : List Step) → Answered early (then_all (fetch ∷ []) at_first) → Misreads c (early ++ all_by c.master (appends c)) (keeps_slots c)
     read_kept early done =
-        let read = read_slots (λ i. without_drops (reads_slot c i)) (λ j. all_by 0 (map (λ k. Load (line_no 0) k) (range_with_len 0 8))) done.after (then_all (fetch ∷ put) at_first) (λ j. refl) done.shown kept_away kept_loads kept_steps (sym gate_words) (sym kept_words) in
+        let read = read_slots (λ i. without_drops (reads_slot c i)) (λ j. all_by 0 (map (λ k. Load (line_no 0) k) (range_with_len 0 8))) done.after
+        (then_all (fetch ∷ put) at_first) (λ j. refl) done.shown kept_away kept_loads kept_steps (sym gate_words) (sym kept_words) in
         record { middle = done.after; began = done.began; answered = done.answered; given = read.given; after = read.after; ran = read.ran; wrong = read.wrong }
 
     -- the early fetch
     fetch_steps : steps_of_all c.params (next c) host two lines (fetch ∷ []) ≡ fetches c.reader (slot_lines c)
-    fetch_steps = either (λ (g : Geometry). steps_of_all c.params (next c) host two g.lines (fetch ∷ []) ≡ fetches c.reader (map (λ j. slot_line c.params (next c) j) (range_with_len 0 g.lines))) refl refl c.params
+    fetch_steps = either (λ (g : Geometry). steps_of_all c.params (next c) host two g.lines (fetch ∷ [])
+        ≡ fetches c.reader (map (λ j. slot_line c.params (next c) j) (range_with_len 0 g.lines))) refl refl c.params
 
     fetch_gives : words_of_all lines (fetch ∷ []) at_first ≡ []
     fetch_gives = either (λ (g : Geometry). words_of_all g.lines (fetch ∷ []) at_first ≡ []) refl refl c.params
@@ -337,9 +375,11 @@ module _ (c : Scene) where
     pub no_drop : Misreads c (fetches_slot c) (keeps_slots c)
     no_drop =
         let first : Goes (fetch ∷ []) (solo c.image) at_first = pass_all c.params (next c) host two (fetch ∷ []) (solo c.image) at_first shown ((λ j. refl), tt) in
-        let ran : RanSteps (fetches c.reader (slot_lines c)) [] (solo c.image) first.after = ran_as (fetch ∷ []) (solo c.image) at_first (fetches c.reader (slot_lines c)) [] first fetch_steps fetch_gives in
+        let ran : RanSteps (fetches c.reader (slot_lines c)) [] (solo c.image) first.after = ran_as (fetch ∷ []) (solo c.image) at_first
+        (fetches c.reader (slot_lines c)) [] first fetch_steps fetch_gives in
         read_kept (fetches c.reader (slot_lines c))
-        (append_behind (fetches c.reader (slot_lines c)) first.after (then_all (fetch ∷ []) at_first) ran first.shown (invariant_fetches c begins (slot_lines c) (next c) (history c) named ran (invariant_named c begins)))
+        (append_behind (fetches c.reader (slot_lines c)) first.after (then_all (fetch ∷ []) at_first) ran first.shown
+        (invariant_fetches c begins (slot_lines c) (next c) (history c) named ran (invariant_named c begins)))
 
     -- a drop of what isn't there changes nothing
     module _ (s : SharedState) (dropped : Shown c.params (next c) host two s (then_all (drop ∷ []) at_first)) where
@@ -386,21 +426,33 @@ module _ (c : Scene) where
         ap (λ (here : List Step). all_by c.reader (at_slots dropped (next c)) ++ (here ++ (all_by c.reader later ++ []))) dropped_steps
         ∙ ap (λ (more : List Step). all_by c.reader (at_slots dropped (next c)) ++ (all_by c.reader (dropped (next c)) ++ more)) (append-nil (all_by c.reader later))
         ∙ ap (λ (more : List Step). all_by c.reader (at_slots dropped (next c)) ++ more) (sym (map-append (Does c.reader) (dropped (next c)) later))
-        ∙ sym (map-append (Does c.reader) (at_slots dropped (next c)) (dropped (next c) ++ later)) ∙ ap (λ (ops : List Op). all_by c.reader ops) (sym (flat_split dropped 0 (next c) (suc rest) c.params.slots (next c) rest_is (omega arith)))
+        ∙ sym (map-append (Does c.reader) (at_slots dropped (next c)) (dropped (next c) ++ later)) ∙ ap (λ (ops : List Op). all_by c.reader ops)
+        (sym (flat_split dropped 0 (next c) (suc rest) c.params.slots (next c) rest_is (omega arith)))
 
     -- they are dropped before
     pub early_drop : Misreads c (drops_early c) (keeps_slots c)
     early_drop =
         let first : Goes drop_all (solo c.image) at_first =
-        pass_all c.params (next c) host two drop_all (solo c.image) at_first shown
-        (all_elsewhere c.params (next c) dropped 0 (next c) (λ i low high. dropped_elsewhere i (λ e. omega (arith, e, high))), ((λ j. refl), (all_elsewhere c.params (next c) dropped (next c + 1) rest (λ i low high. dropped_elsewhere i (λ e. omega (arith, e, low))), tt))) in
+        pass_all c.params (next c) host two drop_all (solo c.image) at_first shown (
+          all_elsewhere c.params (next c) dropped 0 (next c) (λ i low high. dropped_elsewhere i (λ e. omega (arith, e, high))),
+          (
+            (λ j. refl),
+            (
+              all_elsewhere c.params (next c) dropped (next c + 1) rest (λ i low high. dropped_elsewhere i (λ e. omega (arith, e, low))),
+              tt,
+            ),
+          ),
+        ) in
         let early = all_by c.reader (at_slots dropped c.params.slots) in
         let gone : RanSteps early [] (solo c.image) first.after = ran_as drop_all (solo c.image) at_first early [] first drop_steps drop_gives in
         let second : Goes (fetch ∷ []) first.after at_first = pass_all c.params (next c) host two (fetch ∷ []) first.after at_first (still first.after first.shown) ((λ j. refl), tt) in
-        let ran : RanSteps (fetches c.reader (slot_lines c)) [] first.after second.after = ran_as (fetch ∷ []) first.after at_first (fetches c.reader (slot_lines c)) [] second fetch_steps fetch_gives in
+        let ran : RanSteps (fetches c.reader (slot_lines c)) [] first.after second.after = ran_as (fetch ∷ []) first.after at_first
+        (fetches c.reader (slot_lines c)) [] second fetch_steps fetch_gives in
         read_kept (early ++ fetches c.reader (slot_lines c))
         (append_behind (early ++ fetches c.reader (slot_lines c)) second.after (then_all (fetch ∷ []) at_first) (ran_on gone ran) second.shown
-        (invariant_fetches c begins (slot_lines c) (next c) (history c) named ran (invariant_drops c begins (at_slots dropped c.params.slots) (next c) (history c) named (all_drops dropped 0 c.params.slots are_drops) gone (invariant_named c begins))))
+        (invariant_fetches c begins (slot_lines c) (next c) (history c) named ran
+        (invariant_drops c begins (at_slots dropped c.params.slots) (next c) (history c) named (all_drops dropped 0 c.params.slots are_drops) gone
+        (invariant_named c begins))))
 
     -- The gate's line isn't dropped.
     pub no_gate_drop : Misses c (fetches_gate c) (keeps_gate c)
@@ -409,7 +461,8 @@ module _ (c : Scene) where
         let first : Goes fetch_gate (solo c.image) at_first = pass_all c.params (next c) host two fetch_gate (solo c.image) at_first shown (refl, tt) in
         let ran : RanSteps (fetches c.reader (gate_line ∷ [])) [] (solo c.image) first.after = first.ran in
         let done : Answered (fetches c.reader (gate_line ∷ [])) (then_all fetch_gate at_first) =
-        append_behind (fetches c.reader (gate_line ∷ [])) first.after (then_all fetch_gate at_first) ran first.shown (invariant_fetches c begins (gate_line ∷ []) (next c) (history c) named ran (invariant_named c begins)) in
+        append_behind (fetches c.reader (gate_line ∷ [])) first.after (then_all fetch_gate at_first) ran first.shown
+        (invariant_fetches c begins (gate_line ∷ []) (next c) (history c) named ran (invariant_named c begins)) in
         let keep_gate = AtGate Reader (all_by 0 (without_drops reads_gate)) ∷ [] in
         let v = then_all put (then_all fetch_gate at_first) in
         let went : Goes keep_gate done.after v = pass_all c.params (next c) host two keep_gate done.after v done.shown (refl, tt) in
@@ -431,13 +484,15 @@ module _ (c : Scene) where
     torn_words : slot_words memory c.params (next c) ≡ words_of_all lines (drop_load ∷ think ∷ []) (then_all (put_data ∷ put_slot ∷ move_gate ∷ read_gate ∷ []) at_first)
     unfolding slot_words
     torn_words =
-        either (λ (g : Geometry). map (slot_word memory c.params (next c)) (range_with_len 0 g.words) ≡ words_of_all g.lines (drop_load ∷ think ∷ []) (then_all (put_data ∷ put_slot ∷ move_gate ∷ read_gate ∷ []) at_first)) refl refl c.params
+        either (λ (g : Geometry). map (slot_word memory c.params (next c)) (range_with_len 0 g.words) ≡ words_of_all g.lines (drop_load ∷ think ∷ [])
+        (then_all (put_data ∷ put_slot ∷ move_gate ∷ read_gate ∷ []) at_first)) refl refl c.params
 
     torn_loads : (i : ℕ) → loads_in (reads_slot c i) ≡ (geometry c.params).words
     torn_loads i = either (λ (g : Geometry). loads_in (loaded_lines i g.lines ++ Digest ∷ []) ≡ g.words) refl refl c.params
 
     torn_steps : steps_of_all c.params (next c) host two lines (drop_load ∷ think ∷ []) ≡ all_by c.reader (reads_slot c (next c) ++ [])
-    torn_steps = either (λ (g : Geometry). steps_of_all c.params (next c) host two g.lines (drop_load ∷ think ∷ []) ≡ all_by c.reader ((loaded_lines (next c) g.lines ++ Digest ∷ []) ++ [])) refl refl c.params
+    torn_steps = either (λ (g : Geometry). steps_of_all c.params (next c) host two g.lines (drop_load ∷ think ∷ [])
+        ≡ all_by c.reader ((loaded_lines (next c) g.lines ++ Digest ∷ []) ++ [])) refl refl c.params
 
     torn_gate : (next c + 1) ∷ [] ≡ words_of_all lines (read_gate ∷ []) (then_all put_early at_first)
     torn_gate = ap (λ (gate : ℕ). gate ∷ []) (sym new_gate)

@@ -192,7 +192,8 @@ at_one h l (Does host op ∷ more) x s shows are =
     let rest = at_one h l more (made_by op x) first.next first.shows both.1 in
     record {
       after = rest.after;
-      ran = subst (λ (o : Option ℕ). RanSteps (Does h (at_line l op) ∷ map (placed h l) more) (with_first o (give_all more (made_by op x))) s rest.after) (given_there l op (word_by op x)) (goes (word_by op x) first.operates rest.ran);
+      ran = subst (λ (o : Option ℕ). RanSteps (Does h (at_line l op) ∷ map (placed h l) more) (with_first o (give_all more (made_by op x))) s
+          rest.after) (given_there l op (word_by op x)) (goes (word_by op x) first.operates rest.ran);
       only = changes_on h l s first.next rest.after first.only rest.only;
       shows = rest.shows;
     }

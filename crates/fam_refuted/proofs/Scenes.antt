@@ -105,7 +105,9 @@ module _ (image : Image) (p : Params) (i : ℕ) where
   unfolding slot_words
   slot_fits fits k =
       elim (cases_lt k (geometry p).words) [
-        | inl below ↦ subst (λ (n : ℕ). n < 2 ^ 64) (sym (get_or-map-range_with_len (slot_word (line_at image) p i) 0 (geometry p).words k k 0 below (omega arith))) (fits (slot_line p i (k / 8)) (k % 8))
+        | inl below ↦ subst (λ (n : ℕ). n < 2 ^ 64)
+            (sym (get_or-map-range_with_len (slot_word (line_at image) p i) 0 (geometry p).words k k 0 below (omega arith)))
+            (fits (slot_line p i (k / 8)) (k % 8))
         | inr past ↦ subst (λ (n : ℕ). n < 2 ^ 64) (sym (get_or_past (slot_words (line_at image) p i) k 0 (omega (arith, slot_long, past)))) (omega arith)
       ]
 
@@ -194,7 +196,14 @@ module _ (p : Params) (sound : SoundParams p) (master reader : ℕ) (hosts : mas
   command : IsCommand (Mkdir (97 ∷ []) attr)
   unfolding is_path
   command = record {
-    wish = λ w is. subst IsSoundWish (some_same is) (record { path = refl; size = omega arith; bare = λ k. refl; attr = record { mode = omega arith; uid = omega arith; gid = omega arith }; stripe = tt });
+    wish = λ w is. subst IsSoundWish (some_same is)
+        (record {
+          path = refl;
+          size = omega arith;
+          bare = λ k. refl;
+          attr = record { mode = omega arith; uid = omega arith; gid = omega arith };
+          stripe = tt;
+        });
     content = tt;
   }
     where
@@ -207,7 +216,9 @@ module _ (p : Params) (sound : SoundParams p) (master reader : ℕ) (hosts : mas
   no_kind_yet =
       let least : 8 ≤ (geometry p).lines = (shape p).lines in
       get_or-map-range_with_len (slot_word (line_at scene.image) p 0) 0 (geometry p).words 1 1 0 (omega (arith, least, (shape p).words)) refl
-      ∙ ap (λ (words : List ℕ). slice_index words 1) ((lines_formatted (zeros p) p enough_lines).others (slot_line p 0 0) (omega (arith, least)) (omega (arith, least)) (omega (arith, least)) (omega (arith, least)) (omega (arith, least)))
+      ∙ ap (λ (words : List ℕ). slice_index words 1)
+      ((lines_formatted (zeros p) p enough_lines).others (slot_line p 0 0) (omega (arith, least)) (omega (arith, least)) (omega (arith, least))
+      (omega (arith, least)) (omega (arith, least)))
       ∙ zero_word (div_ceil p.device line_bytes) (slot_line p 0 0)
 
   -- so it is a scene

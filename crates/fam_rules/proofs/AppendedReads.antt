@@ -50,7 +50,9 @@ module _ (p : Params) (seq : ℕ) (e : Entry) (bytes : List ℕ) (before after :
   unfolding slot_words
   earlier_slot i less =
       map_range_same (slot_word (line_at after) p i) (slot_word (line_at before) p i) 0 (geometry p).words (λ k from below.
-      ap (λ (words : List ℕ). slice_index words (k % 8)) (low_line (slot_line p i (k / 8)) (λ same. omega (arith, (shape p).lines)) (omega (arith, (shape p).words, piece_ends (geometry p).lines i seq less))))
+      ap (λ (words : List ℕ). slice_index words (k % 8))
+      (low_line (slot_line p i (k / 8)) (λ same. omega (arith, (shape p).lines))
+      (omega (arith, (shape p).words, piece_ends (geometry p).lines i seq less))))
 
   -- its own slot has its spelling
   own_slot : slot_words (line_at after) p seq ≡ spelling (geometry p) e seq
@@ -76,7 +78,8 @@ module _ (p : Params) (seq : ℕ) (e : Entry) (bytes : List ℕ) (before after :
   }
 
   -- an earlier entry stands in its slot
-  earlier_entry : (list : List Entry) (i : ℕ) (x : Entry) → length list ≡ seq → AreSlots (line_at before) p list → slice_get (list ++ e ∷ []) i ≡ Some x → i < length list → IsSlot (line_at after) p (take i (list ++ e ∷ [])) i x
+  earlier_entry : (list : List Entry) (i : ℕ) (x : Entry) → length list ≡ seq → AreSlots (line_at before) p list
+      → slice_get (list ++ e ∷ []) i ≡ Some x → i < length list → IsSlot (line_at after) p (take i (list ++ e ∷ [])) i x
   earlier_entry list i x count slots at below =
       let same : get_or list i x ≡ x = sym (get_or_append_left list (e ∷ []) x i below) ∙ get_or_from_slice_get (list ++ e ∷ []) i x x at in
       let slot : IsSlot (line_at before) p (take i list) i x = slots i x (slice_get-get_or list i x below ∙ ap Some same) in
@@ -84,7 +87,8 @@ module _ (p : Params) (seq : ℕ) (e : Entry) (bytes : List ℕ) (before after :
       (record { proper = slot.proper; words = earlier_slot i (omega arith) ∙ slot.words; joins = slot.joins })
 
   -- so does the new one
-  new_entry : (list : List Entry) (i : ℕ) (x : Entry) → length list ≡ seq → Joins p list e → slice_get (list ++ e ∷ []) i ≡ Some x → length list ≤ i → IsSlot (line_at after) p (take i (list ++ e ∷ [])) i x
+  new_entry : (list : List Entry) (i : ℕ) (x : Entry) → length list ≡ seq → Joins p list e → slice_get (list ++ e ∷ []) i ≡ Some x → length list ≤ i
+      → IsSlot (line_at after) p (take i (list ++ e ∷ [])) i x
   new_entry list i x count joins at past =
       let end : i ≡ length list = omega (arith, slice_get_within (list ++ e ∷ []) i x at, length-append list (e ∷ [])) in
       let first : i - length list ≡ 0 = omega arith in
@@ -111,12 +115,15 @@ module _ (p : Params) (seq : ℕ) (e : Entry) (bytes : List ℕ) (before after :
   }
 
 -- an entry that joins the list has its place
-pub place_of : (p : Params) (list : List Entry) (e : Entry) (lines : ℕ) → SoundParams p → p.device ≤ line_bytes * lines → length list < p.slots → Proper p e → join_fault p list e ≡ None → HasPhase p (length list) e lines
+pub place_of : (p : Params) (list : List Entry) (e : Entry) (lines : ℕ) → SoundParams p → p.device ≤ line_bytes * lines → length list < p.slots
+    → Proper p e → join_fault p list e ≡ None → HasPhase p (length list) e lines
 place_of p list e lines sound fits left proper joins =
     record { sound = sound; device = fits; slot = left; proper = proper; once = (joins_from p list e joins).units.once }
 
 -- an entry that joins a sound image's entries is read behind them
-pub appended_reads : (image : Image) (p : Params) (list : List Entry) (e : Entry) (bytes : List ℕ) → HasWords (line_at image) → SoundParams p → p.device ≤ line_bytes * length image → reading image ≡ Sound p list → length list < p.slots → Proper p e → join_fault p list e ≡ None → reading (written image p (length list) e bytes) ≡ Sound p (list ++ e ∷ [])
+pub appended_reads : (image : Image) (p : Params) (list : List Entry) (e : Entry) (bytes : List ℕ) → HasWords (line_at image) → SoundParams p
+    → p.device ≤ line_bytes * length image → reading image ≡ Sound p list → length list < p.slots → Proper p e → join_fault p list e ≡ None
+    → reading (written image p (length list) e bytes) ≡ Sound p (list ++ e ∷ [])
 appended_reads image p list e bytes words sound fits reads left proper joins =
     let has : HasPhase p (length list) e (length image) = place_of p list e (length image) sound fits left proper joins in
     let after : Image = written image p (length list) e bytes in

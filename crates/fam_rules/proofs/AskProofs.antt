@@ -55,7 +55,9 @@ prefix_finds list path new (suc n) within =
           ap (λ (es : List Entry). finmap.get (replay es) path) more
           ∙ tree_more (take n list) x path
           ∙ ap (λ (o : Option Entry). cond (path_eq x.path path) (Some x) o) before
-          ∙ last_is_first (path_eq x.path path) x (first_at path (take n list)) (λ same. sym before ∙ ap (λ (q : List ℕ). finmap.get (replay (take n list)) q) (sym ((pointwise_decides Decides-eqb x.path path).0 same)) ∙ new n x at)
+          ∙ last_is_first (path_eq x.path path) x (first_at path (take n list))
+          (λ same. sym before ∙ ap (λ (q : List ℕ). finmap.get (replay (take n list)) q)
+          (sym ((pointwise_decides Decides-eqb x.path path).0 same)) ∙ new n x at)
           ∙ sym (ap (λ (es : List Entry). first_at path es) more ∙ found_more (take n list) x path)
       | inr (past, none) ↦ absurd (omega arith)
     ]

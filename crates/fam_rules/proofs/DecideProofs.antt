@@ -64,12 +64,15 @@ none_suits p list w none = record {
 }
 
 -- extents of free runs: the units are free
-runs_units : (p : Params) (list : List Entry) (k : ℕ) (starts : List ℕ) → SoundParams p → AreRuns (is_used p list) (device_units p) k starts → AreFree (is_used p list) (units_in p.unit (map (extent_from p.unit k) starts))
+runs_units : (p : Params) (list : List Entry) (k : ℕ) (starts : List ℕ) → SoundParams p → AreRuns (is_used p list) (device_units p) k starts
+    → AreFree (is_used p list) (units_in p.unit (map (extent_from p.unit k) starts))
 runs_units p list k starts sound runs =
     subst (AreFree (is_used p list)) (sym (units_of_starts p.unit k starts (unit_some p sound))) (runs_free (is_used p list) (device_units p) k starts runs)
 
 -- and the extents are placed
-runs_extents : (p : Params) (list : List Entry) (e : Entry) (k : ℕ) (starts : List ℕ) → SoundParams p → AreRuns (is_used p list) (device_units p) k starts → 0 < k → e.extents ≡ map (extent_from p.unit k) starts → 0 < e.size → 0 < length starts → length starts ≤ extent_limit → has_extents p e ≡ true
+runs_extents : (p : Params) (list : List Entry) (e : Entry) (k : ℕ) (starts : List ℕ) → SoundParams p
+    → AreRuns (is_used p list) (device_units p) k starts → 0 < k → e.extents ≡ map (extent_from p.unit k) starts → 0 < e.size → 0 < length starts
+    → length starts ≤ extent_limit → has_extents p e ≡ true
 runs_extents p list e k starts sound runs some is bytes first few =
     let count : length e.extents ≡ length starts = ap length is ∙ length-map starts (extent_from p.unit k) in
     extents_pass p e (record {
@@ -84,7 +87,8 @@ both_pass : (a b : Bool) → a ≡ true → b ≡ true → (a && b) ≡ true
 both_pass a b e f = rw (e, f) refl
 
 -- one extent for all bytes
-simple_suits : (p : Params) (list : List Entry) (w : Wish) (s : ℕ) → SoundParams p → IsSoundWish w → 0 < w.size → AreRuns (is_used p list) (device_units p) (div_ceil w.size p.unit) (s ∷ []) → SuitsMap p list w (one_extent p.unit (div_ceil w.size p.unit) s)
+simple_suits : (p : Params) (list : List Entry) (w : Wish) (s : ℕ) → SoundParams p → IsSoundWish w → 0 < w.size
+    → AreRuns (is_used p list) (device_units p) (div_ceil w.size p.unit) (s ∷ []) → SuitsMap p list w (one_extent p.unit (div_ceil w.size p.unit) s)
 unfolding is_map
 simple_suits p list w s sound wish bytes runs =
     let k : ℕ = div_ceil w.size p.unit in
@@ -109,7 +113,8 @@ lengths_pass unit k bytes starts is =
     (All-map (λ x. (x.length == bytes) ≡ true) (extent_from unit k) starts (λ i d below. eq-eqb (k * unit) bytes is))
 
 -- three tests of a striped map
-striped_pass : (p : Params) (e : Entry) (s : Stripe) (k : ℕ) (starts : List ℕ) → IsGoodStripe p s → e.extents ≡ map (extent_from p.unit k) starts → length starts ≡ s.nstrips → k * p.unit ≡ strip_bytes e.size s.chunk s.nstrips → is_striped p e s.chunk ≡ true
+striped_pass : (p : Params) (e : Entry) (s : Stripe) (k : ℕ) (starts : List ℕ) → IsGoodStripe p s → e.extents ≡ map (extent_from p.unit k) starts
+    → length starts ≡ s.nstrips → k * p.unit ≡ strip_bytes e.size s.chunk s.nstrips → is_striped p e s.chunk ≡ true
 striped_pass p e s k starts is extents count bytes =
     let nstrips : length e.extents ≡ s.nstrips = ap length extents ∙ length-map starts (extent_from p.unit k) ∙ count in
     let each : list_all (λ x. x.length == strip_bytes e.size s.chunk (length e.extents)) e.extents ≡ true =
@@ -120,7 +125,9 @@ striped_pass p e s k starts is extents count bytes =
     (both_pass (nat_lt 0 s.chunk) (s.chunk % p.unit == 0) (lt-ltb 0 s.chunk is.chunk) (eq-eqb (s.chunk % p.unit) 0 is.whole)) each
 
 -- a strip in each of several buckets
-striped_suits : (p : Params) (list : List Entry) (w : Wish) (s : Stripe) (starts : List ℕ) → SoundParams p → IsSoundWish w → 0 < w.size → s.chunk < 2 ^ 64 → IsGoodStripe p s → length starts ≡ s.nstrips → AreRuns (is_used p list) (device_units p) (strip_length p w.size s) starts → SuitsMap p list w (strip_extents p.unit s.chunk (strip_length p w.size s) starts)
+striped_suits : (p : Params) (list : List Entry) (w : Wish) (s : Stripe) (starts : List ℕ) → SoundParams p → IsSoundWish w → 0 < w.size
+    → s.chunk < 2 ^ 64 → IsGoodStripe p s → length starts ≡ s.nstrips → AreRuns (is_used p list) (device_units p) (strip_length p w.size s) starts
+    → SuitsMap p list w (strip_extents p.unit s.chunk (strip_length p w.size s) starts)
 unfolding is_map
 striped_suits p list w s starts sound wish bytes chunk_fits is count runs =
     let k : ℕ = strip_length p w.size s in
@@ -143,7 +150,9 @@ room_given k None r h = absurd (cc)
 room_given k (Some found) r h = cc
 
 -- of it one extent is made
-simple_given : (p : Params) (list : List Entry) (w : Wish) (o : Option ℕ) (r : Room) → SoundParams p → IsSoundWish w → 0 < w.size → room (is_used p list) 0 (device_units p) (div_ceil w.size p.unit) ≡ o → option_map (one_extent p.unit (div_ceil w.size p.unit)) o ≡ Some r → SuitsMap p list w r
+simple_given : (p : Params) (list : List Entry) (w : Wish) (o : Option ℕ) (r : Room) → SoundParams p → IsSoundWish w → 0 < w.size
+    → room (is_used p list) 0 (device_units p) (div_ceil w.size p.unit) ≡ o → option_map (one_extent p.unit (div_ceil w.size p.unit)) o ≡ Some r
+    → SuitsMap p list w r
 simple_given p list w None r sound wish bytes found h = absurd (cc)
 simple_given p list w (Some s) r sound wish bytes found h =
     let k : ℕ = div_ceil w.size p.unit in
@@ -152,22 +161,28 @@ simple_given p list w (Some s) r sound wish bytes found h =
     subst (SuitsMap p list w) same (simple_suits p list w s sound wish bytes (runs_of_room (is_used p list) 0 (device_units p) k s is))
 
 -- or several
-striped_given : (p : Params) (list : List Entry) (w : Wish) (s : Stripe) (o : Option (List ℕ)) (r : Room) → SoundParams p → IsSoundWish w → 0 < w.size → s.chunk < 2 ^ 64 → IsGoodStripe p s → strips (is_used p list) (device_units p) (strip_length p w.size s) s.nstrips s.nbuckets (length list) ≡ o → option_map (strip_extents p.unit s.chunk (strip_length p w.size s)) o ≡ Some r → SuitsMap p list w r
+striped_given : (p : Params) (list : List Entry) (w : Wish) (s : Stripe) (o : Option (List ℕ)) (r : Room) → SoundParams p → IsSoundWish w → 0 < w.size
+    → s.chunk < 2 ^ 64 → IsGoodStripe p s → strips (is_used p list) (device_units p) (strip_length p w.size s) s.nstrips s.nbuckets (length list) ≡ o
+    → option_map (strip_extents p.unit s.chunk (strip_length p w.size s)) o ≡ Some r → SuitsMap p list w r
 striped_given p list w s None r sound wish bytes chunk_fits is found h = absurd (cc)
 striped_given p list w s (Some starts) r sound wish bytes chunk_fits is found h =
     let k : ℕ = strip_length p w.size s in
     let used : ℕ → Bool = is_used p list in
     let units : ℕ = device_units p in
-    let are : IsStrips used (units / s.nbuckets) k s.nstrips s.nbuckets (length list) (Some starts) = subst (IsStrips used (units / s.nbuckets) k s.nstrips s.nbuckets (length list)) found (strips_first used units k s.nstrips s.nbuckets (length list)) in
+    let are : IsStrips used (units / s.nbuckets) k s.nstrips s.nbuckets (length list) (Some starts) =
+    subst (IsStrips used (units / s.nbuckets) k s.nstrips s.nbuckets (length list)) found
+    (strips_first used units k s.nstrips s.nbuckets (length list)) in
     let same : strip_extents p.unit s.chunk k starts ≡ r = cc in
     subst (SuitsMap p list w) same (striped_suits p list w s starts sound wish bytes chunk_fits is are.0 (runs_of_strips used units k s.nstrips s.nbuckets (length list) starts are))
 
 -- by the stripe, where there is one
-by_stripe : (p : Params) (list : List Entry) (w : Wish) (stripe : Option Stripe) (r : Room) → SoundParams p → IsSoundWish w → 0 < w.size → IsStripeOfWords stripe → HasGoodStripe p stripe → room_by p list w.size stripe ≡ Ok r → SuitsMap p list w r
+by_stripe : (p : Params) (list : List Entry) (w : Wish) (stripe : Option Stripe) (r : Room) → SoundParams p → IsSoundWish w → 0 < w.size
+    → IsStripeOfWords stripe → HasGoodStripe p stripe → room_by p list w.size stripe ≡ Ok r → SuitsMap p list w r
 by_stripe p list w None r sound wish bytes fits good h =
     simple_given p list w (room (is_used p list) 0 (device_units p) (div_ceil w.size p.unit)) r sound wish bytes refl (room_given (div_ceil w.size p.unit) _ r h)
 by_stripe p list w (Some s) r sound wish bytes fits good h =
-    striped_given p list w s (strips (is_used p list) (device_units p) (strip_length p w.size s) s.nstrips s.nbuckets (length list)) r sound wish bytes fits good refl (room_given (strip_length p w.size s) _ r h)
+    striped_given p list w s (strips (is_used p list) (device_units p) (strip_length p w.size s) s.nstrips s.nbuckets (length list)) r sound wish
+    bytes fits good refl (room_given (strip_length p w.size s) _ r h)
 
 -- room that was found suits the wish
 room_suits : (p : Params) (list : List Entry) (w : Wish) (r : Room) → SoundParams p → IsSoundWish w → HasGoodStripe p w.stripe → room_for p list w ≡ Ok r → SuitsMap p list w r

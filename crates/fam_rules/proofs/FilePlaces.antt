@@ -98,7 +98,9 @@ dealt_map p e chunk proper has strips map =
       some = has.some;
       chunk_some = ltb-true 0 chunk tests.0;
       chunk_whole = eqb-true (chunk % p.unit) 0 tests.1;
-      lengths = All-weaker (λ x. (x.length == strip_bytes e.size chunk (length e.extents)) ≡ true) (λ x. x.length ≡ strip_bytes e.size chunk (length e.extents)) (λ x h. eqb-true x.length (strip_bytes e.size chunk (length e.extents)) h) e.extents (AllPass-from_list_all (λ x. x.length == strip_bytes e.size chunk (length e.extents)) e.extents first.1);
+      lengths = All-weaker (λ x. (x.length == strip_bytes e.size chunk (length e.extents)) ≡ true)
+          (λ x. x.length ≡ strip_bytes e.size chunk (length e.extents)) (λ x h. eqb-true x.length (strip_bytes e.size chunk (length e.extents)) h)
+          e.extents (AllPass-from_list_all (λ x. x.length == strip_bytes e.size chunk (length e.extents)) e.extents first.1);
     }
 
 -- by the cases of the map rule
@@ -179,13 +181,17 @@ dealt_unit : (p : Params) (e : Entry) (chunk o : ℕ) → SoundParams p → IsSt
 unfolding end_to_end
 dealt_unit p e chunk o sound is below =
     subst (StandsIn p.unit (units_in p.unit e.extents) (end_to_end e chunk o)) (place_dealt p e chunk o is)
-    (strip_stands p e.extents (strip_bytes e.size chunk (length e.extents)) (strip_of (length e.extents) chunk o) (place_in_strip (length e.extents) chunk o) (unit_some p sound) is.inside is.lengths (strip_below p e chunk o is) (in_strip p e chunk o is below))
+    (strip_stands p e.extents (strip_bytes e.size chunk (length e.extents)) (strip_of (length e.extents) chunk o)
+    (place_in_strip (length e.extents) chunk o) (unit_some p sound) is.inside is.lengths (strip_below p e chunk o is)
+    (in_strip p e chunk o is below))
 
 -- two bytes at one such place are one
 dealt_once : (p : Params) (e : Entry) (chunk a b : ℕ) → IsStriped p e chunk → a < e.size → b < e.size → end_to_end e chunk a ≡ end_to_end e chunk b → a ≡ b
 unfolding end_to_end
 dealt_once p e chunk a b is a_below b_below same =
-    let both = same_from_place (strip_of (length e.extents) chunk a) (place_in_strip (length e.extents) chunk a) (strip_of (length e.extents) chunk b) (place_in_strip (length e.extents) chunk b) (strip_bytes e.size chunk (length e.extents)) (in_strip p e chunk a is a_below) (in_strip p e chunk b is b_below) same in
+    let both = same_from_place (strip_of (length e.extents) chunk a) (place_in_strip (length e.extents) chunk a) (strip_of (length e.extents) chunk b)
+    (place_in_strip (length e.extents) chunk b) (strip_bytes e.size chunk (length e.extents)) (in_strip p e chunk a is a_below)
+    (in_strip p e chunk b is b_below) same in
     same_in_strip chunk (length e.extents) a b is.chunk_some both.0 both.1
 
 -- by the map, the byte's unit
@@ -231,7 +237,8 @@ dealt_line p e chunk o b sound is offset below =
     let k : ℕ = length e.extents in
     let one : OneStrip k chunk o b = one_strip k chunk o b is.chunk_some (units_lined p chunk sound is.chunk_whole) offset below in
     let head = All-get_or IsLined e.extents (strip_of k chunk o) no_extent (strip_below p e chunk o is) (lined p e.extents sound is.inside) in
-    let strip : (get_or e.extents (strip_of k chunk (o + b)) no_extent).offset ≡ (get_or e.extents (strip_of k chunk o) no_extent).offset = ap (λ (s : ℕ). (get_or e.extents s no_extent).offset) one.strip in
+    let strip : (get_or e.extents (strip_of k chunk (o + b)) no_extent).offset ≡ (get_or e.extents (strip_of k chunk o) no_extent).offset =
+    ap (λ (s : ℕ). (get_or e.extents s no_extent).offset) one.strip in
     record {
       next = omega (arith, place_dealt p e chunk (o + b) is, place_dealt p e chunk o is, strip, one.place);
       start = omega (arith, place_dealt p e chunk o is, head.offset, one.start);
@@ -248,7 +255,8 @@ on_line_by p e o b sound (is_simple is) offset below within =
 on_line_by p e o b sound (is_dealt chunk is) offset below within = dealt_line p e chunk o b sound is offset within
 
 -- the bytes of the file's line j lie in one line of the device
-pub line_place : (p : Params) (e : Entry) (j b : ℕ) → SoundParams p → Proper p e → line_bytes * j < e.size → b < line_bytes → place e (line_bytes * j + b) ≡ line_bytes * (place e (line_bytes * j) / line_bytes) + b
+pub line_place : (p : Params) (e : Entry) (j b : ℕ) → SoundParams p → Proper p e → line_bytes * j < e.size → b < line_bytes
+    → place e (line_bytes * j + b) ≡ line_bytes * (place e (line_bytes * j) / line_bytes) + b
 line_place p e j b sound proper below within =
     let on : OnLine e (line_bytes * j) b = on_line_by p e (line_bytes * j) b sound (has_map p e sound proper (omega arith)) (omega arith) below within in
     omega (arith, on.next, on.start)

@@ -59,10 +59,13 @@ unfolding formatted
 lines_formatted image p enough = record {
   count = length-put_lines (format_puts p) image;
   magic = last_put (cleared ∷ gate_put ∷ header_put p ∷ prefix_put p ∷ rest_put p ∷ []) [] image 0 magic_line (omega arith) tt;
-  super_prefix = last_put (cleared ∷ gate_put ∷ header_put p ∷ []) (rest_put p ∷ magic_put ∷ []) image 1 (slice_range (super_words p) 0 8) (omega arith) (λ e. omega arith, (λ e. omega arith, tt)) ∙ eight_prefix p;
+  super_prefix = last_put (cleared ∷ gate_put ∷ header_put p ∷ []) (rest_put p ∷ magic_put ∷ []) image 1 (slice_range (super_words p) 0 8)
+      (omega arith) (λ e. omega arith, (λ e. omega arith, tt)) ∙ eight_prefix p;
   super_rest = last_put (cleared ∷ gate_put ∷ header_put p ∷ prefix_put p ∷ []) (magic_put ∷ []) image 2 (slice_range (super_words p) 8 16) (omega arith) (λ e. omega arith, tt) ∙ eight_rest p;
-  header = last_put (cleared ∷ gate_put ∷ []) (prefix_put p ∷ rest_put p ∷ magic_put ∷ []) image log_line (log_words p) (omega arith) (λ e. omega arith, (λ e. omega arith, (λ e. omega arith, tt))) ∙ eight_header p;
-  gate = last_put (cleared ∷ []) (header_put p ∷ prefix_put p ∷ rest_put p ∷ magic_put ∷ []) image gate_line zero_line (omega arith) (λ e. omega arith, (λ e. omega arith, (λ e. omega arith, (λ e. omega arith, tt))));
+  header = last_put (cleared ∷ gate_put ∷ []) (prefix_put p ∷ rest_put p ∷ magic_put ∷ []) image log_line (log_words p) (omega arith)
+      (λ e. omega arith, (λ e. omega arith, (λ e. omega arith, tt))) ∙ eight_header p;
+  gate = last_put (cleared ∷ []) (header_put p ∷ prefix_put p ∷ rest_put p ∷ magic_put ∷ []) image gate_line zero_line (omega arith)
+      (λ e. omega arith, (λ e. omega arith, (λ e. omega arith, (λ e. omega arith, tt))));
   others = λ l a b c d e. put_elsewhere (format_puts p) image l (a, (e, (d, (b, (c, (a, tt))))));
 }
 
@@ -72,7 +75,8 @@ holds_none p before after have sound fits is =
     let gate : gate_in (line_at after) ≡ 0 = ap (λ (words : List ℕ). slice_index words 0) is.gate in
     record {
       head = record {
-        super = ap₂ (λ (word : ℕ) (words : List ℕ). super_of word words have) (ap (λ (words : List ℕ). slice_index words 0) is.magic) (ap₂ (λ (xs ys : List ℕ). xs ++ ys) is.super_prefix is.super_rest ∙ super_lines p)
+        super = ap₂ (λ (word : ℕ) (words : List ℕ). super_of word words have) (ap (λ (words : List ℕ). slice_index words 0) is.magic)
+            (ap₂ (λ (xs ys : List ℕ). xs ++ ys) is.super_prefix is.super_rest ∙ super_lines p)
             ∙ read_spelling p sound have fits;
         header = ap (λ (words : List ℕ). log_fault words p) is.header ∙ header_passes p;
         gate = omega arith;

@@ -49,7 +49,8 @@ list_unit p (x ∷ xs) (suc i) o b sound proper h =
     (list_unit p xs i o b sound (All-tail (Proper p) x xs proper) (at_rest x xs i o b h))
 
 -- no byte of the first file is one of the files behind it
-no_two : (p : Params) (x : Entry) (xs : List Entry) (j o q b : ℕ) → SoundParams p → All (Proper p) (x ∷ xs) → IsOnce (list_units p.unit (x ∷ xs)) → StandsAt (x ∷ xs) 0 o b → StandsAt (x ∷ xs) (suc j) q b → ⊥
+no_two : (p : Params) (x : Entry) (xs : List Entry) (j o q b : ℕ) → SoundParams p → All (Proper p) (x ∷ xs) → IsOnce (list_units p.unit (x ∷ xs))
+    → StandsAt (x ∷ xs) 0 o b → StandsAt (x ∷ xs) (suc j) q b → ⊥
 no_two p x xs j o q b sound proper once first second =
     once_apart (units_in p.unit x.extents) (list_units p.unit xs) once (b / p.unit)
     (first_unit p x xs o b sound (All-head (Proper p) x xs proper) first)
@@ -65,7 +66,8 @@ bytes_by p (x ∷ xs) zero zero o q b sound proper once first second =
 bytes_by p (x ∷ xs) zero (suc j) o q b sound proper once first second = absurd (no_two p x xs j o q b sound proper once first second)
 bytes_by p (x ∷ xs) (suc i) zero o q b sound proper once first second = absurd (no_two p x xs i q o b sound proper once second first)
 bytes_by p (x ∷ xs) (suc i) (suc j) o q b sound proper once first second =
-    let rest = bytes_by p xs i j o q b sound (All-tail (Proper p) x xs proper) (once_right (units_in p.unit x.extents) (list_units p.unit xs) once) (at_rest x xs i o b first) (at_rest x xs j q b second) in
+    let rest = bytes_by p xs i j o q b sound (All-tail (Proper p) x xs proper) (once_right (units_in p.unit x.extents) (list_units p.unit xs) once)
+    (at_rest x xs i o b first) (at_rest x xs j q b second) in
     (ap (λ (n : ℕ). suc n) rest.0, rest.1)
 
 -- where no unit stands in two extents, a byte of the device is one byte of one file
@@ -98,12 +100,14 @@ module _ (us vs : List ℕ) (left : IsOnce us) (right : IsOnce vs) (apart : (k :
       ]
 
 -- free units are none of the list's
-free_apart : (p : Params) (before : List Entry) (e : Entry) → IsFreeAfter p before e → (k : ℕ) → k < length (units_in p.unit e.extents) → Contains (list_units p.unit before) (get_or (units_in p.unit e.extents) k 0) → ⊥
+free_apart : (p : Params) (before : List Entry) (e : Entry) → IsFreeAfter p before e → (k : ℕ) → k < length (units_in p.unit e.extents)
+    → Contains (list_units p.unit before) (get_or (units_in p.unit e.extents) k 0) → ⊥
 free_apart p before e h k below among =
     false≢true (sym (h.units.free k below) ∙ tested_used p before (get_or (units_in p.unit e.extents) k 0) (inr among))
 
 -- one entry more
-units_more : (p : Params) (list : List Entry) (n : ℕ) (x : Entry) → n < length list → get_or list n x ≡ x → list_units p.unit (take n list) ++ units_in p.unit x.extents ≡ list_units p.unit (take (suc n) list)
+units_more : (p : Params) (list : List Entry) (n : ℕ) (x : Entry) → n < length list → get_or list n x ≡ x
+    → list_units p.unit (take n list) ++ units_in p.unit x.extents ≡ list_units p.unit (take (suc n) list)
 units_more p list n x below is =
     let prefix : take (suc n) list ≡ take n list ++ x ∷ [] = take-suc list n x below ∙ ap (λ (e : Entry). take n list ++ e ∷ []) is in
     sym (ap (λ (es : List Entry). list_units p.unit es) prefix

@@ -72,13 +72,15 @@ none_found unit f (g ∷ more) clear = rw clear.0 (none_found unit f more clear.
 beside_itself : (unit i : ℕ) (b : Entry) → IsOnce (units_in unit b.extents) → overlaps unit ((i, b), (i, b)) ≡ false
 beside_itself unit i b once = rw (same_number i) (not_twice unit b once)
 
-beside_others : (unit k i : ℕ) (prefix : List Entry) (b : Entry) → k + length prefix ≤ i → IsOnce (list_units unit prefix ++ units_in unit b.extents) → NoneOverlaps unit (i, b) (numbered k prefix ++ (i, b) ∷ [])
+beside_others : (unit k i : ℕ) (prefix : List Entry) (b : Entry) → k + length prefix ≤ i → IsOnce (list_units unit prefix ++ units_in unit b.extents)
+    → NoneOverlaps unit (i, b) (numbered k prefix ++ (i, b) ∷ [])
 beside_others unit k i [] b end once = (beside_itself unit i b once, tt)
 beside_others unit k i (a ∷ more) b end once =
     let us : List ℕ = units_in unit a.extents in
     let rest : List ℕ = list_units unit more ++ units_in unit b.extents in
     let whole : IsOnce (us ++ rest) = subst IsOnce (append_assoc us (list_units unit more) (units_in unit b.extents)) once in
-    let apart : share_unit unit a b ≡ false = share_none us (units_in unit b.extents) (λ u first second. once_apart us rest whole u first (Contains-append_right (list_units unit more) (units_in unit b.extents) u second)) in
+    let apart : share_unit unit a b ≡ false = share_none us (units_in unit b.extents)
+    (λ u first second. once_apart us rest whole u first (Contains-append_right (list_units unit more) (units_in unit b.extents) u second)) in
     (rw (ne_eqb k i (λ same. omega arith)) apart, beside_others unit (k + 1) i more b (omega arith) (once_right us rest whole))
 
 -- the units up to an entry stand once
@@ -89,7 +91,8 @@ once_up_to unit prefix b more once =
     once_left (list_units unit prefix ++ units_in unit b.extents) (list_units unit more) (subst IsOnce parts once)
 
 -- no pair overlaps
-none_of_pairs : (unit i : ℕ) (prefix rest : List Entry) → length prefix ≡ i → IsOnce (list_units unit (prefix ++ rest)) → find (overlaps unit) (pairs_after (numbered 0 prefix) (numbered i rest)) ≡ None
+none_of_pairs : (unit i : ℕ) (prefix rest : List Entry) → length prefix ≡ i → IsOnce (list_units unit (prefix ++ rest))
+    → find (overlaps unit) (pairs_after (numbered 0 prefix) (numbered i rest)) ≡ None
 none_of_pairs unit i prefix [] count once = refl
 none_of_pairs unit i prefix (b ∷ more) count once =
     let fs : List (ℕ × Entry) = numbered 0 prefix ++ (i, b) ∷ [] in
@@ -98,7 +101,8 @@ none_of_pairs unit i prefix (b ∷ more) count once =
     let longer : fs ≡ numbered 0 (prefix ++ b ∷ []) = numbered-append 0 prefix i b (omega arith) in
     let later : find (overlaps unit) (pairs_after fs (numbered (i + 1) more)) ≡ None =
     ap (λ (gs : List (ℕ × Entry)). find (overlaps unit) (pairs_after gs (numbered (i + 1) more))) longer
-    ∙ none_of_pairs unit (i + 1) (prefix ++ b ∷ []) more (omega (arith, length-append prefix (b ∷ []))) (subst (λ (es : List Entry). IsOnce (list_units unit es)) (sym (append_assoc prefix (b ∷ []) more)) once) in
+    ∙ none_of_pairs unit (i + 1) (prefix ++ b ∷ []) more (omega (arith, length-append prefix (b ∷ [])))
+    (subst (λ (es : List Entry). IsOnce (list_units unit es)) (sym (append_assoc prefix (b ∷ []) more)) once) in
     find-append (overlaps unit) (map (λ (g : ℕ × Entry). (g, (i, b))) fs) (pairs_after fs (numbered (i + 1) more))
     ∙ ap₂ (λ (x y : Option ((ℕ × Entry) × (ℕ × Entry))). option_or x y) here later
 

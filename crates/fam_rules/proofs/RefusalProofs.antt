@@ -96,15 +96,23 @@ data FoundCases (p : Params) (list : List Entry) (size : ℕ) (stripe : Option S
 -- units in a row
 by_row : (p : Params) (list : List Entry) (size : ℕ) (o : Option ℕ) → room (is_used p list) 0 (device_units p) (div_ceil size p.unit) ≡ o → FoundCases p list size None
 by_row p list size None is =
-    let lacks : IsRoom (is_used p list) 0 (device_units p) (div_ceil size p.unit) None = subst (IsRoom (is_used p list) 0 (device_units p) (div_ceil size p.unit)) is (room_least (is_used p list) 0 (device_units p) (div_ceil size p.unit)) in
+    let lacks : IsRoom (is_used p list) 0 (device_units p) (div_ceil size p.unit) None =
+    subst (IsRoom (is_used p list) 0 (device_units p) (div_ceil size p.unit)) is
+    (room_least (is_used p list) 0 (device_units p) (div_ceil size p.unit)) in
     nowhere (div_ceil size p.unit) (refl, λ s fits. lacks s (omega arith) fits)
 by_row p list size (Some s) is = found (one_extent p.unit (div_ceil size p.unit) s) (ap (λ (o : Option ℕ). room_or (div_ceil size p.unit) (option_map (one_extent p.unit (div_ceil size p.unit)) o)) is)
 
 -- strips
-by_strips : (p : Params) (list : List Entry) (size : ℕ) (s : Stripe) (o : Option (List ℕ)) → strips (is_used p list) (device_units p) (strip_length p size s) s.nstrips s.nbuckets (length list) ≡ o → FoundCases p list size (Some s)
+by_strips : (p : Params) (list : List Entry) (size : ℕ) (s : Stripe) (o : Option (List ℕ))
+    → strips (is_used p list) (device_units p) (strip_length p size s) s.nstrips s.nbuckets (length list) ≡ o → FoundCases p list size (Some s)
 by_strips p list size s None is =
-    nowhere (strip_length p size s) (refl, subst (IsStrips (is_used p list) (device_units p / s.nbuckets) (strip_length p size s) s.nstrips s.nbuckets (length list)) is (strips_first (is_used p list) (device_units p) (strip_length p size s) s.nstrips s.nbuckets (length list)))
-by_strips p list size s (Some starts) is = found (strip_extents p.unit s.chunk (strip_length p size s) starts) (ap (λ (o : Option (List ℕ)). room_or (strip_length p size s) (option_map (strip_extents p.unit s.chunk (strip_length p size s)) o)) is)
+    nowhere (strip_length p size s) (
+      refl,
+      subst (IsStrips (is_used p list) (device_units p / s.nbuckets) (strip_length p size s) s.nstrips s.nbuckets (length list)) is
+          (strips_first (is_used p list) (device_units p) (strip_length p size s) s.nstrips s.nbuckets (length list)),
+    )
+by_strips p list size s (Some starts) is = found (strip_extents p.unit s.chunk (strip_length p size s) starts)
+    (ap (λ (o : Option (List ℕ)). room_or (strip_length p size s) (option_map (strip_extents p.unit s.chunk (strip_length p size s)) o)) is)
 
 -- either
 found_cases : (p : Params) (list : List Entry) (size : ℕ) (stripe : Option Stripe) → FoundCases p list size stripe
@@ -144,7 +152,8 @@ lacks_by p list size (Some s) k (is, few) =
     let units : ℕ = strip_length p size s in
     let short : IsStrips (is_used p list) (device_units p / s.nbuckets) units s.nstrips s.nbuckets (length list) None =
     subst (λ (n : ℕ). buckets_with_room (is_used p list) (device_units p / s.nbuckets) n s.nbuckets (length list) s.nbuckets < s.nstrips) is few in
-    ap (λ (o : Option (List ℕ)). room_or units (option_map (strip_extents p.unit s.chunk units) o)) (sym (strips_only (is_used p list) (device_units p) units s.nstrips s.nbuckets (length list) None short))
+    ap (λ (o : Option (List ℕ)). room_or units (option_map (strip_extents p.unit s.chunk units) o))
+    (sym (strips_only (is_used p list) (device_units p) units s.nstrips s.nbuckets (length list) None short))
     ∙ ap (λ (n : ℕ). Err (NoSpace n)) (sym is)
 
 -- Each refusal where its cause is the first.

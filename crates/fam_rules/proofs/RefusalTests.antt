@@ -43,7 +43,14 @@ stripe_good p s h =
 -- and they pass a good stripe
 pub good_stripe : (p : Params) (s : Stripe) → IsGoodStripe p s → is_stripe p s ≡ true
 good_stripe p s is =
-    rw (le-leb 1 s.chunk is.chunk, eq-eqb (s.chunk % p.unit) 0 is.whole, le-leb 1 s.nstrips is.some, le-leb s.nstrips extent_limit is.few, le-leb s.nstrips s.nbuckets is.spread, le-leb s.nbuckets bucket_limit is.buckets) refl
+    rw (
+      le-leb 1 s.chunk is.chunk,
+      eq-eqb (s.chunk % p.unit) 0 is.whole,
+      le-leb 1 s.nstrips is.some,
+      le-leb s.nstrips extent_limit is.few,
+      le-leb s.nstrips s.nbuckets is.spread,
+      le-leb s.nbuckets bucket_limit is.buckets,
+    ) refl
 
 -- one who isn't refused is the master
 pub master_none : (p : Params) (me : List ℕ) → master_refusal p me ≡ None → me ≡ p.master

@@ -43,7 +43,8 @@ joined_applies p list e joins = first_none (tree_fault (replay list) e) _ (joins
 
 module _ (line : Lines) (p : Params) (gate : ℕ) where
   -- a slot with an entry that joins
-  survey_joined : (i : ℕ) (found : List (ℕ × Entry)) (before : List Entry) (e : Entry) → i < gate → IsSlot line p before i e → survey_slot p gate i (slot_words line p i) (surveyed found before) ≡ surveyed (found ++ (i, e) ∷ []) (before ++ e ∷ [])
+  survey_joined : (i : ℕ) (found : List (ℕ × Entry)) (before : List Entry) (e : Entry) → i < gate → IsSlot line p before i e
+      → survey_slot p gate i (slot_words line p i) (surveyed found before) ≡ surveyed (found ++ (i, e) ∷ []) (before ++ e ∷ [])
   unfolding survey_slot
   survey_joined i found before e less slot =
       let reads : entry_of p (slot_words line p i) i ≡ Ok e = ap (λ (words : List ℕ). entry_of p words i) slot.words ∙ spelling_read p e i slot.proper in
@@ -61,11 +62,14 @@ module _ (line : Lines) (p : Params) (gate : ℕ) where
       subst (λ (before : List Entry). IsSlot line p before i e) (ap (λ (n : ℕ). take n (prefix ++ e ∷ more)) (sym count) ∙ take-append_seam prefix (e ∷ more)) (slots i e at)
 
   -- all of them
-  survey_below : (i : ℕ) (found : List (ℕ × Entry)) (prefix rest : List Entry) → length prefix ≡ i → i + length rest ≤ gate → AreSlots line p (prefix ++ rest) → survey_slots line p gate i (length rest) (surveyed found prefix) ≡ surveyed (found ++ numbered i rest) (prefix ++ rest)
+  survey_below : (i : ℕ) (found : List (ℕ × Entry)) (prefix rest : List Entry) → length prefix ≡ i → i + length rest ≤ gate
+      → AreSlots line p (prefix ++ rest) → survey_slots line p gate i (length rest) (surveyed found prefix) ≡ surveyed (found ++ numbered i rest)
+      (prefix ++ rest)
   survey_below i found prefix [] count within slots = sym (ap₂ surveyed (append-nil found) (append-nil prefix))
   survey_below i found prefix (e ∷ more) count within slots =
       ap (survey_slots line p gate (i + 1) (length more)) (survey_joined i found prefix e (omega arith) (slot_behind prefix i e more count slots))
-      ∙ survey_below (i + 1) (found ++ (i, e) ∷ []) (prefix ++ e ∷ []) more (omega (arith, length-append prefix (e ∷ []))) (omega arith) (subst (AreSlots line p) (sym (append_assoc prefix (e ∷ []) more)) slots)
+      ∙ survey_below (i + 1) (found ++ (i, e) ∷ []) (prefix ++ e ∷ []) more (omega (arith, length-append prefix (e ∷ []))) (omega arith)
+      (subst (AreSlots line p) (sym (append_assoc prefix (e ∷ []) more)) slots)
       ∙ ap₂ surveyed (append_assoc found ((i, e) ∷ []) (numbered (i + 1) more)) (append_assoc prefix (e ∷ []) more)
 
   -- Slots past it.
@@ -82,7 +86,9 @@ module _ (line : Lines) (p : Params) (gate : ℕ) where
 
   past_slot : (i : ℕ) (words : List ℕ) (s : Survey) → gate ≤ i → GoesOn s (survey_slot p gate i words s) 1
   unfolding survey_slot
-  past_slot i words s past = subst (λ (t : Survey). GoesOn s t 1) (sym (let e : survey_slot p gate i words s ≡ past_gate s (entry_of p words i) = rw (le-ltb i gate past) refl in e)) (past_by s (entry_of p words i))
+  past_slot i words s past = subst (λ (t : Survey). GoesOn s t 1)
+      (sym (let e : survey_slot p gate i words s ≡ past_gate s (entry_of p words i) = rw (le-ltb i gate past) refl in e))
+      (past_by s (entry_of p words i))
 
   survey_past : (more i : ℕ) (s : Survey) → gate ≤ i → GoesOn s (survey_slots line p gate i more s) more
   survey_past zero i s past = record { found = refl; bad = refl; past = omega arith }

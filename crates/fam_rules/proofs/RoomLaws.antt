@@ -52,7 +52,8 @@ first_is used k s zero = λ r a b. absurd (omega arith)
 first_is used k s (suc n) =
     elim (cases_Bool (all_free used s k)) [
       | inl fits ↦ subst (IsFirst used k s (suc n)) (sym (cond-true (all_free used s k) (Some s) (room_from used k (s + 1) n) fits)) (omega arith, omega arith, fits, λ r a b. absurd (omega arith))
-      | inr miss ↦ subst (IsFirst used k s (suc n)) (sym (cond-false (all_free used s k) (Some s) (room_from used k (s + 1) n) miss)) (first_more used k s n (room_from used k (s + 1) n) miss (first_is used k (s + 1) n))
+      | inr miss ↦ subst (IsFirst used k s (suc n)) (sym (cond-false (all_free used s k) (Some s) (room_from used k (s + 1) n) miss))
+          (first_more used k s n (room_from used k (s + 1) n) miss (first_is used k (s + 1) n))
     ]
 
 -- a start that fits is among those that are tried
@@ -146,7 +147,8 @@ unfolding offer
 offer_least used width k buckets seq turn =
     room_least used (bucket buckets seq turn * width) ((bucket buckets seq turn + 1) * width) k
 
-offer_only : (used : ℕ → Bool) (width k buckets seq turn : ℕ) (o : Option ℕ) → (let x = bucket buckets seq turn in IsRoom used (x * width) ((x + 1) * width) k o) → o ≡ offer used width k buckets seq turn
+offer_only : (used : ℕ → Bool) (width k buckets seq turn : ℕ) (o : Option ℕ)
+    → (let x = bucket buckets seq turn in IsRoom used (x * width) ((x + 1) * width) k o) → o ≡ offer used width k buckets seq turn
 unfolding offer
 offer_only used width k buckets seq turn o h =
     room_only used (bucket buckets seq turn * width) ((bucket buckets seq turn + 1) * width) k o h
@@ -164,7 +166,8 @@ strip_of used width k buckets seq i s o =
     }
 
 -- a strip is the start of its rank
-given_of_strip : (used : ℕ → Bool) (width k buckets seq i s : ℕ) → IsStrip used width k buckets seq i s → (i < length (given (offers used width k buckets seq))) × (get_or (given (offers used width k buckets seq)) i 0 ≡ s)
+given_of_strip : (used : ℕ → Bool) (width k buckets seq i s : ℕ) → IsStrip used width k buckets seq i s
+    → (i < length (given (offers used width k buckets seq))) × (get_or (given (offers used width k buckets seq)) i 0 ≡ s)
 given_of_strip used width k buckets seq i s h =
     let os : List (Option ℕ) = offers used width k buckets seq in
     let at : get_or os h.turn None ≡ Some s = get_or-offers used width k buckets seq h.turn h.tried ∙ sym (offer_only used width k buckets seq h.turn (Some s) h.least) in
@@ -176,7 +179,9 @@ strips_of_given : (used : ℕ → Bool) (width k n buckets seq : ℕ) → IsStri
 strips_of_given used width k n buckets seq =
     let os : List (Option ℕ) = offers used width k buckets seq in
     elim (cases_lt (length (given os)) n) [
-      | inl short ↦ subst (IsStrips used width k n buckets seq) (sym (cond-false (leb n (length (given os))) (Some (take n (given os))) None (lt-leb n (length (given os)) short))) (omega (arith, length-given os, short))
+      | inl short ↦ subst (IsStrips used width k n buckets seq)
+          (sym (cond-false (leb n (length (given os))) (Some (take n (given os))) None (lt-leb n (length (given os)) short)))
+          (omega (arith, length-given os, short))
       | inr enough ↦ subst (IsStrips used width k n buckets seq) (sym (cond-true (leb n (length (given os))) (Some (take n (given os))) None (le-leb n (length (given os)) enough))) (
         length-take-le n (given os) enough,
         λ i below.

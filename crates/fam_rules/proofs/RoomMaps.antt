@@ -84,11 +84,13 @@ placed p x is =
     (rw (le-leb (log_end p) x.offset is.behind, le-leb (x.offset + x.length) (device_units p * p.unit) is.before) refl)
 
 -- extents of k units from these starts on
-pub all_placed : (p : Params) (list : List Entry) (k : ℕ) (starts : List ℕ) → SoundParams p → 0 < k → All (Fits (is_used p list) (device_units p) k) starts → list_all (is_placed p) (map (extent_from p.unit k) starts) ≡ true
+pub all_placed : (p : Params) (list : List Entry) (k : ℕ) (starts : List ℕ) → SoundParams p → 0 < k
+    → All (Fits (is_used p list) (device_units p) k) starts → list_all (is_placed p) (map (extent_from p.unit k) starts) ≡ true
 all_placed p list k starts sound some fits =
     list_all-from_AllPass (is_placed p) (map (extent_from p.unit k) starts)
     (All-map (λ x. is_placed p x ≡ true) (extent_from p.unit k) starts
-    (All-weaker (Fits (is_used p list) (device_units p) k) (λ s. is_placed p (extent_from p.unit k s) ≡ true) (λ s h. placed p (extent_from p.unit k s) (run_inside p list k s sound some h)) starts fits))
+    (All-weaker (Fits (is_used p list) (device_units p) k) (λ s. is_placed p (extent_from p.unit k s) ≡ true)
+    (λ s h. placed p (extent_from p.unit k s) (run_inside p list k s sound some h)) starts fits))
 
 -- the test of a file's extents
 pub extents_pass : (p : Params) (e : Entry) → HasExtents p e → has_extents p e ≡ true
@@ -123,7 +125,8 @@ strip_whole : (size unit chunk nstrips : ℕ) → chunk % unit ≡ 0 → strip_b
 strip_whole size unit chunk nstrips whole = whole_product (div_ceil (div_ceil size chunk) nstrips) chunk unit whole
 
 -- the count of a strip's units, whose cap isn't reached
-pub strip_count : (p : Params) (size chunk nstrips : ℕ) → SoundParams p → 0 < size → size < 2 ^ 64 → chunk < 2 ^ 64 → 0 < chunk → chunk % p.unit ≡ 0 → 0 < nstrips → IsStripCount size p.unit chunk nstrips (min (strip_bytes size chunk nstrips / p.unit) (2 ^ 64 - 1))
+pub strip_count : (p : Params) (size chunk nstrips : ℕ) → SoundParams p → 0 < size → size < 2 ^ 64 → chunk < 2 ^ 64 → 0 < chunk → chunk % p.unit ≡ 0
+    → 0 < nstrips → IsStripCount size p.unit chunk nstrips (min (strip_bytes size chunk nstrips / p.unit) (2 ^ 64 - 1))
 strip_count p size chunk nstrips sound bytes size_fits chunk_fits some whole strips =
     let is = unit_told p.unit sound.unit in
     let units : strip_bytes size chunk nstrips / p.unit * p.unit ≡ strip_bytes size chunk nstrips = strip_whole size p.unit chunk nstrips whole in

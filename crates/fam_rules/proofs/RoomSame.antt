@@ -41,7 +41,8 @@ offers_same f g width k buckets seq same =
     (λ u below. same u (omega (arith, bucket_ends width buckets seq t (omega arith)))))
 
 -- tests that agree on the buckets give one list of strips
-pub first_given_same : (f g : ℕ → Bool) (width k n buckets seq : ℕ) → ((u : ℕ) → u < width * buckets → f u ≡ g u) → first_given n (offers f width k buckets seq) ≡ first_given n (offers g width k buckets seq)
+pub first_given_same : (f g : ℕ → Bool) (width k n buckets seq : ℕ) → ((u : ℕ) → u < width * buckets → f u ≡ g u)
+    → first_given n (offers f width k buckets seq) ≡ first_given n (offers g width k buckets seq)
 first_given_same f g width k n buckets seq same = ap (first_given n) (offers_same f g width k buckets seq same)
 
 -- the buckets lie within the units

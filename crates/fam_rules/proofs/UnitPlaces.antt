@@ -101,7 +101,8 @@ stands_extent p x o some inside below =
     }
 
 -- a byte of the extents behind the first one
-stands_behind : (p : Params) (x : Extent) (xs : List Extent) (o n b : ℕ) → 0 < p.unit → IsInDevice p x → x.length + o ≡ n → StandsIn p.unit (units_in p.unit xs) o b → StandsIn p.unit (units_in p.unit (x ∷ xs)) n b
+stands_behind : (p : Params) (x : Extent) (xs : List Extent) (o n b : ℕ) → 0 < p.unit → IsInDevice p x → x.length + o ≡ n
+    → StandsIn p.unit (units_in p.unit xs) o b → StandsIn p.unit (units_in p.unit (x ∷ xs)) n b
 stands_behind p x xs o n b some inside at h =
     let first : List ℕ = range_with_len (x.offset / p.unit) (x.length / p.unit) in
     let bytes : length first * p.unit ≡ x.length = ap (λ (k : ℕ). k * p.unit) (length-range_with_len (x.offset / p.unit) (x.length / p.unit)) ∙ whole x.length p.unit inside.length in
@@ -122,7 +123,8 @@ simple_stands p (x ∷ xs) o some inside below =
     ]
 
 -- a byte of a strip, where all strips have one length
-pub strip_stands : (p : Params) (xs : List Extent) (strip s t : ℕ) → 0 < p.unit → All (IsInDevice p) xs → All (λ x. x.length ≡ strip) xs → s < length xs → t < strip → StandsIn p.unit (units_in p.unit xs) (s * strip + t) ((get_or xs s no_extent).offset + t)
+pub strip_stands : (p : Params) (xs : List Extent) (strip s t : ℕ) → 0 < p.unit → All (IsInDevice p) xs → All (λ x. x.length ≡ strip) xs
+    → s < length xs → t < strip → StandsIn p.unit (units_in p.unit xs) (s * strip + t) ((get_or xs s no_extent).offset + t)
 strip_stands p [] strip s t some inside lengths below within = absurd (omega arith)
 strip_stands p (x ∷ xs) strip zero t some inside lengths below within =
     let head : IsInDevice p x = All-head (IsInDevice p) x xs inside in

@@ -133,7 +133,12 @@ abbrev three : Stripe
 three = record { nstrips = 3; nbuckets = 4; chunk = 8192 }
 
 striped_file :
-    room_for (params_of 8388608) none (wish e_path 40000 (Some three)) ≡ Ok (record { map = mapped.Striped 8192; extents = record { offset = 2162688; length = 16384 } ∷ record { offset = 4194304; length = 16384 } ∷ record { offset = 6291456; length = 16384 } ∷ [] })
+    room_for (params_of 8388608) none (wish e_path 40000 (Some three))
+    ≡ Ok (record {
+      map = mapped.Striped 8192;
+      extents = record { offset = 2162688; length = 16384 } ∷ record { offset = 4194304; length = 16384 }
+          ∷ record { offset = 6291456; length = 16384 } ∷ [];
+    })
 unfolding room_for strips offer room
 striped_file = refl
 

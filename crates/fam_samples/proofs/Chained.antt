@@ -38,13 +38,15 @@ module _ (start : Image) (state : Machines) (old : WorldView) (held : Held start
   told_refusal c = refusal_shown (length state.memory) state old c stands ∙ ap (refusal_in c old) lines_are
 
   -- a call that takes no media did its row
-  world_moves : (c : Call) (answered : Option Refusal) (new : WorldView) → IsSoundCall c → TakesNoMedia c (length start) old → WorldCall c (length start) answered old new → DoesRow start (Some state.memory) (Does c state) old new
+  world_moves : (c : Call) (answered : Option Refusal) (new : WorldView) → IsSoundCall c → TakesNoMedia c (length start) old
+      → WorldCall c (length start) answered old new → DoesRow start (Some state.memory) (Does c state) old new
   world_moves c answered new sound takes w =
       let takes' : TakesNoMedia c (length state.memory) old = subst (λ (n : ℕ). TakesNoMedia c n old) (sym lines_are) takes in
       let x = row_done state old stands c takes' in
       let same : world_after c (length state.memory) old ≡ new = ap (λ (n : ℕ). world_after c n old) lines_are ∙ sym w.after in
       let joined : new.journal ≡ old.journal ++ x.notes = sym (ap (λ (z : WorldView). z.journal) same) ∙ x.joined in
-      let here : WorldStands (length start) x.left new = subst (λ (z : WorldView). WorldStands (length start) x.left z) same (subst (λ (n : ℕ). WorldStands n x.left (world_after c (length state.memory) old)) lines_are x.stands) in
+      let here : WorldStands (length start) x.left new = subst (λ (z : WorldView). WorldStands (length start) x.left z) same
+      (subst (λ (n : ℕ). WorldStands n x.left (world_after c (length state.memory) old)) lines_are x.stands) in
       record {
         state = x.left;
         notes = x.notes;
@@ -61,7 +63,8 @@ module _ (start : Image) (state : Machines) (old : WorldView) (held : Held start
 
 -- a step that isn't refused is one operation
 module _ (files : Files) (name : List ℕ) (old new : Machines) (notes : List Note) where
-  by_host : (h : ℕ) → number_of name old ≡ Some h → idle_refusal h old ≡ None → (o : Option HostState) → OnHost o (λ host. ActsAt (call.Steps name) h host old notes new) → DoesOperations h 1 old notes new
+  by_host : (h : ℕ) → number_of name old ≡ Some h → idle_refusal h old ≡ None → (o : Option HostState)
+      → OnHost o (λ host. ActsAt (call.Steps name) h host old notes new) → DoesOperations h 1 old notes new
   by_host h number free None x = absurd x
   by_host h number free (Some host) x = inr (busy, new, notes, [], x, (refl, refl), sym (append-nil notes))
     where
@@ -76,11 +79,14 @@ module _ (files : Files) (name : List ℕ) (old new : Machines) (notes : List No
           back true e = refl
           back false e = absurd cc
 
-  step_event : (copied : ℕ) → refusal_of (call.Steps name) old ≡ None → Does (call.Steps name) old notes new → DoesEvent files (event.Step name 1) (record { machines = old; copied = copied }) notes (record { machines = new; copied = copied })
+  step_event : (copied : ℕ) → refusal_of (call.Steps name) old ≡ None → Does (call.Steps name) old notes new
+      → DoesEvent files (event.Step name 1) (record { machines = old; copied = copied }) notes (record { machines = new; copied = copied })
   unfolding refusal_of
   step_event copied free row = by_number (number_of name old) refl free (subst (λ (o : Option Refusal). ByRefusal name o notes old new (Acts (call.Steps name) old notes new)) free row)
     where
-      by_number : (o : Option ℕ) → number_of name old ≡ o → on_host o (λ h. idle_refusal h old) ≡ None → AtNumber o old (λ h host. ActsAt (call.Steps name) h host old notes new) → DoesEvent files (event.Step name 1) (record { machines = old; copied = copied }) notes (record { machines = new; copied = copied })
+      by_number : (o : Option ℕ) → number_of name old ≡ o → on_host o (λ h. idle_refusal h old) ≡ None
+          → AtNumber o old (λ h host. ActsAt (call.Steps name) h host old notes new)
+          → DoesEvent files (event.Step name 1) (record { machines = old; copied = copied }) notes (record { machines = new; copied = copied })
       by_number None number none x = absurd cc
       by_number (Some h) number none x = inl record { host = h; number = number; busy = none; does = by_host h number none (slice_get old.hosts h) x; copied = refl }
 
@@ -97,7 +103,8 @@ free_of c lines before now old new a = go (refusal_in c old lines) refl
 behind : (j n rest k : List Note) → k ≡ j ++ n → k ++ rest ≡ j ++ (n ++ rest)
 behind j n rest k is = ap (λ (z : List Note). z ++ rest) is ∙ append_assoc j n rest
 
-joined_all : (n1 n2 n3 n4 n5 n6 n7 j1 j2 j3 j4 j5 j6 j7 : List Note) → j1 ≡ [] ++ n1 → j2 ≡ j1 ++ n2 → j3 ≡ j2 ++ n3 → j4 ≡ j3 ++ n4 → j5 ≡ j4 ++ n5 → j6 ≡ j5 ++ n6 → j7 ≡ j6 ++ n7 → j7 ≡ n1 ++ (n2 ++ (n3 ++ (n4 ++ (n5 ++ (n6 ++ (n7 ++ []))))))
+joined_all : (n1 n2 n3 n4 n5 n6 n7 j1 j2 j3 j4 j5 j6 j7 : List Note) → j1 ≡ [] ++ n1 → j2 ≡ j1 ++ n2 → j3 ≡ j2 ++ n3 → j4 ≡ j3 ++ n4 → j5 ≡ j4 ++ n5
+    → j6 ≡ j5 ++ n6 → j7 ≡ j6 ++ n7 → j7 ≡ n1 ++ (n2 ++ (n3 ++ (n4 ++ (n5 ++ (n6 ++ (n7 ++ []))))))
 joined_all n1 n2 n3 n4 n5 n6 n7 j1 j2 j3 j4 j5 j6 j7 e1 e2 e3 e4 e5 e6 e7 =
     sym (append-nil j7)
     ∙ behind j6 n7 [] j7 e7
@@ -130,7 +137,8 @@ module _ (start : Image) (files : Files) (w : Wishes) (image : IsImage start) wh
       let m5 = t.finish.keeps start m4.state m4.told_is m4.held in
       let m6 = t.evict.keeps start m5.state m5.told_is m5.held in
       let m7 = world_moves start m6.state t.evicted.world m6.held (call.Halts w.name) None t.halted tt tt t.halt in
-      let free : refusal_of (call.Steps w.name) m3.state ≡ None = told_refusal start m3.state t.begun m3.held (call.Steps w.name) ∙ free_of (call.Steps w.name) (length start) t.made.faults t.stepped.faults t.begun t.stepped.world t.step.answers.answers in
+      let free : refusal_of (call.Steps w.name) m3.state ≡ None = told_refusal start m3.state t.begun m3.held (call.Steps w.name)
+      ∙ free_of (call.Steps w.name) (length start) t.made.faults t.stepped.faults t.begun t.stepped.world t.step.answers.answers in
       record {
         last = at_session m7.state;
         follows = (
@@ -200,16 +208,24 @@ module _ (start : Image) (files : Files) (w : Wishes) (image : IsImage start) wh
         left = m2.told_is;
         legal = m2.legal;
         reads = subst (λ (s : State). CutEventReads (event.Mkfs w.name w.fs 4096 65536 1 false None) (at_session m1.state) s m2.state.memory)
-            (sym (broken_state start (event.Mkfs w.name w.fs 4096 65536 1 false None) (at_session m1.state) (at_session m2.state) t.declared.journal m2.notes t.cut.world.journal (m2.row, refl) m2.joined)) m2.reads;
+            (sym (broken_state start (event.Mkfs w.name w.fs 4096 65536 1 false None) (at_session m1.state) (at_session m2.state) t.declared.journal
+            m2.notes t.cut.world.journal (m2.row, refl) m2.joined)) m2.reads;
       }
 
   pub out_of_memory : (t : OutOfMemoryTrace start w) → ComesTo start EndsOutOfMemory files (event.Host w.name w.uuid ∷ event.Finish w.name ∷ []) t.wanting.world t.wanting.told
   out_of_memory t =
       let m1 = world_moves start (unused start) empty_world first_held (call.Declares w.name w.uuid) None t.declared w.is_uuid tt t.host in
       let m2 = t.finish.parts start m1.state m1.told_is m1.held in
-      record { last = at_session m2.state; follows = by_part m1.state m1.notes m1.row m2.state m2.notes _ (m2.joined ∙ ap (λ (j : List Note). j ++ m2.notes) m1.joined) m2.row; left = m2.told_is; held = m2.held }
+      record {
+        last = at_session m2.state;
+        follows = by_part m1.state m1.notes m1.row m2.state m2.notes _
+            (m2.joined ∙ ap (λ (j : List Note). j ++ m2.notes) m1.joined) m2.row;
+        left = m2.told_is;
+        held = m2.held;
+      }
     where
-      by_part : (mid : Machines) (first : List Note) → Does (call.Declares w.name w.uuid) (unused start) first mid → (new : Machines) (notes journal : List Note) → journal ≡ first ++ notes → FinishPart w.name mid notes new
+      by_part : (mid : Machines) (first : List Note) → Does (call.Declares w.name w.uuid) (unused start) first mid
+          → (new : Machines) (notes journal : List Note) → journal ≡ first ++ notes → FinishPart w.name mid notes new
           → EventsDone EndsOutOfMemory files (event.Host w.name w.uuid ∷ event.Finish w.name ∷ []) (first_session start) journal (at_session new)
       by_part mid first row new notes journal joined (inr x) = inl record { count = 1; follows = (at_session mid, first, notes, (row, refl), (x.0, ap at_session x.1), joined) }
       by_part mid first row new notes journal joined (inl x) = by_busy (busy_at x.host mid) refl

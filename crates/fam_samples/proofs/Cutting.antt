@@ -84,7 +84,9 @@ module _ (me fs : List ℕ) (is_uuid : IsUuid fs) (image : Image) (enough : need
     shape = λ is. cut_shape me journal finmap.empty (with_cell 0 Absent finmap.empty) is fs lines enough 0;
   }
 
-  module _ (start : Image) (state : Machines) (held : Held start state old state.memory) (same : image ≡ state.memory) (lines_are : length state.memory ≡ length start) (stands : WorldStands (length state.memory) state old) (host : HostState) (host_is : slice_get state.hosts 0 ≡ Some host) (mine : HostStands (length state.memory) host (world_host me finmap.empty None)) where
+  module _ (start : Image) (state : Machines) (held : Held start state old state.memory) (same : image ≡ state.memory)
+      (lines_are : length state.memory ≡ length start) (stands : WorldStands (length state.memory) state old) (host : HostState)
+      (host_is : slice_get state.hosts 0 ≡ Some host) (mine : HostStands (length state.memory) host (world_host me finmap.empty None)) where
     abbrev p : Params
     p = asked (mkfs_request fs 4096 65536 1 true None) host.uuid (length state.memory)
 
@@ -132,7 +134,8 @@ module _ (me fs : List ℕ) (is_uuid : IsUuid fs) (image : Image) (enough : need
     new_stands : WorldStands (length start) left new
     new_stands =
         subst (λ (n : ℕ). WorldStands n left new) lines_are
-        (stands_changed 0 (world_host me finmap.empty None) old.hosts refl (λ v. record v { cache = with_cell 0 Absent finmap.empty }) (length state.memory) state.hosts host host_is (λ z. record z { cache = behind.cache; task = host.task })
+        (stands_changed 0 (world_host me finmap.empty None) old.hosts refl (λ v. record v { cache = with_cell 0 Absent finmap.empty })
+        (length state.memory) state.hosts host host_is (λ z. record z { cache = behind.cache; task = host.task })
         record { name = mine.name; uuid = mine.uuid; cache = ap (with_cell 0 Absent) mine.cache; task = mine.task; kept = mine.kept; joined = mine.joined } stands)
 
     breaks : LeavesBroken start (Some image) call state old new

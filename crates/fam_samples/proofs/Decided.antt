@@ -18,7 +18,8 @@ use Rattle.fam_journal.specs.Past.{HostPast}
 use Rattle.fam_samples.specs.Scene.{client_uuid, folder, master, mkdir, params, x, y}
 
 -- what is decided is that of the host's own command
-pub decides : (p : Params) (host : HostPast) (history : List File) (decision : Result Entry Refused) (cmd : Cmd) → host.cmd ≡ Some cmd → IsDecided p host history None decision → decide p host.uuid (entries_of history) cmd ≡ Some decision
+pub decides : (p : Params) (host : HostPast) (history : List File) (decision : Result Entry Refused) (cmd : Cmd) → host.cmd ≡ Some cmd
+    → IsDecided p host history None decision → decide p host.uuid (entries_of history) cmd ≡ Some decision
 decides p host history decision cmd told d =
     subst (λ (c : Cmd). decide p host.uuid (entries_of history) c ≡ Some decision) (same_Some d.cmd cmd (sym d.told ∙ told)) d.is
 

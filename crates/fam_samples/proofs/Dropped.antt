@@ -51,7 +51,9 @@ differ p history (Some f) image found right wrong =
     joined = subst (λ (b : Bool). ReadsAs (if b then Sound p (history ++ f ∷ []) None else Sound p history (Some f)) image) (same_test (length history + 1)) found_more
 
     dropped : ReadsAs (Sound p history None) image
-    dropped = subst (λ (b : Bool). ReadsAs (if b then Sound p history None else if length history + 1 == length history then Sound p history None else Sound p history (Some f)) image) (same_test (length history + 1)) wrong
+    dropped = subst (λ (b : Bool). ReadsAs
+        (if b then Sound p history None else if length history + 1 == length history then Sound p history None else Sound p history (Some f)) image)
+        (same_test (length history + 1)) wrong
 
     longer : count_in (reading image) ≡ length history + 1
     longer = solo p (history ++ f ∷ []) image joined ∙ length-append history (f ∷ [])
@@ -59,7 +61,9 @@ differ p history (Some f) image found right wrong =
     shorter : count_in (reading image) ≡ length history
     shorter = solo p history image dropped
 
-pub misread : (start : Image) (state : Machines) (world : WorldView) (image : Image) (notes : List Note) (host : ℕ) (p : Params) (history : List File) (pending : Option File) → Held start state world image → (past_of start notes).state ≡ Sound p history pending → world.journal ≡ notes ++ Found host (length history + 1) ∷ [] → ReadsAs (drops_any (length history + 1) (Sound p history pending)) image → ⊥
+pub misread : (start : Image) (state : Machines) (world : WorldView) (image : Image) (notes : List Note) (host : ℕ) (p : Params) (history : List File)
+    (pending : Option File) → Held start state world image → (past_of start notes).state ≡ Sound p history pending
+    → world.journal ≡ notes ++ Found host (length history + 1) ∷ [] → ReadsAs (drops_any (length history + 1) (Sound p history pending)) image → ⊥
 misread start state world image notes host p history pending held was is wrong = differ p history pending image found right wrong
   where
     legal : Legal start (notes ++ Found host (length history + 1) ∷ [])

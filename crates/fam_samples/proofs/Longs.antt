@@ -21,7 +21,8 @@ path_of None = []
 path_of (Some w) = w.path
 
 -- of a mkdir that may append it is said that its path is too long, just where it is
-pub long_named : (p : Params) (host : HostPast) (path : List ℕ) (limit : ℕ) → host.cmd ≡ Some (mkdir path) → p.format ≡ first_number → host.uuid ≡ p.master → limit ≡ (geometry p).path_limit → limit < length path → IsLong limit host (Sound p [] None)
+pub long_named : (p : Params) (host : HostPast) (path : List ℕ) (limit : ℕ) → host.cmd ≡ Some (mkdir path) → p.format ≡ first_number
+    → host.uuid ≡ p.master → limit ≡ (geometry p).path_limit → limit < length path → IsLong limit host (Sound p [] None)
 long_named p host path limit told format master limit_is above = record {
   params = p;
   super = refl;

@@ -139,7 +139,9 @@ module _ (me fs : List ℕ) (is_uuid : IsUuid fs) (image : Image) (enough : need
 
   pub free : refusal_in (Makes (codes "m") (mkfs_request fs 4096 65536 1 true None)) old lines ≡ None
   unfolding refusal_of
-  free = ap (λ (t : Bool). or_else (option_map cause_of (if t then Some (TooSmall (need 65536 4096) (line_bytes * length (shown_state old lines).memory)) else None)) None) (not_small (length (shown_state old lines).memory) (length-replicate lines []))
+  free = ap (λ (t : Bool). or_else
+      (option_map cause_of (if t then Some (TooSmall (need 65536 4096) (line_bytes * length (shown_state old lines).memory)) else None)) None)
+      (not_small (length (shown_state old lines).memory) (length-replicate lines []))
 
   fits : FitsMedia lines new.hosts
   fits zero view is =
@@ -169,7 +171,9 @@ module _ (me fs : List ℕ) (is_uuid : IsUuid fs) (image : Image) (enough : need
     shape = λ is. made_shape me journal finmap.empty done.cache is fs lines enough;
   }
 
-  module _ (start : Image) (state : Machines) (held : Held start state old state.memory) (same : image ≡ state.memory) (lines_are : length state.memory ≡ length start) (stands : WorldStands (length state.memory) state old) (host : HostState) (host_is : slice_get state.hosts 0 ≡ Some host) (mine : HostStands (length state.memory) host (world_host me finmap.empty None)) where
+  module _ (start : Image) (state : Machines) (held : Held start state old state.memory) (same : image ≡ state.memory)
+      (lines_are : length state.memory ≡ length start) (stands : WorldStands (length state.memory) state old) (host : HostState)
+      (host_is : slice_get state.hosts 0 ≡ Some host) (mine : HostStands (length state.memory) host (world_host me finmap.empty None)) where
     abbrev call : Call
     call = Makes (codes "m") (mkfs_request fs 4096 65536 1 true None)
 
@@ -205,7 +209,8 @@ module _ (me fs : List ℕ) (is_uuid : IsUuid fs) (image : Image) (enough : need
     new_stands : WorldStands (length start) left new
     new_stands =
         subst (λ (n : ℕ). WorldStands n left new) lines_are
-        (stands_changed 0 (world_host me finmap.empty None) old.hosts refl (λ v. record v { cache = done.cache }) (length state.memory) state.hosts host host_is (λ z. record z { cache = behind.cache; task = host.task })
+        (stands_changed 0 (world_host me finmap.empty None) old.hosts refl (λ v. record v { cache = done.cache })
+        (length state.memory) state.hosts host host_is (λ z. record z { cache = behind.cache; task = host.task })
         record { name = mine.name; uuid = mine.uuid; cache = ap (λ (z : Machine). (operated_all (mkfs_ops p) z).cache) machine_is; task = mine.task; kept = mine.kept; joined = mine.joined } stands)
 
     moves : DoesRow start (Some done.image) (Does call state) old new

@@ -51,11 +51,15 @@ module _ (me : List ℕ) (journal : List Note) (cache now : Cache) (is : IsShape
     not_small n is = grind (arith, nat_tests, is, enough)
 
     free_m : refusal_told call lines (shape_m me ∷ []) ≡ None
-    free_m = ap (λ (t : Bool). or_else (option_map cause_of (if t then Some (TooSmall (need 65536 4096) (line_bytes * length (shown_shapes lines (shape_m me ∷ [])).memory)) else None)) None) (not_small (length (shown_shapes lines (shape_m me ∷ [])).memory) (length-replicate lines []))
+    free_m = ap (λ (t : Bool). or_else
+        (option_map cause_of (if t then Some (TooSmall (need 65536 4096) (line_bytes * length (shown_shapes lines (shape_m me ∷ [])).memory)) else
+        None)) None) (not_small (length (shown_shapes lines (shape_m me ∷ [])).memory) (length-replicate lines []))
 
     made_one : DoesShape call lines (shape_m me ∷ []) (Made 0 (asked (mkfs_request fs 4096 65536 1 true None) me lines) ∷ [])
     made_one =
-        subst (λ (o : Option Refusal). ShapeByRefusal (codes "m") o (Made 0 (asked (mkfs_request fs 4096 65536 1 true None) me lines) ∷ []) (FreeShape call lines (shape_m me ∷ []) (Made 0 (asked (mkfs_request fs 4096 65536 1 true None) me lines) ∷ []))) (sym free_m) (inl (inl refl))
+        subst (λ (o : Option Refusal). ShapeByRefusal (codes "m") o (Made 0 (asked (mkfs_request fs 4096 65536 1 true None) me lines) ∷ [])
+        (FreeShape call lines (shape_m me ∷ []) (Made 0 (asked (mkfs_request fs 4096 65536 1 true None) me lines) ∷ []))) (sym free_m)
+        (inl (inl refl))
 
     -- what it adds, and what it adds where a media fault cuts it
     pub made_shape : CallShape call lines (shapes_of journal) (Made 0 (asked (mkfs_request fs 4096 65536 1 true None) me lines) ∷ [])

@@ -67,7 +67,8 @@ module _ (me : List ℕ) (lines : ℕ) (journal : List Note) where
         named = tt;
         hosts = refl;
         fits = λ was. fits;
-        shaped = λ is. subst (λ (z : List Note). IsShaped (record { hosts = new.hosts; journal = z })) (append-nil journal) (world_shaped old is 0 (world_host me finmap.empty (Some t)) refl t refl 0 (with_cell 0 Absent finmap.empty));
+        shaped = λ is. subst (λ (z : List Note). IsShaped (record { hosts = new.hosts; journal = z })) (append-nil journal)
+            (world_shaped old is 0 (world_host me finmap.empty (Some t)) refl t refl 0 (with_cell 0 Absent finmap.empty));
       };
       said = refl;
       refused = λ cause is. absurd (let none = free in cc);
@@ -87,7 +88,8 @@ module _ (me : List ℕ) (lines : ℕ) (journal : List Note) where
         state = x.left;
         notes = [];
         row = x.row;
-        told_is = ap Some (same ∙ sym (x.memory ∙ ap (λ (c : Cell). with_line 0 (sent (line_at state.memory 0) c) state.memory) (cell_at-empty 0) ∙ with_line-line_at state.memory held.kept.held.normal 0));
+        told_is = ap Some (same ∙ sym (x.memory ∙ ap (λ (c : Cell). with_line 0 (sent (line_at state.memory 0) c) state.memory) (cell_at-empty 0)
+            ∙ with_line-line_at state.memory held.kept.held.normal 0));
         joined = sym (append-nil journal);
         held = kept_on start state x.left old new (Steps (codes "m")) [] held tt x.row stands (sym (append-nil journal));
       }

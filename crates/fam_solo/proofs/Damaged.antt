@@ -60,7 +60,9 @@ damaged_by image (BadHeader fault) bad = refl
 damaged_by image (BadSlot i reason) bad = refl
 damaged_by image (Sound p entries) bad = absurd (bad p entries refl)
 
-module _ (kept : Option Kept) (cmd : Cmd) (me : List ℕ) (image : Image) (cache : Cache) (enough : least_lines ≤ length image) (limit : line_bytes * length image ≤ device_limit) (normal : map eight image ≡ image) (clean : IsClean cache) (command : IsCommand cmd) (joined : IsKept kept) (front : KeepsFront (settled_at_first image) kept)
+module _ (kept : Option Kept) (cmd : Cmd) (me : List ℕ) (image : Image) (cache : Cache) (enough : least_lines ≤ length image)
+    (limit : line_bytes * length image ≤ device_limit) (normal : map eight image ≡ image) (clean : IsClean cache) (command : IsCommand cmd)
+    (joined : IsKept kept) (front : KeepsFront (settled_at_first image) kept)
     (bad : (p : Params) (entries : List Entry) → reading_of (line_at image) (line_bytes * length image) ≢ Sound p entries) where
   -- the image is damaged throughout
   pub record OnBad (t : Task) (m : Machine) : Type 0 where
@@ -71,7 +73,9 @@ module _ (kept : Option Kept) (cmd : Cmd) (me : List ℕ) (image : Image) (cache
   moved : {t next : Task} {m : Machine} → Some t ≡ Some next → OnBad t m → OnBad next m
   moved {t} {next} {m} is on = subst (λ (x : Task). OnBad x m) (same_Some t next is) on
 
-  by_turn : (floor : Option ℕ) (turn : Turn) (t next : Task) (m : Machine) → Stepped kept (Damaged (line_at image)) (length image) me (run_of t floor None) turn m → SaysAt t.phase t.cmd turn → task_after turn ≡ Some next → OnBad next m
+  by_turn : (floor : Option ℕ) (turn : Turn) (t next : Task) (m : Machine)
+      → Stepped kept (Damaged (line_at image)) (length image) me (run_of t floor None) turn m → SaysAt t.phase t.cmd turn
+      → task_after turn ≡ Some next → OnBad next m
   by_turn floor (Goes x) t next m step says is = moved is record { floor = floor; invariant = step.invariant; before = says }
   by_turn floor (Marks x) t next m step says is = moved is record { floor = Some 0; invariant = step.invariant; before = says }
   by_turn floor (Finds n x) t next m step says is = moved is record { floor = floor; invariant = step.invariant; before = says }
@@ -81,12 +85,16 @@ module _ (kept : Option Kept) (cmd : Cmd) (me : List ℕ) (image : Image) (cache
   pub on_bad : (t : Task) (words : List ℕ) (made : ℕ) (m : Machine) → SoloRun kept cmd me image cache t words made m → OnBad t m
   on_bad t words made m starts = record {
     floor = None;
-    invariant = subst (λ (x : Settled). Invariant x (length image) (hosts_of kept me (Some (run_of t None None))) (shared m)) (damaged_by (line_at image) (reading_of (line_at image) (line_bytes * length image)) bad) (invariant_first kept cmd me image cache enough limit clean command front);
+    invariant = subst (λ (x : Settled). Invariant x (length image) (hosts_of kept me (Some (run_of t None None))) (shared m))
+        (damaged_by (line_at image) (reading_of (line_at image) (line_bytes * length image)) bad)
+        (invariant_first kept cmd me image cache enough limit clean command front);
     before = tt;
   }
   on_bad next _ _ _ (goes {t = t} {words = words} {made = made} {m = m} before inside is) =
       let on : OnBad t m = on_bad t words made m before in
-      by_turn on.floor (turn_on t m) t next (operated (op_of t) m) (stepped kept (Damaged (line_at image)) (length image) me (run_of t on.floor None) m on.invariant inside) (turn_says t.phase t (word_of t m) on.before refl) is
+      by_turn on.floor (turn_on t m) t next (operated (op_of t) m)
+      (stepped kept (Damaged (line_at image)) (length image) me (run_of t on.floor None) m on.invariant inside)
+      (turn_says t.phase t (word_of t m) on.before refl) is
 
   -- what it answers
   module _ (t : Task) (cmd_is : t.cmd ≡ cmd) (me_is : t.me ≡ me) (p : Phase) (s : SharedState) (phase : AtDamagedPhase p (line_at image) (line_bytes * length image) 0 t s)
@@ -121,11 +129,14 @@ module _ (kept : Option Kept) (cmd : Cmd) (me : List ℕ) (image : Image) (cache
   damaged_first : settled_at_first image ≡ Damaged (line_at image)
   damaged_first = first_settled image enough ∙ damaged_by (line_at image) (reading_of (line_at image) (line_bytes * length image)) bad
 
-  still_damaged : (t : Task) (words : List ℕ) (made : ℕ) (m : Machine) → (ran : SoloRun kept cmd me image cache t words made m) → settles_up_to kept cmd me image cache t words made m ran (Damaged (line_at image)) ≡ Damaged (line_at image)
+  still_damaged : (t : Task) (words : List ℕ) (made : ℕ) (m : Machine) → (ran : SoloRun kept cmd me image cache t words made m)
+      → settles_up_to kept cmd me image cache t words made m ran (Damaged (line_at image)) ≡ Damaged (line_at image)
   still_damaged t words made m starts = refl
   still_damaged next _ _ _ (goes {t = t} {words = words} {made = made} {m = m} ran inside is) = ap (turn_settles (turn_on t m)) (still_damaged t words made m ran)
 
-  pub bad_ends : (t : Task) (words : List ℕ) (made : ℕ) (m : Machine) (given : Reply) → (ran : SoloRun kept cmd me image cache t words made m) → IsInImage (op_of t) m → turn_on t m ≡ Ends given → Answers image me cmd given (operated (op_of t) m).image × IsClean (operated (op_of t) m).cache
+  pub bad_ends : (t : Task) (words : List ℕ) (made : ℕ) (m : Machine) (given : Reply) → (ran : SoloRun kept cmd me image cache t words made m)
+      → IsInImage (op_of t) m → turn_on t m ≡ Ends given → Answers image me cmd given (operated (op_of t) m).image
+      × IsClean (operated (op_of t) m).cache
       × (turn_settles (Ends given) (settles_up_to kept cmd me image cache t words made m ran (settled_at_first image)) ≡ settled_at_first (operated (op_of t) m).image)
   bad_ends t words made m given ran inside is =
       let on : OnBad t m = on_bad t words made m ran in

@@ -31,7 +31,8 @@ use Rattle.fam_protocol.proofs.Lines.Moves.{fresh_current}
 
 -- One operation on a machine with the image in memory and nothing to send.
 
-module _ (image : Image) (me : List ℕ) (m : Machine) (normal : map eight m.image ≡ m.image) (image_is : m.image ≡ image) (clean : IsClean m.cache) (t : Task) (is_fsck : t.cmd ≡ Fsck) (me_is : t.me ≡ me) (lines : line_bytes * t.lines ≡ line_bytes * length image) where
+module _ (image : Image) (me : List ℕ) (m : Machine) (normal : map eight m.image ≡ m.image) (image_is : m.image ≡ image) (clean : IsClean m.cache)
+    (t : Task) (is_fsck : t.cmd ≡ Fsck) (me_is : t.me ≡ me) (lines : line_bytes * t.lines ≡ line_bytes * length image) where
   bare : Bare (line_at image) (line_bytes * length image) t.cmd
   bare = record { wide = λ l. refl; bad = λ other. absurd (other is_fsck) }
 
@@ -58,16 +59,30 @@ module _ (image : Image) (me : List ℕ) (m : Machine) (normal : map eight m.ima
 
   says : (p : Phase) → AtDamagedPhase p (line_at image) (line_bytes * length image) 0 t (shared m) → Turned p (turn_at p t (unwrap_or (given (op_at t p) m) 0))
   says at.DropMagic a = record { may = tt; task = record { me = mine; lines = lines; phase = (none_moved (line_at image) (line_bytes * length image) t at.Magic t.words a, dropped 0) } }
-  says at.Magic a = magic_says (line_at image) (line_bytes * length image) (only (Some me) None) 0 (shared (then at.Magic)) t bare mine lines (unwrap_or (given (op_at t at.Magic) m) 0) a.0 (loads 0 0 a.1)
-  says (at.Drop part j) a = drop_says (line_at image) (line_bytes * length image) (only (Some me) None) 0 (shared (then (at.Drop part j))) t bare mine lines part j a.0 a.1 a.2 (dropped (part_line t part j))
+  says at.Magic a = magic_says (line_at image) (line_bytes * length image) (only (Some me) None) 0 (shared (then at.Magic)) t bare mine lines
+      (unwrap_or (given (op_at t at.Magic) m) 0) a.0 (loads 0 0 a.1)
+  says (at.Drop part j) a = drop_says (line_at image) (line_bytes * length image) (only (Some me) None) 0 (shared (then (at.Drop part j))) t bare mine
+      lines part j a.0 a.1 a.2 (dropped (part_line t part j))
   says (at.Word part j k) a =
-      word_says (line_at image) (line_bytes * length image) (only (Some me) None) 0 (shared (then (at.Word part j k))) t bare mine lines part j k (unwrap_or (given (op_at t (at.Word part j k)) m) 0) a.0 a.1 a.2 (loaded (part_line t part j) k a.3) a.4 (loads (part_line t part j) k a.3)
+      word_says (line_at image) (line_bytes * length image) (only (Some me) None) 0 (shared (then (at.Word part j k))) t bare mine lines part j k
+      (unwrap_or (given (op_at t (at.Word part j k)) m) 0) a.0 a.1 a.2 (loaded (part_line t part j) k a.3) a.4 (loads (part_line t part j) k a.3)
   says at.DropGate a = record {
     may = tt;
-    task = record { me = mine; lines = lines; phase = (none_moved (line_at image) (line_bytes * length image) t at.Gate t.words a.0, a.1, header_moved (line_at image) (line_bytes * length image) t at.Gate t.words a.2, dropped gate_line) };
+    task = record {
+      me = mine;
+      lines = lines;
+      phase = (
+        none_moved (line_at image) (line_bytes * length image) t at.Gate t.words a.0,
+        a.1,
+        header_moved (line_at image) (line_bytes * length image) t at.Gate t.words a.2,
+        dropped gate_line,
+      );
+    };
   }
-  says at.Gate a = gate_says (line_at image) (line_bytes * length image) (only (Some me) None) 0 (shared (then at.Gate)) t bare mine lines (unwrap_or (given (op_at t at.Gate) m) 0) a.0 a.1 a.2 (loads gate_line 0 a.3)
-  says (at.Check i) a = slot_says (line_at image) (line_bytes * length image) (only (Some me) None) 0 (shared (then (at.Check i))) t bare mine lines i a.0 a.1 (a.2 ∙ slot_words_are (line_at image) t i)
+  says at.Gate a = gate_says (line_at image) (line_bytes * length image) (only (Some me) None) 0 (shared (then at.Gate)) t bare mine lines
+      (unwrap_or (given (op_at t at.Gate) m) 0) a.0 a.1 a.2 (loads gate_line 0 a.3)
+  says (at.Check i) a = slot_says (line_at image) (line_bytes * length image) (only (Some me) None) 0 (shared (then (at.Check i))) t bare mine lines i
+      a.0 a.1 (a.2 ∙ slot_words_are (line_at image) t i)
   says at.Decide a = decide_says (line_at image) (line_bytes * length image) (only (Some me) None) 0 (shared (then at.Decide)) t bare mine lines a
   says e a = absurd a
 
@@ -93,7 +108,8 @@ module _ (kept : Option Kept) (me : List ℕ) (image : Image) (cache : Cache) (n
     turned : BadTurn (turn_on t m) (line_at image) (line_bytes * length image) (only (Some me) None) 0 t (shared (operated (op_of t) m))
     unfolding Holds
     turned =
-        says image me m (ran_normal kept Fsck me image cache normal t words made m ran) looks.image_is looks.clean t (ran_cmd kept Fsck me image cache joined t words made m ran) (same_Some t.me me (sym holds.me)) holds.lines t.phase holds.phase
+        says image me m (ran_normal kept Fsck me image cache normal t words made m ran) looks.image_is looks.clean t
+        (ran_cmd kept Fsck me image cache joined t words made m ran) (same_Some t.me me (sym holds.me)) holds.lines t.phase holds.phase
 
   ran_holds : (t : Task) (words : List ℕ) (made : ℕ) (m : Machine) → SoloRun kept Fsck me image cache t words made m → Holds t m
   unfolding Holds class_used
@@ -102,7 +118,8 @@ module _ (kept : Option Kept) (me : List ℕ) (image : Image) (cache : Cache) (n
       by_turn (turn_on t m) next (operated (op_of t) m) (turned t words made m ran (ran_holds t words made m ran)).task is
 
   -- a check of the whole file system reports
-  reported : (t : Task) (p : Phase) (given : Reply) → MayReplyBad given (line_at image) (line_bytes * length image) t → EndsAt p Fsck given → given ≡ Reports (report_of (line_at image) (line_bytes * length image))
+  reported : (t : Task) (p : Phase) (given : Reply) → MayReplyBad given (line_at image) (line_bytes * length image) t → EndsAt p Fsck given
+      → given ≡ Reports (report_of (line_at image) (line_bytes * length image))
   reported t p (Appended seq) may ends = absurd ends
   reported t p (NotAppended refused) may ends = absurd (let none = ends.1 in cc)
   reported t p (Reports report) may ends = ap Reports may
@@ -111,7 +128,8 @@ module _ (kept : Option Kept) (me : List ℕ) (image : Image) (cache : Cache) (n
   reported t p (BadSlot i reason) may ends = absurd (ends.1 refl)
   reported t p other may ends = absurd may
 
-  pub fsck_reports : (t : Task) (words : List ℕ) (made : ℕ) (m : Machine) (given : Reply) → SoloRun kept Fsck me image cache t words made m → turn_on t m ≡ Ends given → given ≡ Reports (report_of (line_at image) (line_bytes * length image))
+  pub fsck_reports : (t : Task) (words : List ℕ) (made : ℕ) (m : Machine) (given : Reply) → SoloRun kept Fsck me image cache t words made m
+      → turn_on t m ≡ Ends given → given ≡ Reports (report_of (line_at image) (line_bytes * length image))
   fsck_reports t words made m given ran is =
       let holds : Holds t m = ran_holds t words made m ran in
       let fsck : t.cmd ≡ Fsck = ran_cmd kept Fsck me image cache joined t words made m ran in

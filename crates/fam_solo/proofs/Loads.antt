@@ -226,10 +226,12 @@ module _ (m : Machine) (normal : map eight m.image ≡ m.image) (clean : IsClean
   fresh_then e t before f = absurd before
 
 -- the word of a load is the image's
-word_given : (image : Image) (m : Machine) (p : Phase) (t : Task) → (IsBeforeWrites p → m.image ≡ image) → (IsBeforeWrites p → FreshAt (loads_from p t) m) → given (op_at t p) m ≡ image_word image (op_at t p)
+word_given : (image : Image) (m : Machine) (p : Phase) (t : Task) → (IsBeforeWrites p → m.image ≡ image)
+    → (IsBeforeWrites p → FreshAt (loads_from p t) m) → given (op_at t p) m ≡ image_word image (op_at t p)
 word_given image m p t same fresh = by_phase p same fresh
   where
-    loaded : (l k : ℕ) → m.image ≡ image → Fresh (line_at m.image l) (cell_at m.cache l) → Some (slice_index (current (line_at m.image l) (cell_at m.cache l)) k) ≡ Some (slice_index (line_at image l) k)
+    loaded : (l k : ℕ) → m.image ≡ image → Fresh (line_at m.image l) (cell_at m.cache l)
+        → Some (slice_index (current (line_at m.image l) (cell_at m.cache l)) k) ≡ Some (slice_index (line_at image l) k)
     loaded l k is f = ap (λ (w : List ℕ). Some (slice_index w k)) (fresh_current (line_at m.image l) (cell_at m.cache l) f ∙ ap (λ (i : Image). line_at i l) is)
 
     by_phase : (p : Phase) → (IsBeforeWrites p → m.image ≡ image) → (IsBeforeWrites p → FreshAt (loads_from p t) m) → given (op_at t p) m ≡ image_word image (op_at t p)
@@ -257,7 +259,8 @@ module _ (kept : Option Kept) (cmd : Cmd) (me : List ℕ) (image : Image) (cache
       word_given image m t.phase t (λ before. (ran_looks kept cmd me image cache normal clean t words made m ran before).image_is) (λ before. ran_fresh t words made m ran before)
 
   -- so the image tells where the command stands
-  pub ran_told : (t : Task) (words : List ℕ) (made : ℕ) (m : Machine) → (ran : SoloRun kept cmd me image cache t words made m) → stand_after kept cmd me image made ≡ Some (record { task = t; words = words; notes = notes_up_to kept cmd me image cache t words made m ran })
+  pub ran_told : (t : Task) (words : List ℕ) (made : ℕ) (m : Machine) → (ran : SoloRun kept cmd me image cache t words made m)
+      → stand_after kept cmd me image made ≡ Some (record { task = t; words = words; notes = notes_up_to kept cmd me image cache t words made m ran })
   ran_told t words made m starts = refl
   ran_told next _ _ _ (goes {t = t} {words = words} {made = made} {m = m} ran inside is) =
       let word : given (op_of t) m ≡ image_word image (op_of t) = given_told t words made m ran in
@@ -270,14 +273,16 @@ module _ (kept : Option Kept) (cmd : Cmd) (me : List ℕ) (image : Image) (cache
       ∙ ap (option_map (λ (x : Task). record { task = x; words = with_given words (given (op_of t) m); notes = notes ++ noted (note_of (turn_on t m)) })) is
 
   -- and so its turn
-  pub turn_told : (t : Task) (words : List ℕ) (made : ℕ) (m : Machine) → (ran : SoloRun kept cmd me image cache t words made m) → image_turn image (record { task = t; words = words; notes = notes_up_to kept cmd me image cache t words made m ran }) ≡ turn_on t m
+  pub turn_told : (t : Task) (words : List ℕ) (made : ℕ) (m : Machine) → (ran : SoloRun kept cmd me image cache t words made m)
+      → image_turn image (record { task = t; words = words; notes = notes_up_to kept cmd me image cache t words made m ran }) ≡ turn_on t m
   turn_told t words made m ran = ap (turn_of t) (sym (given_told t words made m ran))
 
 -- By the image alone.
 
 none_after : (kept : Option Kept) (cmd : Cmd) (me : List ℕ) (image : Image) (n more : ℕ) → stand_after kept cmd me image n ≡ None → stand_after kept cmd me image (n + more) ≡ None
 none_after kept cmd me image n zero none = let same : n + 0 ≡ n = omega arith in ap (stand_after kept cmd me image) same ∙ none
-none_after kept cmd me image n (suc more) none = let same : n + suc more ≡ suc (n + more) = omega arith in ap (stand_after kept cmd me image) same ∙ ap (stand_next image) (none_after kept cmd me image n more none)
+none_after kept cmd me image n (suc more) none = let same : n + suc more ≡ suc (n + more) = omega arith in ap (stand_after kept cmd me image) same
+    ∙ ap (stand_next image) (none_after kept cmd me image n more none)
 
 module _ (kept : Option Kept) (cmd : Cmd) (me : List ℕ) (image : Image) where
   -- where a command ends it goes no further
@@ -285,7 +290,13 @@ module _ (kept : Option Kept) (cmd : Cmd) (me : List ℕ) (image : Image) where
   ends_there n s reply stands ends =
       let next : n + 1 ≡ suc n = omega arith in
       ap (stand_after kept cmd me image) next ∙ ap (stand_next image) stands
-      ∙ ap (λ (turn : Turn). option_map (λ (x : Task). record { task = x; words = with_given s.words (image_word image (op_of s.task)); notes = s.notes ++ noted (note_of (image_turn image s)) }) (task_after turn)) ends
+      ∙ ap (λ (turn : Turn). option_map
+      (λ (x : Task). record {
+        task = x;
+        words = with_given s.words (image_word image (op_of s.task));
+        notes =
+            s.notes ++ noted (note_of (image_turn image s));
+      }) (task_after turn)) ends
 
   not_later : (n : ℕ) (s : Stand) (k : ℕ) → stand_after kept cmd me image (k + 1) ≡ None → stand_after kept cmd me image n ≡ Some s → k < n → ⊥
   not_later n s k none some less =
@@ -294,7 +305,8 @@ module _ (kept : Option Kept) (cmd : Cmd) (me : List ℕ) (image : Image) where
       absurd (let both = sym (ap (stand_after kept cmd me image) same) ∙ gone in cc)
 
   -- so it ends at one place, with the same words and the same notes
-  module _ (n k : ℕ) (s r : Stand) (reply answer : Reply) (stands : stand_after kept cmd me image n ≡ Some s) (ends : image_turn image s ≡ Ends reply) (stands' : stand_after kept cmd me image k ≡ Some r) (ends' : image_turn image r ≡ Ends answer) where
+  module _ (n k : ℕ) (s r : Stand) (reply answer : Reply) (stands : stand_after kept cmd me image n ≡ Some s) (ends : image_turn image s ≡ Ends reply)
+      (stands' : stand_after kept cmd me image k ≡ Some r) (ends' : image_turn image r ≡ Ends answer) where
     pub same_count : n ≡ k
     same_count = elim (cases_order n k) [
       | inl same ↦ same

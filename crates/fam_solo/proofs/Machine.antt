@@ -154,12 +154,14 @@ module _ (m : Machine) (normal : map eight m.image ≡ m.image) (clean : IsClean
   quiet_clean Digest quiet = clean
 
   -- a copy that can't be stale stays so
-  still_fresh : (line : ℕ) (cell : Cell) → (Fresh (line_at m.image line) (cell_at m.cache line) → Fresh (line_at m.image line) cell) → (l : ℕ) → Fresh (line_at m.image l) (cell_at m.cache l) → Fresh (line_at m.image l) (cell_at (with_cell line cell m.cache) l)
+  still_fresh : (line : ℕ) (cell : Cell) → (Fresh (line_at m.image line) (cell_at m.cache line) → Fresh (line_at m.image line) cell) → (l : ℕ)
+      → Fresh (line_at m.image l) (cell_at m.cache l) → Fresh (line_at m.image l) (cell_at (with_cell line cell m.cache) l)
   still_fresh line cell keeps l f =
       elim (cases_eq l line) [
         | inl same ↦
             let here = keeps (subst (λ (k : ℕ). Fresh (line_at m.image k) (cell_at m.cache k)) same f) in
-            subst (λ (k : ℕ). Fresh (line_at m.image k) (cell_at (with_cell line cell m.cache) k)) (sym same) (subst (Fresh (line_at m.image line)) (sym (cell_at-with_cell_same line cell m.cache)) here)
+            subst (λ (k : ℕ). Fresh (line_at m.image k) (cell_at (with_cell line cell m.cache) k)) (sym same)
+            (subst (Fresh (line_at m.image line)) (sym (cell_at-with_cell_same line cell m.cache)) here)
         | inr other ↦ subst (Fresh (line_at m.image l)) (sym (cell_at-with_cell_other line cell m.cache l other)) f
       ]
 
@@ -174,7 +176,8 @@ module _ (m : Machine) (normal : map eight m.image ≡ m.image) (clean : IsClean
   pub quiet_fresh : (op : Op) → IsReadingOp op → (l : ℕ) → Fresh (line_at m.image l) (cell_at m.cache l) → Fresh (line_at (operated op m).image l) (cell_at (operated op m).cache l)
   quiet_fresh op quiet l f = subst (λ (image : Image). Fresh (line_at image l) (cell_at (operated op m).cache l)) (sym (quiet_image op quiet)) (fresh_cell op quiet l f)
 
-  not_sent_same : (through : ℕ) (l : LineNo) (w : List ℕ) (c : Cell) (failure : Failure) → IsCleanCell c → option_map (torn_at l m) (failed_send through w c) ≡ Some failure → failure.left.image ≡ m.image
+  not_sent_same : (through : ℕ) (l : LineNo) (w : List ℕ) (c : Cell) (failure : Failure) → IsCleanCell c
+      → option_map (torn_at l m) (failed_send through w c) ≡ Some failure → failure.left.image ≡ m.image
   not_sent_same through l w Absent failure f is = absurd (cc)
   not_sent_same through l w (Clean words) failure f is = absurd (cc)
   not_sent_same through l w (Dirty a words) failure f is = absurd f
@@ -234,7 +237,8 @@ reader_stays p cmd (Ends reply) next none says is = absurd (cc)
 module _ (kept : Option Kept) (cmd : Cmd) (me : List ℕ) (image : Image) (cache : Cache) where
   module _ (normal : map eight image ≡ image) (clean : IsClean cache) where
     -- after one operation more
-    pub looks_on : (t next : Task) (words : List ℕ) (made : ℕ) (m : Machine) → SoloRun kept cmd me image cache t words made m → IsBeforeWrites t.phase → Looks image t.phase m → task_after (turn_on t m) ≡ Some next → Looks image next.phase (operated (op_of t) m)
+    pub looks_on : (t next : Task) (words : List ℕ) (made : ℕ) (m : Machine) → SoloRun kept cmd me image cache t words made m → IsBeforeWrites t.phase
+        → Looks image t.phase m → task_after (turn_on t m) ≡ Some next → Looks image next.phase (operated (op_of t) m)
     looks_on t next words made m ran before looks is =
         let formed : map eight m.image ≡ m.image = ran_normal kept cmd me image cache normal t words made m ran in
         let quiet : IsReadingOp (op_of t) = quiet_before t t.phase before in
@@ -243,7 +247,9 @@ module _ (kept : Option Kept) (cmd : Cmd) (me : List ℕ) (image : Image) (cache
           clean = quiet_clean m formed looks.clean (op_of t) quiet;
           gate = λ past. elim (from_mark t.phase t next (word_of t m) is past) [
             | inl was ↦ quiet_fresh m formed looks.clean (op_of t) quiet gate_line (looks.gate was)
-            | inr here ↦ subst (λ (p : Phase). Fresh (line_at (operated (op_at t p) m).image gate_line) (cell_at (operated (op_at t p) m).cache gate_line)) (sym here) (dropped_fresh (line_at (operated (op_at t at.DropGate) m).image gate_line) gate_line m.cache)
+            | inr here ↦ subst (λ (p : Phase). Fresh (line_at (operated (op_at t p) m).image gate_line)
+                (cell_at (operated (op_at t p) m).cache gate_line)) (sym here)
+                (dropped_fresh (line_at (operated (op_at t at.DropGate) m).image gate_line) gate_line m.cache)
           ];
         }
 
@@ -254,7 +260,8 @@ module _ (kept : Option Kept) (cmd : Cmd) (me : List ℕ) (image : Image) (cache
         looks_on t next words made m before was (ran_looks t words made m before was) is
 
     -- so it is where it ends
-    pub looks_end : (t : Task) (words : List ℕ) (made : ℕ) (m : Machine) → SoloRun kept cmd me image cache t words made m → IsBeforeWrites t.phase → ((operated (op_of t) m).image ≡ image) × IsClean (operated (op_of t) m).cache
+    pub looks_end : (t : Task) (words : List ℕ) (made : ℕ) (m : Machine) → SoloRun kept cmd me image cache t words made m → IsBeforeWrites t.phase
+        → ((operated (op_of t) m).image ≡ image) × IsClean (operated (op_of t) m).cache
     looks_end t words made m ran before =
         let looks : Looks image t.phase m = ran_looks t words made m ran before in
         let formed : map eight m.image ≡ m.image = ran_normal kept cmd me image cache normal t words made m ran in

@@ -64,13 +64,15 @@ pub record Stepped (kept : Option Kept) (settled : Settled) (lines : ℕ) (me : 
   pub says : TurnSays turn r settled lines (hosts_of kept me (Some r))
   pub invariant : Invariant (turn_settles turn settled) lines (hosts_of (kept_after turn r.task kept) me (run_after turn (settled_count settled) r)) (shared m)
 
-module _ (kept : Option Kept) (settled : Settled) (lines : ℕ) (me : List ℕ) (r : Run) (m : Machine) (invariant : Invariant settled lines (hosts_of kept me (Some r)) (shared m)) (inside : IsInImage (op_of r.task) m) where
+module _ (kept : Option Kept) (settled : Settled) (lines : ℕ) (me : List ℕ) (r : Run) (m : Machine)
+    (invariant : Invariant settled lines (hosts_of kept me (Some r)) (shared m)) (inside : IsInImage (op_of r.task) m) where
   others_alike : {X : Type 0} (none x y : X) (h : ℕ) → h ≢ 0 → only x none h ≡ only y none h
   others_alike none x y zero other = absurd (other refl)
   others_alike none x y (suc h) other = refl
 
   step : (turn : Turn) → turn_given r.task (word_of r.task m) ≡ turn
-      → Steps 0 (word_of r.task m) settled r (hosts_of kept me (Some r)) (hosts_of (kept_after turn r.task kept) me (run_after turn (settled_count settled) r)) (shared m) (shared (operated (op_of r.task) m))
+      → Steps 0 (word_of r.task m) settled r (hosts_of kept me (Some r))
+      (hosts_of (kept_after turn r.task kept) me (run_after turn (settled_count settled) r)) (shared m) (shared (operated (op_of r.task) m))
   step turn is = record {
     is = refl;
     operates = operates_by 0 m (shared m) (shared (operated (op_of r.task) m)) (op_of r.task) (acts m (operated (op_of r.task) m)) invariant.wide inside;
@@ -83,10 +85,14 @@ module _ (kept : Option Kept) (settled : Settled) (lines : ℕ) (me : List ℕ) 
 
   by_turn : (turn : Turn) → turn_given r.task (word_of r.task m) ≡ turn → Stepped kept settled lines me r turn (operated (op_of r.task) m)
   by_turn turn is =
-      let held = invariant_stepped lines 0 (word_of r.task m) settled r (hosts_of kept me (Some r)) (hosts_of (kept_after turn r.task kept) me (run_after turn (settled_count settled) r)) (shared m) (shared (operated (op_of r.task) m)) invariant (step turn is) in
+      let held = invariant_stepped lines 0 (word_of r.task m) settled r (hosts_of kept me (Some r))
+      (hosts_of (kept_after turn r.task kept) me (run_after turn (settled_count settled) r)) (shared m)
+      (shared (operated (op_of r.task) m)) invariant (step turn is) in
       record {
         says = subst (λ (x : Turn). TurnSays x r settled lines (hosts_of kept me (Some r))) is held.says;
-        invariant = subst (λ (x : Turn). Invariant (turn_settles x settled) lines (hosts_of (kept_after turn r.task kept) me (run_after turn (settled_count settled) r)) (shared (operated (op_of r.task) m))) is held.invariant;
+        invariant = subst (λ (x : Turn). Invariant (turn_settles x settled) lines
+            (hosts_of (kept_after turn r.task kept) me (run_after turn (settled_count settled) r)) (shared (operated (op_of r.task) m))) is
+            held.invariant;
       }
 
   pub stepped : Stepped kept settled lines me r (turn_on r.task m) (operated (op_of r.task) m)
@@ -160,11 +166,15 @@ module _ (kept : Option Kept) (me : List ℕ) (image : Image) (cache : Cache) (c
 pub first_settled : (image : Image) → least_lines ≤ length image → settled_at_first image ≡ settled_by (line_at image) (reading_of (line_at image) (line_bytes * length image))
 first_settled image enough = by_test (nat_lt (length image) least_lines) refl
   where
-    by_test : (b : Bool) → nat_lt (length image) least_lines ≡ b → (if b then Small (line_at image) else settled_by (line_at image) (reading_of (line_at image) (line_bytes * length image))) ≡ settled_by (line_at image) (reading_of (line_at image) (line_bytes * length image))
+    by_test : (b : Bool) → nat_lt (length image) least_lines ≡ b
+        → (if b then Small (line_at image) else settled_by (line_at image) (reading_of (line_at image) (line_bytes * length image)))
+        ≡ settled_by (line_at image) (reading_of (line_at image) (line_bytes * length image))
     by_test true is = absurd (grind (arith, nat_tests))
     by_test false is = refl
 
-module _ (kept : Option Kept) (cmd : Cmd) (me : List ℕ) (image : Image) (cache : Cache) (enough : least_lines ≤ length image) (limit : line_bytes * length image ≤ device_limit) (clean : IsClean cache) (command : IsCommand cmd) (front : KeepsFront (settled_at_first image) kept) where
+module _ (kept : Option Kept) (cmd : Cmd) (me : List ℕ) (image : Image) (cache : Cache) (enough : least_lines ≤ length image)
+    (limit : line_bytes * length image ≤ device_limit) (clean : IsClean cache) (command : IsCommand cmd)
+    (front : KeepsFront (settled_at_first image) kept) where
   starts : Starts 0 cmd (length image) (hosts_of kept me None) (hosts_of kept me (Some (run_of (mounted kept cmd me (length image)) None None)))
   starts = record {
     me = me;
@@ -181,8 +191,13 @@ module _ (kept : Option Kept) (cmd : Cmd) (me : List ℕ) (image : Image) (cache
       runs (suc h) other = refl
 
   -- the host's cache has nothing to send
-  pub invariant_first : Invariant (settled_by (line_at image) (reading_of (line_at image) (line_bytes * length image))) (length image) (hosts_of kept me (Some (run_of (mounted kept cmd me (length image)) None None))) (shared (record { image = image; cache = cache }))
+  pub invariant_first : Invariant (settled_by (line_at image) (reading_of (line_at image) (line_bytes * length image))) (length image)
+      (hosts_of kept me (Some (run_of (mounted kept cmd me (length image)) None None))) (shared (record { image = image; cache = cache }))
   invariant_first =
-      subst (λ (x : Settled). Invariant x (length image) (hosts_of kept me (Some (run_of (mounted kept cmd me (length image)) None None))) (shared (record { image = image; cache = cache }))) (first_settled image enough)
-      (invariant_begun (settled_at_first image) (length image) 0 (hosts_of kept me None) (hosts_of kept me (Some (run_of (mounted kept cmd me (length image)) None None))) (shared (record { image = image; cache = cache })) cmd enough
-      (begins_with image limit (hosts_of kept me None) (λ h l. only (cell_at cache l) Absent h) (rests_alone kept me image cache clean) (keep_alone kept me image cache clean (settled_at_first image) front)) starts)
+      subst (λ (x : Settled). Invariant x (length image) (hosts_of kept me (Some (run_of (mounted kept cmd me (length image)) None None)))
+      (shared (record { image = image; cache = cache }))) (first_settled image enough)
+      (invariant_begun (settled_at_first image) (length image) 0 (hosts_of kept me None)
+      (hosts_of kept me (Some (run_of (mounted kept cmd me (length image)) None None))) (shared (record { image = image; cache = cache })) cmd
+      enough
+      (begins_with image limit (hosts_of kept me None) (λ h l. only (cell_at cache l) Absent h) (rests_alone kept me image cache clean)
+      (keep_alone kept me image cache clean (settled_at_first image) front)) starts)

@@ -81,12 +81,16 @@ module _ (image : Image) (me : List ℕ) (cmd : Cmd) where
 
   -- another command than a check of the whole file system
   reply_of : (cmd ≡ Fsck → ⊥) → (r : Reading) → reading_of (line_at image) (line_bytes * length image) ≡ r
-      → solo_reply image me cmd ≡ reply_unless (head_refusal (wish_of cmd) (super_in (line_at image) (line_bytes * length image)) me) (reading_reply (line_at image) (line_bytes * length image) me cmd r)
+      → solo_reply image me cmd ≡ reply_unless (head_refusal (wish_of cmd) (super_in (line_at image) (line_bytes * length image)) me)
+      (reading_reply (line_at image) (line_bytes * length image) me cmd r)
   unfolding solo_reply
   reply_of other r is =
-      by_cmd cmd other ∙ ap (λ (x : Reading). reply_unless (head_refusal (wish_of cmd) (super_in (line_at image) (line_bytes * length image)) me) (reading_reply (line_at image) (line_bytes * length image) me cmd x)) is
+      by_cmd cmd other ∙ ap (λ (x : Reading). reply_unless (head_refusal (wish_of cmd) (super_in (line_at image) (line_bytes * length image)) me)
+      (reading_reply (line_at image) (line_bytes * length image) me cmd x)) is
     where
-      by_cmd : (c : Cmd) → (c ≡ Fsck → ⊥) → reply_in (line_at image) (line_bytes * length image) me c ≡ reply_unless (head_refusal (wish_of c) (super_in (line_at image) (line_bytes * length image)) me) (reading_reply (line_at image) (line_bytes * length image) me c (reading_of (line_at image) (line_bytes * length image)))
+      by_cmd : (c : Cmd) → (c ≡ Fsck → ⊥) → reply_in (line_at image) (line_bytes * length image) me c
+          ≡ reply_unless (head_refusal (wish_of c) (super_in (line_at image) (line_bytes * length image)) me)
+          (reading_reply (line_at image) (line_bytes * length image) me c (reading_of (line_at image) (line_bytes * length image)))
       by_cmd Fsck other = absurd (other refl)
       by_cmd c other = refl
 
@@ -117,7 +121,8 @@ module _ (image : Image) (me : List ℕ) (cmd : Cmd) where
         let none = asks_none cmd given is in
         record {
           answer = sym (reply_of none.1 (Sound p entries) sound
-              ∙ ap (λ (o : Option Wish). reply_unless (head_refusal o (super_in (line_at image) (line_bytes * length image)) me) (reading_reply (line_at image) (line_bytes * length image) me cmd (Sound p entries))) none.0
+              ∙ ap (λ (o : Option Wish). reply_unless (head_refusal o (super_in (line_at image) (line_bytes * length image)) me)
+              (reading_reply (line_at image) (line_bytes * length image) me cmd (Sound p entries))) none.0
               ∙ ap (sound_reply (line_at image) (line_bytes * length image) entries cmd) (undecided none.0)
               ∙ ap (λ (o : Option Reply). unwrap_or o (Reports (report_of (line_at image) (line_bytes * length image)))) is);
           left_is = undecided_image none.0;
@@ -134,14 +139,17 @@ module _ (image : Image) (me : List ℕ) (cmd : Cmd) where
       unfolding decide_wish
       early_first w = first_stops (early_refusal p me w.path) (length entries) _
 
-      pub decided : (w : Wish) → wish_of cmd ≡ Some w → (d : Result Entry Refused) → decide_wish p me entries w ≡ d → Answers (appended (length entries) d) (decision_image image p entries cmd (Some d))
+      pub decided : (w : Wish) → wish_of cmd ≡ Some w → (d : Result Entry Refused) → decide_wish p me entries w ≡ d
+          → Answers (appended (length entries) d) (decision_image image p entries cmd (Some d))
       decided w is d decision =
           let decides : decide p me entries cmd ≡ Some d = ap (option_map (decide_wish p me entries)) is ∙ ap Some decision in
           record {
             answer = sym (reply_of (λ e. absurd (let none : wish_of cmd ≡ None = ap wish_of e in cc)) (Sound p entries) sound
-                ∙ ap (λ (o : Option Wish). reply_unless (head_refusal o (super_in (line_at image) (line_bytes * length image)) me) (reading_reply (line_at image) (line_bytes * length image) me cmd (Sound p entries))) is
+                ∙ ap (λ (o : Option Wish). reply_unless (head_refusal o (super_in (line_at image) (line_bytes * length image)) me)
+                (reading_reply (line_at image) (line_bytes * length image) me cmd (Sound p entries))) is
                 ∙ ap (λ (r : Result Params SuperFault). reply_unless (head_refusal (Some w) r me) (reading_reply (line_at image) (line_bytes * length image) me cmd (Sound p entries))) super
-                ∙ ap (λ (o : Option (Result Entry Refused)). reply_unless (early_refusal p me w.path) (sound_reply (line_at image) (line_bytes * length image) entries cmd o)) (ap (option_map (decide_wish p me entries)) is)
+                ∙ ap (λ (o : Option (Result Entry Refused)). reply_unless (early_refusal p me w.path)
+                (sound_reply (line_at image) (line_bytes * length image) entries cmd o)) (ap (option_map (decide_wish p me entries)) is)
                 ∙ early_first w
                 ∙ ap (appended (length entries)) decision);
             left_is = sym (image_of (Sound p entries) sound ∙ ap (decision_image image p entries cmd) decides);
@@ -158,14 +166,16 @@ module _ (image : Image) (me : List ℕ) (cmd : Cmd) where
   -- Damaged images.
 
   -- a host that was let through isn't refused
-  pub not_refused : (p : Params) → super_in (line_at image) (line_bytes * length image) ≡ Ok p → host_refusal (wish_of cmd) p me ≡ None → head_refusal (wish_of cmd) (super_in (line_at image) (line_bytes * length image)) me ≡ None
+  pub not_refused : (p : Params) → super_in (line_at image) (line_bytes * length image) ≡ Ok p → host_refusal (wish_of cmd) p me ≡ None
+      → head_refusal (wish_of cmd) (super_in (line_at image) (line_bytes * length image)) me ≡ None
   not_refused p super through = ap (λ (r : Result Params SuperFault). head_refusal (wish_of cmd) r me) super ∙ by_wish (wish_of cmd) through
     where
       by_wish : (o : Option Wish) → host_refusal o p me ≡ None → head_refusal o (Ok p) me ≡ None
       by_wish None none = refl
       by_wish (Some w) none = none
 
-  known_reply : (cmd ≡ Fsck → ⊥) → head_refusal (wish_of cmd) (super_in (line_at image) (line_bytes * length image)) me ≡ None → (r : Reading) → reading_of (line_at image) (line_bytes * length image) ≡ r
+  known_reply : (cmd ≡ Fsck → ⊥) → head_refusal (wish_of cmd) (super_in (line_at image) (line_bytes * length image)) me ≡ None → (r : Reading)
+      → reading_of (line_at image) (line_bytes * length image) ≡ r
       → solo_reply image me cmd ≡ reading_reply (line_at image) (line_bytes * length image) me cmd r
   known_reply other known r is = reply_of other r is ∙ ap (λ (o : Option Refused). reply_unless o (reading_reply (line_at image) (line_bytes * length image) me cmd r)) known
 
@@ -202,31 +212,49 @@ module _ (image : Image) (me : List ℕ) (cmd : Cmd) where
             ap (λ (r : Result Params SuperFault). head_refusal (wish_of cmd) r me) found.1 ∙ none (wish_of cmd) found.0
 
     -- the fault that the reading names
-    pub faults_super : (cmd ≡ Fsck → ⊥) → (fault : SuperFault) (r : Reading) → reading_of (line_at image) (line_bytes * length image) ≡ r → fault_of r ≡ Some (reply.NoSuperblock fault) → Answers (reply.NoSuperblock fault) image
+    pub faults_super : (cmd ≡ Fsck → ⊥) → (fault : SuperFault) (r : Reading) → reading_of (line_at image) (line_bytes * length image) ≡ r
+        → fault_of r ≡ Some (reply.NoSuperblock fault) → Answers (reply.NoSuperblock fault) image
     faults_super other fault (NoSuperblock named) is e = names_super other fault (is ∙ ap NoSuperblock (let f : named ≡ fault = cc in f))
     faults_super other fault (BadHeader named) is e = absurd (cc)
     faults_super other fault (BadSlot i reason) is e = absurd (cc)
     faults_super other fault (Sound p entries) is e = absurd (cc)
 
-    pub faults_header : (cmd ≡ Fsck → ⊥) → head_refusal (wish_of cmd) (super_in (line_at image) (line_bytes * length image)) me ≡ None → (fault : LogFault) (r : Reading) → reading_of (line_at image) (line_bytes * length image) ≡ r → fault_of r ≡ Some (reply.BadHeader fault) → Answers (reply.BadHeader fault) image
-    faults_header other known fault (BadHeader named) is e = record { answer = let f : named ≡ fault = cc in sym (known_reply other known (BadHeader named) is ∙ ap reply.BadHeader f); left_is = bad_image }
+    pub faults_header : (cmd ≡ Fsck → ⊥) → head_refusal (wish_of cmd) (super_in (line_at image) (line_bytes * length image)) me ≡ None
+        → (fault : LogFault) (r : Reading) → reading_of (line_at image) (line_bytes * length image) ≡ r → fault_of r ≡ Some (reply.BadHeader fault)
+        → Answers (reply.BadHeader fault) image
+    faults_header other known fault (BadHeader named) is e =
+        record {
+          answer = let f : named ≡ fault = cc in sym (known_reply other known (BadHeader named) is ∙ ap reply.BadHeader f);
+          left_is =
+              bad_image;
+        }
     faults_header other known fault (NoSuperblock named) is e = absurd (cc)
     faults_header other known fault (BadSlot i reason) is e = absurd (cc)
     faults_header other known fault (Sound p entries) is e = absurd (cc)
 
-    pub faults_slot : (cmd ≡ Fsck → ⊥) → head_refusal (wish_of cmd) (super_in (line_at image) (line_bytes * length image)) me ≡ None → (k : ℕ) (why : Reason) (r : Reading) → reading_of (line_at image) (line_bytes * length image) ≡ r → fault_of r ≡ Some (reply.BadSlot k why) → Answers (reply.BadSlot k why) image
+    pub faults_slot : (cmd ≡ Fsck → ⊥) → head_refusal (wish_of cmd) (super_in (line_at image) (line_bytes * length image)) me ≡ None
+        → (k : ℕ) (why : Reason) (r : Reading) → reading_of (line_at image) (line_bytes * length image) ≡ r → fault_of r ≡ Some (reply.BadSlot k why)
+        → Answers (reply.BadSlot k why) image
     faults_slot other known k why (BadSlot i reason) is e =
-        record { answer = let f : i ≡ k = cc in let g : reason ≡ why = cc in sym (known_reply other known (BadSlot i reason) is ∙ ap (λ (x : ℕ). reply.BadSlot x reason) f ∙ ap (reply.BadSlot k) g); left_is = bad_image }
+        record {
+          answer = let f : i ≡ k = cc in let g : reason ≡ why =
+              cc in sym (known_reply other known (BadSlot i reason) is ∙ ap (λ (x : ℕ). reply.BadSlot x reason) f ∙ ap (reply.BadSlot k) g);
+          left_is =
+              bad_image;
+        }
     faults_slot other known k why (NoSuperblock named) is e = absurd (cc)
     faults_slot other known k why (BadHeader named) is e = absurd (cc)
     faults_slot other known k why (Sound p entries) is e = absurd (cc)
 
     -- what is refused as soon as the superblock is read
-    bad_early : (w : Wish) → wish_of cmd ≡ Some w → (p : Params) → super_in (line_at image) (line_bytes * length image) ≡ Ok p → (r : Refused) → early_refusal p me w.path ≡ Some r → Answers (NotAppended r) image
+    bad_early : (w : Wish) → wish_of cmd ≡ Some w → (p : Params) → super_in (line_at image) (line_bytes * length image) ≡ Ok p → (r : Refused)
+        → early_refusal p me w.path ≡ Some r → Answers (NotAppended r) image
     bad_early w wish p super r refusal = record {
       answer = sym (reply_of (λ e. absurd (let none : wish_of cmd ≡ None = ap wish_of e in cc)) (reading_of (line_at image) (line_bytes * length image)) refl
-          ∙ ap (λ (o : Option Wish). reply_unless (head_refusal o (super_in (line_at image) (line_bytes * length image)) me) (reading_reply (line_at image) (line_bytes * length image) me cmd (reading_of (line_at image) (line_bytes * length image)))) wish
-          ∙ ap (λ (r : Result Params SuperFault). reply_unless (head_refusal (Some w) r me) (reading_reply (line_at image) (line_bytes * length image) me cmd (reading_of (line_at image) (line_bytes * length image)))) super
+          ∙ ap (λ (o : Option Wish). reply_unless (head_refusal o (super_in (line_at image) (line_bytes * length image)) me)
+          (reading_reply (line_at image) (line_bytes * length image) me cmd (reading_of (line_at image) (line_bytes * length image)))) wish
+          ∙ ap (λ (r : Result Params SuperFault). reply_unless (head_refusal (Some w) r me)
+          (reading_reply (line_at image) (line_bytes * length image) me cmd (reading_of (line_at image) (line_bytes * length image)))) super
           ∙ ap (λ (o : Option Refused). reply_unless o (reading_reply (line_at image) (line_bytes * length image) me cmd (reading_of (line_at image) (line_bytes * length image)))) refusal);
       left_is = bad_image;
     }
@@ -236,5 +264,6 @@ module _ (image : Image) (me : List ℕ) (cmd : Cmd) where
     bad_client has p super other = bad_early has.0 has.1 p super (NotMaster me p.master) (early_master p me has.0.path other)
 
     -- the path of that host, which is too long
-    pub bad_long : (w : Wish) → wish_of cmd ≡ Some w → (p : Params) → super_in (line_at image) (line_bytes * length image) ≡ Ok p → (limit : ℕ) → IsTooLong p me w limit → Answers (NotAppended (LongPath limit)) image
+    pub bad_long : (w : Wish) → wish_of cmd ≡ Some w → (p : Params) → super_in (line_at image) (line_bytes * length image) ≡ Ok p → (limit : ℕ)
+        → IsTooLong p me w limit → Answers (NotAppended (LongPath limit)) image
     bad_long w wish p super limit long = bad_early w wish p super (LongPath limit) (early_limit p me w limit long)

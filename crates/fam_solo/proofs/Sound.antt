@@ -83,11 +83,15 @@ plain c t word cmd image p n e m gate = tt
 first_gate : (cmd : Cmd) (image : Image) (p : Params) (n : ℕ) (e : Entry) (m : Machine) → Looks image (first_store e.size) m → GateAt (first_store e.size) cmd image p n e m
 first_gate cmd image p n e m looks = by_test (e.size == 0) looks.image_is looks.gate
   where
-    by_test : (b : Bool) → m.image ≡ image → (HasMarked (if b then at.StoreSlot 0 0 else at.StoreData 0 0) → Fresh (line_at m.image gate_line) (cell_at m.cache gate_line)) → GateAt (if b then at.StoreSlot 0 0 else at.StoreData 0 0) cmd image p n e m
+    by_test : (b : Bool) → m.image ≡ image
+        → (HasMarked (if b then at.StoreSlot 0 0 else at.StoreData 0 0) → Fresh (line_at m.image gate_line) (cell_at m.cache gate_line))
+        → GateAt (if b then at.StoreSlot 0 0 else at.StoreData 0 0) cmd image p n e m
     by_test true same fresh = (ap (λ (i : Image). line_at i gate_line) same, fresh tt)
     by_test false same fresh = (ap (λ (i : Image). line_at i gate_line) same, fresh tt)
 
-module _ (kept : Option Kept) (cmd : Cmd) (me : List ℕ) (image : Image) (cache : Cache) (enough : least_lines ≤ length image) (limit : line_bytes * length image ≤ device_limit) (normal : map eight image ≡ image) (clean : IsClean cache) (command : IsCommand cmd) (joined : IsKept kept) (front : KeepsFront (settled_at_first image) kept)
+module _ (kept : Option Kept) (cmd : Cmd) (me : List ℕ) (image : Image) (cache : Cache) (enough : least_lines ≤ length image)
+    (limit : line_bytes * length image ≤ device_limit) (normal : map eight image ≡ image) (clean : IsClean cache) (command : IsCommand cmd)
+    (joined : IsKept kept) (front : KeepsFront (settled_at_first image) kept)
     (p : Params) (entries : List Entry) (sound : reading_of (line_at image) (line_bytes * length image) ≡ Sound p entries) where
   pub reads : ReadsSound (line_at image) (line_bytes * length image) p entries
   reads = sound_reads (line_at image) (line_bytes * length image) p entries sound
@@ -144,10 +148,32 @@ module _ (kept : Option Kept) (cmd : Cmd) (me : List ℕ) (image : Image) (cache
     found_all k (inl is) = is
     found_all k (inr is) = omega (arith, is.0, is.1, held)
 
-    by_turn : (floor : Option ℕ) → IsMarkOf (length entries) floor → (turn : Turn) (next : Task) (m : Machine) (s : Settled) → Stepped kept (Known p (map (held_file (line_at image)) entries) (length entries)) (length image) me (run_of t floor None) turn m → SaysAt t.phase t.cmd turn → task_after turn ≡ Some next
+    by_turn : (floor : Option ℕ) → IsMarkOf (length entries) floor → (turn : Turn) (next : Task) (m : Machine) (s : Settled)
+        → Stepped kept (Known p (map (held_file (line_at image)) entries) (length entries)) (length image) me (run_of t floor None) turn m
+        → SaysAt t.phase t.cmd turn → task_after turn ≡ Some next
         → Looks image next.phase m → s ≡ Known p (map (held_file (line_at image)) entries) (length entries) → Staged next m (turn_settles turn s)
-    by_turn floor marked (Goes x) next m s step says is looks at_first = inl (subst (λ (y : Task). OnSound y m) (same_Some x next is) record { floor = floor; marked = marked; invariant = step.invariant; before = says }, ap (turn_settles (Goes x)) at_first)
-    by_turn floor marked (Marks x) next m s step says is looks at_first = inl (subst (λ (y : Task). OnSound y m) (same_Some x next is) record { floor = Some (length entries); marked = refl; invariant = step.invariant; before = says }, ap (turn_settles (Marks x)) at_first)
+    by_turn floor marked (Goes x) next m s step says is looks at_first =
+        inl (
+          subst (λ (y : Task). OnSound y m) (same_Some x next is) record {
+            floor = floor;
+            marked = marked;
+            invariant = step.invariant;
+            before =
+                says;
+          },
+          ap (turn_settles (Goes x)) at_first,
+        )
+    by_turn floor marked (Marks x) next m s step says is looks at_first =
+        inl (
+          subst (λ (y : Task). OnSound y m) (same_Some x next is) record {
+            floor = Some (length entries);
+            marked = refl;
+            invariant =
+                step.invariant;
+            before = says;
+          },
+          ap (turn_settles (Marks x)) at_first,
+        )
     by_turn floor marked (Finds k x) next m s step says is looks at_first =
         let found : k ≡ length entries = found_all k step.says.may in
         inl (
@@ -155,8 +181,10 @@ module _ (kept : Option Kept) (cmd : Cmd) (me : List ℕ) (image : Image) (cache
               record {
                 floor = floor;
                 marked = marked;
-                invariant = subst (λ (files : List File). Invariant (Known p files (length entries)) (length image) (hosts_of kept me (Some (run_of x floor None))) (shared m)) (all_held (length entries) (omega arith))
-                    (subst (λ (i : ℕ). Invariant (Known p (take i (map (held_file (line_at image)) entries)) i) (length image) (hosts_of kept me (Some (run_of x floor None))) (shared m)) found step.invariant);
+                invariant = subst (λ (files : List File). Invariant (Known p files (length entries)) (length image)
+                    (hosts_of kept me (Some (run_of x floor None))) (shared m)) (all_held (length entries) (omega arith))
+                    (subst (λ (i : ℕ). Invariant (Known p (take i (map (held_file (line_at image)) entries)) i) (length image)
+                    (hosts_of kept me (Some (run_of x floor None))) (shared m)) found step.invariant);
                 before = says;
               },
           ap (turn_settles (Finds k x)) at_first
@@ -182,24 +210,29 @@ module _ (kept : Option Kept) (cmd : Cmd) (me : List ℕ) (image : Image) (cache
             writing = record {
               entry = says.entry;
               others = λ l none other. (ap (λ (i : Image). line_at i l) looks.image_is, looks.clean l);
-              gate = subst (λ (pl : Phase). GateAt pl cmd image p (length entries) e m) (sym says.phase) (first_gate cmd image p (length entries) e m (subst (λ (pl : Phase). Looks image pl m) at_store looks));
+              gate = subst (λ (pl : Phase). GateAt pl cmd image p (length entries) e m) (sym says.phase)
+                  (first_gate cmd image p (length entries) e m (subst (λ (pl : Phase). Looks image pl m) at_store looks));
             };
           },
           ap (turn_settles (Writes seq e x)) at_first,
         ))
     by_turn floor marked (Ends given) next m s step says is looks at_first = absurd (cc)
 
-    goes_invariant : (all : List File) (floor : Option ℕ) (named : Option Named) (turn : Turn) (next : Task) (m : Machine) → IsPlain turn → Stepped kept (Known p all (length entries)) (length image) me (run_of t floor named) turn m → task_after turn ≡ Some next
+    goes_invariant : (all : List File) (floor : Option ℕ) (named : Option Named) (turn : Turn) (next : Task) (m : Machine) → IsPlain turn
+        → Stepped kept (Known p all (length entries)) (length image) me (run_of t floor named) turn m → task_after turn ≡ Some next
         → Invariant (Known p all (length entries)) (length image) (hosts_of kept me (Some (run_of next floor named))) (shared m)
     unfolding IsPlain
-    goes_invariant all floor named (Goes x) next m is_plain step is = subst (λ (y : Task). Invariant (Known p all (length entries)) (length image) (hosts_of kept me (Some (run_of y floor named))) (shared m)) (same_Some x next is) step.invariant
+    goes_invariant all floor named (Goes x) next m is_plain step is =
+        subst (λ (y : Task). Invariant (Known p all (length entries)) (length image) (hosts_of kept me (Some (run_of y floor named))) (shared m))
+        (same_Some x next is) step.invariant
     goes_invariant all floor named (Marks x) next m is_plain step is = absurd is_plain
     goes_invariant all floor named (Finds k x) next m is_plain step is = absurd is_plain
     goes_invariant all floor named (Writes seq e x) next m is_plain step is = absurd is_plain
     goes_invariant all floor named (Ends given) next m is_plain step is = absurd (cc)
 
     -- nothing is settled by it
-    goes_settled : (all : List File) (turn : Turn) (next : Task) (s : Settled) → IsPlain turn → task_after turn ≡ Some next → s ≡ Known p all (length entries) → turn_settles turn s ≡ Known p all (length entries)
+    goes_settled : (all : List File) (turn : Turn) (next : Task) (s : Settled) → IsPlain turn → task_after turn ≡ Some next
+        → s ≡ Known p all (length entries) → turn_settles turn s ≡ Known p all (length entries)
     unfolding IsPlain
     goes_settled all (Goes x) next s is_plain is at_first = ap (turn_settles (Goes x)) at_first
     goes_settled all (Marks x) next s is_plain is at_first = absurd is_plain
@@ -210,7 +243,8 @@ module _ (kept : Option Kept) (cmd : Cmd) (me : List ℕ) (image : Image) (cache
     pub may : (w : Wish) (e : Entry) → wish_of cmd ≡ Some w → decide_wish p me entries w ≡ Ok e → MayAppend p me entries e
     may w e wish decides = may_append p me entries w e params.sound (command.wish w wish) decides
 
-    writes_step : (m : Machine) (next : Task) (s : Settled) → (on : OnWrites t m) → s ≡ Known p on.all (length entries) → IsInImage (op_of t) m → task_after (turn_on t m) ≡ Some next → Staged next (operated (op_of t) m) (turn_settles (turn_on t m) s)
+    writes_step : (m : Machine) (next : Task) (s : Settled) → (on : OnWrites t m) → s ≡ Known p on.all (length entries) → IsInImage (op_of t) m
+        → task_after (turn_on t m) ≡ Some next → Staged next (operated (op_of t) m) (turn_settles (turn_on t m) s)
     writes_step m next s on settled inside is =
         let step = stepped kept (Known p on.all (length entries)) (length image) me (run_of t on.floor on.named) m on.invariant inside in
         let right : MayAppend p me entries on.e = may on.w on.e on.wish on.decides in
@@ -225,7 +259,9 @@ module _ (kept : Option Kept) (cmd : Cmd) (me : List ℕ) (image : Image) (cache
             floor = on.floor;
             named = on.named;
             invariant = goes_invariant on.all on.floor on.named (turn_on t m) next (operated (op_of t) m) (plain t.phase t (word_of t m) cmd image p (length entries) on.e m on.writing.gate) step is;
-            writing = writes_on cmd image p (length entries) on.e params.sound right.left right.proper (line_bytes * length image) (hosts_of kept me (Some (run_of t on.floor on.named))).uuid on.invariant.stage.master on.all t next m (word_of t m) cmd_is on.writing.entry on.writing.others
+            writing = writes_on cmd image p (length entries) on.e params.sound right.left right.proper (line_bytes * length image)
+                (hosts_of kept me (Some (run_of t on.floor on.named))).uuid on.invariant.stage.master on.all t next m
+                (word_of t m) cmd_is on.writing.entry on.writing.others
                 t.phase on.floor (on.invariant.stage.tasks 0 (run_of t on.floor on.named) refl).phase on.writing.gate is;
           },
           goes_settled on.all (turn_on t m) next s (plain t.phase t (word_of t m) cmd image p (length entries) on.e m on.writing.gate) is settled,
@@ -235,11 +271,14 @@ module _ (kept : Option Kept) (cmd : Cmd) (me : List ℕ) (image : Image) (cache
   first = record {
     floor = None;
     marked = tt;
-    invariant = subst (λ (r : Reading). Invariant (settled_by (line_at image) r) (length image) (hosts_of kept me (Some (run_of (mounted kept cmd me (length image)) None None))) (shared (record { image = image; cache = cache }))) sound (invariant_first kept cmd me image cache enough limit clean command front);
+    invariant = subst (λ (r : Reading). Invariant (settled_by (line_at image) r) (length image)
+        (hosts_of kept me (Some (run_of (mounted kept cmd me (length image)) None None))) (shared (record { image = image; cache = cache }))) sound
+        (invariant_first kept cmd me image cache enough limit clean command front);
     before = tt;
   }
 
-  pub staged : (t : Task) (words : List ℕ) (made : ℕ) (m : Machine) → (ran : SoloRun kept cmd me image cache t words made m) → Staged t m (settles_up_to kept cmd me image cache t words made m ran (Known p (map (held_file (line_at image)) entries) (length entries)))
+  pub staged : (t : Task) (words : List ℕ) (made : ℕ) (m : Machine) → (ran : SoloRun kept cmd me image cache t words made m)
+      → Staged t m (settles_up_to kept cmd me image cache t words made m ran (Known p (map (held_file (line_at image)) entries) (length entries)))
   staged t words made m starts = inl (first, refl)
   staged next _ _ _ (goes {t = t} {words = words} {made = made} {m = m} ran inside is) = by_stage (staged t words made m ran)
     where
@@ -254,7 +293,9 @@ module _ (kept : Option Kept) (cmd : Cmd) (me : List ℕ) (image : Image) (cache
 
       by_stage : Staged t m before → Staged next (operated (op_of t) m) (turn_settles (turn_on t m) before)
       by_stage (inl on) =
-          by_turn t cmd_is me_is on.0.floor on.0.marked (turn_on t m) next (operated (op_of t) m) before (stepped kept (Known p (map (held_file (line_at image)) entries) (length entries)) (length image) me (run_of t on.0.floor None) m on.0.invariant inside)
+          by_turn t cmd_is me_is on.0.floor on.0.marked (turn_on t m) next (operated (op_of t) m) before
+          (stepped kept (Known p (map (held_file (line_at image)) entries) (length entries)) (length image) me
+          (run_of t on.0.floor None) m on.0.invariant inside)
           (turn_says t.phase t (word_of t m) on.0.before refl) is
           (looks_on kept cmd me image cache normal clean t next words made m ran on.0.before (ran_looks kept cmd me image cache normal clean t words made m ran on.0.before) is) on.1
       by_stage (inr on) = writes_step t cmd_is me_is m next before on.0 on.1 inside is
@@ -268,9 +309,12 @@ module _ (kept : Option Kept) (cmd : Cmd) (me : List ℕ) (image : Image) (cache
     asks : (given : Reply) → AnswersPrefix t floor (map (held_file (line_at image)) entries) given → Answers image me cmd given image
     asks given may =
         asked image me cmd p entries sound given
-        (ap (ask (map (held_file (line_at image)) entries)) (sym cmd_is) ∙ ap (λ (files : List File). ask files t.cmd) (sym (all_held (shown_by given) (mark_low floor (length entries) (shown_by given) marked may.low))) ∙ may.is)
+        (ap (ask (map (held_file (line_at image)) entries)) (sym cmd_is) ∙ ap (λ (files : List File). ask files t.cmd)
+        (sym (all_held (shown_by given) (mark_low floor (length entries) (shown_by given) marked may.low))) ∙ may.is)
 
-    answers : (given : Reply) (pl : Phase) → (cmd ≡ Fsck → given ≡ Reports (report_of (line_at image) (line_bytes * length image))) → MayReply given (record { params = p; have = line_bytes * length image; uuid = uuid; master = master }) (run_of t floor None) (map (held_file (line_at image)) entries) (length entries) → EndsAt pl cmd given
+    answers : (given : Reply) (pl : Phase) → (cmd ≡ Fsck → given ≡ Reports (report_of (line_at image) (line_bytes * length image)))
+        → MayReply given (record { params = p; have = line_bytes * length image; uuid = uuid; master = master }) (run_of t floor None)
+        (map (held_file (line_at image)) entries) (length entries) → EndsAt pl cmd given
         → Answers image me cmd given image
     answers (Appended seq) pl reports may ends = absurd ends
     answers (NotAppended (refused.NotMaster host owner)) pl reports may ends =
@@ -294,7 +338,9 @@ module _ (kept : Option Kept) (cmd : Cmd) (me : List ℕ) (image : Image) (cache
     answers other pl reports may ends = asks other may
 
   -- an answer shows no more than there is
-  shown_within : (given : Reply) (pl : Phase) (uuid : ℕ → Option (List ℕ)) (master floor : Option ℕ) (t : Task) → MayReply given (record { params = p; have = line_bytes * length image; uuid = uuid; master = master }) (run_of t floor None) (map (held_file (line_at image)) entries) (length entries)
+  shown_within : (given : Reply) (pl : Phase) (uuid : ℕ → Option (List ℕ)) (master floor : Option ℕ) (t : Task)
+      → MayReply given (record { params = p; have = line_bytes * length image; uuid = uuid; master = master }) (run_of t floor None)
+      (map (held_file (line_at image)) entries) (length entries)
       → EndsAt pl cmd given → shown_by given ≤ length entries
   shown_within (Appended seq) pl uuid master floor t may ends = absurd ends
   shown_within (NotAppended refused) pl uuid master floor t may ends = omega arith
@@ -331,7 +377,8 @@ module _ (kept : Option Kept) (cmd : Cmd) (me : List ℕ) (image : Image) (cache
     ends_sound on settled =
         let end = looks_end kept cmd me image cache normal clean t words made m ran on.before in
         let step = stepped kept (Known p (map (held_file (line_at image)) entries) (length entries)) (length image) me (run_of t on.floor None) m on.invariant inside in
-        let says = subst (λ (x : Turn). TurnSays x (run_of t on.floor None) (Known p (map (held_file (line_at image)) entries) (length entries)) (length image) (hosts_of kept me (Some (run_of t on.floor None)))) is step.says in
+        let says = subst (λ (x : Turn). TurnSays x (run_of t on.floor None) (Known p (map (held_file (line_at image)) entries) (length entries))
+        (length image) (hosts_of kept me (Some (run_of t on.floor None)))) is step.says in
         let ends_at : EndsAt t.phase cmd given = subst (λ (c : Cmd). EndsAt t.phase c given) cmd_is (subst (SaysAt t.phase t.cmd) is (turn_says t.phase t (word_of t m) on.before refl)) in
         let shown = shown_within given t.phase (hosts_of kept me (Some (run_of t on.floor None))).uuid says.master on.floor t says.may ends_at in
         let none_new : max (length entries) (shown_by given) ≡ length entries = omega (arith, shown) in (
@@ -346,26 +393,43 @@ module _ (kept : Option Kept) (cmd : Cmd) (me : List ℕ) (image : Image) (cache
     ends_writes on settled =
         let n : ℕ = length entries in
         let right : MayAppend p me entries on.e = may t cmd_is me_is on.w on.e on.wish on.decides in
-        let there = ends_there cmd image p n on.e params.sound right.left right.proper (line_bytes * length image) (hosts_of kept me (Some (run_of t on.floor on.named))).uuid on.invariant.stage.master on.all t t m (word_of t m) cmd_is on.writing.entry on.writing.others t.phase given on.writing.gate is in
-        let published = subst (λ (pl : Phase). AtPhase pl (record { params = p; have = line_bytes * length image; uuid = (hosts_of kept me (Some (run_of t on.floor on.named))).uuid; master = on.invariant.stage.master }) 0 on.floor t (shared m) on.all n) there.0 (on.invariant.stage.tasks 0 (run_of t on.floor on.named) refl).phase in
+        let there = ends_there cmd image p n on.e params.sound right.left right.proper (line_bytes * length image)
+        (hosts_of kept me (Some (run_of t on.floor on.named))).uuid on.invariant.stage.master on.all t t m (word_of t m) cmd_is on.writing.entry
+        on.writing.others t.phase given on.writing.gate is in
+        let published = subst (λ (pl : Phase).
+        AtPhase pl (record {
+          params = p;
+          have = line_bytes * length image;
+          uuid = (hosts_of kept me (Some (run_of t on.floor on.named))).uuid;
+          master = on.invariant.stage.master;
+        }) 0 on.floor t (shared m) on.all n) there.0
+        (on.invariant.stage.tasks 0 (run_of t on.floor on.named) refl).phase in
         let gate_is : t.gate ≡ n = omega (arith, published.0.pending, on.count) in
         let op_is : op_of t ≡ Fence = ap (op_at t) there.0 in
         let gate = subst (λ (pl : Phase). GateAt pl cmd image p n on.e m) there.0 on.writing.gate in
         let within : gate_line < length m.image = (subst (λ (op : Op). IsInImage op m) op_is inside) gate_line (ap is_asked gate.1) in
-        let lines = all_written cmd image p n on.e params.sound right.left right.proper (line_bytes * length image) (hosts_of kept me (Some (run_of t on.floor on.named))).uuid on.invariant.stage.master on.all t t m (word_of t m) cmd_is on.writing.entry on.writing.others (ran_length kept cmd me image cache t words made m ran) within gate in
+        let lines = all_written cmd image p n on.e params.sound right.left right.proper (line_bytes * length image)
+        (hosts_of kept me (Some (run_of t on.floor on.named))).uuid on.invariant.stage.master on.all t t m (word_of t m) cmd_is on.writing.entry
+        on.writing.others (ran_length kept cmd me image cache t words made m ran) within gate in
         let phase : HasPhase p n on.e (length image) = place_of p entries on.e (length image) params.sound params.device right.left right.proper right.joins in
         let left = appended_alike p n on.e (fill (content_of cmd) on.e.size) image (operated Fence m).image (written image p n on.e (fill (content_of cmd) on.e.size)) lines
-        (lines_appended p n on.e (fill (content_of cmd) on.e.size) image phase) (operated_normal Fence m (ran_normal kept cmd me image cache normal t words made m ran)) (written_normal image p n on.e (fill (content_of cmd) on.e.size) normal) in
+        (lines_appended p n on.e (fill (content_of cmd) on.e.size) image phase)
+        (operated_normal Fence m (ran_normal kept cmd me image cache normal t words made m ran))
+        (written_normal image p n on.e (fill (content_of cmd) on.e.size) normal) in
         let step = stepped kept (Known p on.all n) (length image) me (run_of t on.floor on.named) m on.invariant inside in
         let keeps : kept_by given (read_by t) kept ≡ kept = ap (λ (r : Reply). kept_by r (read_by t) kept) there.1 in
         let ended : Invariant (turn_settles (Ends given) (Known p on.all n)) (length image) (hosts_of kept me None) (shared (operated (op_of t) m)) =
         subst (λ (k : Option Kept). Invariant (turn_settles (Ends given) (Known p on.all n)) (length image) (hosts_of k me None) (shared (operated (op_of t) m))) keeps
-        (subst (λ (x : Turn). Invariant (turn_settles x (Known p on.all n)) (length image) (hosts_of (kept_after x t kept) me (run_after x n (run_of t on.floor on.named))) (shared (operated (op_of t) m))) is step.invariant) in
-        let one_new : max n (shown_by given) ≡ length on.all = ap (λ (r : Reply). max n (shown_by r)) (there.1 ∙ ap Appended gate_is) ∙ (let whole : max n (n + 1) ≡ length on.all = omega (arith, on.count) in whole) in
+        (subst (λ (x : Turn). Invariant (turn_settles x (Known p on.all n)) (length image)
+        (hosts_of (kept_after x t kept) me (run_after x n (run_of t on.floor on.named))) (shared (operated (op_of t) m))) is step.invariant) in
+        let one_new : max n (shown_by given) ≡ length on.all = ap (λ (r : Reply). max n (shown_by r)) (there.1 ∙ ap Appended gate_is)
+        ∙ (let whole : max n (n + 1) ≡ length on.all = omega (arith, on.count) in whole) in
         let all_now : turn_settles (Ends given) (Known p on.all n) ≡ Known p on.all (length on.all) = ap (Known p on.all) one_new in
         let settled_now : turn_settles (Ends given) before ≡ Known p on.all (length on.all) = ap (turn_settles (Ends given)) settled ∙ all_now in
         let count_now : length (operated (op_of t) m).image ≡ length image = operated_length (op_of t) m ∙ ran_length kept cmd me image cache t words made m ran in
-        let sent = all_sent cmd image p n on.e params.sound right.left right.proper (line_bytes * length image) (hosts_of kept me (Some (run_of t on.floor on.named))).uuid on.invariant.stage.master on.all t t m (word_of t m) cmd_is on.writing.entry on.writing.others within gate in
+        let sent = all_sent cmd image p n on.e params.sound right.left right.proper (line_bytes * length image)
+        (hosts_of kept me (Some (run_of t on.floor on.named))).uuid on.invariant.stage.master on.all t t m (word_of t m) cmd_is on.writing.entry
+        on.writing.others within gate in
         let clean_now : IsClean (operated (op_of t) m).cache = subst (λ (op : Op). IsClean (operated op m).cache) (sym op_is) sent in (
           subst (λ (r : Reply). Answers image me cmd r (operated (op_of t) m).image) (sym (there.1 ∙ ap Appended gate_is))
               (subst (λ (op : Op). Answers image me cmd (Appended n) (operated op m).image) (sym op_is)
@@ -378,7 +442,9 @@ module _ (kept : Option Kept) (cmd : Cmd) (me : List ℕ) (image : Image) (cache
               (subst (λ (x : Settled). Invariant x (length image) (hosts_of kept me None) (shared (operated (op_of t) m))) all_now ended))),
         )
 
-    pub sound_ends : Answers image me cmd given (operated (op_of t) m).image × IsClean (operated (op_of t) m).cache × (turn_settles (Ends given) (settles_up_to kept cmd me image cache t words made m ran (settled_at_first image)) ≡ settled_at_first (operated (op_of t) m).image)
+    pub sound_ends : Answers image me cmd given (operated (op_of t) m).image × IsClean (operated (op_of t) m).cache
+        × (turn_settles (Ends given) (settles_up_to kept cmd me image cache t words made m ran (settled_at_first image))
+        ≡ settled_at_first (operated (op_of t) m).image)
     unfolding before
     sound_ends =
         let whole : Whole = by_stage (staged t words made m ran) in

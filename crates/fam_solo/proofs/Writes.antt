@@ -51,7 +51,8 @@ abbrev pub Current : Image → Machine → ℕ → Type 0
 Current image m l = (line_at m.image l ≡ line_at image l) × Fresh (line_at m.image l) (cell_at m.cache l)
 
 -- an operation at another line
-away : (P : List ℕ → Cell → Type 0) (op : Op) (m : Machine) (line l : ℕ) → IsAt op line → l ≢ line → P (line_at m.image l) (cell_at m.cache l) → P (line_at (operated op m).image l) (cell_at (operated op m).cache l)
+away : (P : List ℕ → Cell → Type 0) (op : Op) (m : Machine) (line l : ℕ) → IsAt op line → l ≢ line → P (line_at m.image l) (cell_at m.cache l)
+    → P (line_at (operated op m).image l) (cell_at (operated op m).cache l)
 away P op m line l at other was =
     subst (λ (w : List ℕ). P w (cell_at (operated op m).cache l)) (sym (memory_away op m line l at other))
     (subst (P (line_at m.image l)) (sym (cache_away op m line l at other)) was)
@@ -131,7 +132,9 @@ module _ (cmd : Cmd) (image : Image) (p : Params) (n : ℕ) (e : Entry) (sound :
     then_gate false j m' gate = gate
 
     -- the task that goes on
-    on : (phase : Phase) (m' : Machine) → Some (record t { phase = phase }) ≡ Some next → ((l : ℕ) → (IsEntryLine p n e l → ⊥) → l ≢ gate_line → Untouched image m' l) → GateAt phase cmd image p n e m' → Writing cmd image p n e next m'
+    on : (phase : Phase) (m' : Machine) → Some (record t { phase = phase }) ≡ Some next
+        → ((l : ℕ) → (IsEntryLine p n e l → ⊥) → l ≢ gate_line → Untouched image m' l) → GateAt phase cmd image p n e m'
+        → Writing cmd image p n e next m'
     on phase m' is off gate = subst (λ (x : Task). Writing cmd image p n e x m') (same_Some (record t { phase = phase }) next is) record { entry = entry; others = off; gate = gate }
 
     -- what is finished before the gate is stored
@@ -156,7 +159,8 @@ module _ (cmd : Cmd) (image : Image) (p : Params) (n : ℕ) (e : Entry) (sound :
       slot_sent = λ j below.
           let done = a.slot j below in
           subst (λ (i : ℕ). IsCleanCell (cell_at m.cache (slot_line p i j))) (sym a.writing.settled_is)
-          (subst (λ (q : Params). IsCleanCell (cell_at m.cache (slot_line q t.gate j))) a.writing.params (clean_fresh (line_at m.image (slot_line t.params t.gate j)) (cell_at m.cache (slot_line t.params t.gate j)) refl done.1));
+          (subst (λ (q : Params). IsCleanCell (cell_at m.cache (slot_line q t.gate j))) a.writing.params
+          (clean_fresh (line_at m.image (slot_line t.params t.gate j)) (cell_at m.cache (slot_line t.params t.gate j)) refl done.1));
     }
 
     -- the store of the gate
@@ -166,27 +170,39 @@ module _ (cmd : Cmd) (image : Image) (p : Params) (n : ℕ) (e : Entry) (sound :
         ∙ ap (λ (w : List ℕ). Dirty false (slice_set w 0 (t.gate + 1))) (fresh_current (line_at m.image gate_line) (cell_at m.cache gate_line) gate.1 ∙ gate.0)
         ∙ ap (λ (i : ℕ). Dirty false (slice_set (line_at image gate_line) 0 (i + 1))) (sym gate_is)
 
-    pub writes_on : (pl : Phase) (floor : Option ℕ) → AtPhase pl sys 0 floor t (shared m) all n → GateAt pl cmd image p n e m → task_after (turn_at pl t word) ≡ Some next → Writing cmd image p n e next (operated (op_at t pl) m)
+    pub writes_on : (pl : Phase) (floor : Option ℕ) → AtPhase pl sys 0 floor t (shared m) all n → GateAt pl cmd image p n e m
+        → task_after (turn_at pl t word) ≡ Some next → Writing cmd image p n e next (operated (op_at t pl) m)
     writes_on (at.StoreData j k) floor a gate is =
         let line = of_file j a.1.writing.file.entry a.1.writing.entry a.1.line in
-        on _ (operated (op_at t (at.StoreData j k)) m) is (off_line (op_at t (at.StoreData j k)) (line_of t.entry j) refl line) (then_store (nat_lt k 7) j k _ (on_line (op_at t (at.StoreData j k)) (line_of t.entry j) refl line gate))
+        on _ (operated (op_at t (at.StoreData j k)) m) is (off_line (op_at t (at.StoreData j k)) (line_of t.entry j) refl line)
+        (then_store (nat_lt k 7) j k _ (on_line (op_at t (at.StoreData j k)) (line_of t.entry j) refl line gate))
     writes_on (at.SendData j) floor a gate is =
         let line = of_file j a.writing.file.entry a.writing.entry a.line in
-        on _ (operated (op_at t (at.SendData j)) m) is (off_line (op_at t (at.SendData j)) (line_of t.entry j) refl line) (then_data (nat_lt (j + 1) (lines_of (size_of t.entry))) j _ (on_line (op_at t (at.SendData j)) (line_of t.entry j) refl line gate))
+        on _ (operated (op_at t (at.SendData j)) m) is (off_line (op_at t (at.SendData j)) (line_of t.entry j) refl line)
+        (then_data (nat_lt (j + 1) (lines_of (size_of t.entry))) j _ (on_line (op_at t (at.SendData j)) (line_of t.entry j) refl line gate))
     writes_on (at.StoreSlot j k) floor a gate is =
         let line = of_slot j a.1.writing.params a.1.writing.settled_is a.1.line in
-        on _ (operated (op_at t (at.StoreSlot j k)) m) is (off_line (op_at t (at.StoreSlot j k)) (slot_line t.params t.gate j) refl line) (then_slot (nat_lt k 7) j k _ (on_line (op_at t (at.StoreSlot j k)) (slot_line t.params t.gate j) refl line gate))
+        on _ (operated (op_at t (at.StoreSlot j k)) m) is (off_line (op_at t (at.StoreSlot j k)) (slot_line t.params t.gate j) refl line)
+        (then_slot (nat_lt k 7) j k _ (on_line (op_at t (at.StoreSlot j k)) (slot_line t.params t.gate j) refl line gate))
     writes_on (at.SendSlot j) floor a gate is =
         let line = of_slot j a.writing.params a.writing.settled_is a.line in
-        on _ (operated (op_at t (at.SendSlot j)) m) is (off_line (op_at t (at.SendSlot j)) (slot_line t.params t.gate j) refl line) (then_gate (nat_lt (j + 1) (geometry t.params).lines) j _ (on_line (op_at t (at.SendSlot j)) (slot_line t.params t.gate j) refl line gate))
+        on _ (operated (op_at t (at.SendSlot j)) m) is (off_line (op_at t (at.SendSlot j)) (slot_line t.params t.gate j) refl line)
+        (then_gate (nat_lt (j + 1) (geometry t.params).lines) j _
+        (on_line (op_at t (at.SendSlot j)) (slot_line t.params t.gate j) refl line gate))
     writes_on at.StoreGate floor a gate is =
-        on at.SendGate (operated (op_at t at.StoreGate) m) is (λ l none other. away (λ w c. (w ≡ line_at image l) × IsCleanCell c) (op_at t at.StoreGate) m gate_line l refl other (others l none other)) (
+        on at.SendGate (operated (op_at t at.StoreGate) m) is
+        (λ l none other. away (λ w c. (w ≡ line_at image l) × IsCleanCell c) (op_at t at.StoreGate) m gate_line l refl other
+        (others l none other)) (
           let lines = all_lines a in
               record {
                 file = lines.file;
                 slot = lines.slot;
-                file_sent = λ j below. subst IsCleanCell (sym (cache_away (op_at t at.StoreGate) m gate_line (file_line e j) refl (λ same. no_gate (file_line e j) (inr (j, below, refl)) (sym same)))) (lines.file_sent j below);
-                slot_sent = λ j below. subst IsCleanCell (sym (cache_away (op_at t at.StoreGate) m gate_line (slot_line p n j) refl (λ same. no_gate (slot_line p n j) (inl (j, below, refl)) (sym same)))) (lines.slot_sent j below);
+                file_sent = λ j below. subst IsCleanCell
+                    (sym (cache_away (op_at t at.StoreGate) m gate_line (file_line e j) refl
+                    (λ same. no_gate (file_line e j) (inr (j, below, refl)) (sym same)))) (lines.file_sent j below);
+                slot_sent = λ j below. subst IsCleanCell
+                    (sym (cache_away (op_at t at.StoreGate) m gate_line (slot_line p n j) refl
+                    (λ same. no_gate (slot_line p n j) (inl (j, below, refl)) (sym same)))) (lines.slot_sent j below);
               },
           gate_stored a.writing.settled_is gate,
         )
@@ -201,13 +217,18 @@ module _ (cmd : Cmd) (image : Image) (p : Params) (n : ℕ) (e : Entry) (sound :
         )
         )
     writes_on at.SendGate floor a gate is =
-        on at.FenceGate (operated (op_at t at.SendGate) m) is (λ l none other. away (λ w c. (w ≡ line_at image l) × IsCleanCell c) (op_at t at.SendGate) m gate_line l refl other (others l none other)) (
+        on at.FenceGate (operated (op_at t at.SendGate) m) is
+        (λ l none other. away (λ w c. (w ≡ line_at image l) × IsCleanCell c) (op_at t at.SendGate) m gate_line l refl other (others l none other)) (
           let lines = gate.0 in
               record {
                 file = lines.file;
                 slot = lines.slot;
-                file_sent = λ j below. subst IsCleanCell (sym (cache_away (op_at t at.SendGate) m gate_line (file_line e j) refl (λ same. no_gate (file_line e j) (inr (j, below, refl)) (sym same)))) (lines.file_sent j below);
-                slot_sent = λ j below. subst IsCleanCell (sym (cache_away (op_at t at.SendGate) m gate_line (slot_line p n j) refl (λ same. no_gate (slot_line p n j) (inl (j, below, refl)) (sym same)))) (lines.slot_sent j below);
+                file_sent = λ j below. subst IsCleanCell
+                    (sym (cache_away (op_at t at.SendGate) m gate_line (file_line e j) refl
+                    (λ same. no_gate (file_line e j) (inr (j, below, refl)) (sym same)))) (lines.file_sent j below);
+                slot_sent = λ j below. subst IsCleanCell
+                    (sym (cache_away (op_at t at.SendGate) m gate_line (slot_line p n j) refl
+                    (λ same. no_gate (slot_line p n j) (inl (j, below, refl)) (sym same)))) (lines.slot_sent j below);
               },
           cell_at-with_cell_same gate_line (asked_for (cell_at m.cache gate_line)) m.cache ∙ ap asked_for gate.1,
         )
@@ -216,7 +237,8 @@ module _ (cmd : Cmd) (image : Image) (p : Params) (n : ℕ) (e : Entry) (sound :
 
     -- The last operation.
 
-    pub all_written : length m.image ≡ length image → gate_line < length m.image → GateAt at.FenceGate cmd image p n e m → IsAppended p n e (fill (content_of cmd) e.size) image (operated Fence m).image
+    pub all_written : length m.image ≡ length image → gate_line < length m.image → GateAt at.FenceGate cmd image p n e m
+        → IsAppended p n e (fill (content_of cmd) e.size) image (operated Fence m).image
     all_written count inside gate = record {
       count = operated_length Fence m ∙ count;
       file = λ j below. (fence_away m (file_line e j) (clean_unasked (cell_at m.cache (file_line e j)) (gate.0.file_sent j below))).0 ∙ gate.0.file j below;

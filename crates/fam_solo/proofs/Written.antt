@@ -20,7 +20,8 @@ pub written_normal : (image : Image) (p : Params) (n : ℕ) (e : Entry) (bytes :
 unfolding written
 written_normal image p n e bytes normal =
     normal-with_line (put_lines (slot_puts p n e) (put_lines (file_puts e bytes) image))
-    (normal_puts (slot_puts p n e) (put_lines (file_puts e bytes) image) (normal_puts (file_puts e bytes) image normal)) gate_line (slice_set (line_at (put_lines (slot_puts p n e) (put_lines (file_puts e bytes) image)) gate_line) 0 (n + 1))
+    (normal_puts (slot_puts p n e) (put_lines (file_puts e bytes) image) (normal_puts (file_puts e bytes) image normal)) gate_line
+    (slice_set (line_at (put_lines (slot_puts p n e) (put_lines (file_puts e bytes) image)) gate_line) 0 (n + 1))
 
 -- a line is one of the first n of a row, or none
 pub in_row : (f : ℕ → ℕ) (l n : ℕ) → ((j : ℕ) × (j < n) × (l ≡ f j)) ⊎ ((j : ℕ) → j < n → l ≢ f j)

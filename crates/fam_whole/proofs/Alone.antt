@@ -42,7 +42,8 @@ source_text names (why.CopyLimit sum) of = refl
 source_text names (why.BadListing at) of = refl
 source_text names e of = absurd of
 
-module _ (start : Image) (me : List ℕ) (what : Ask) (files : Files) (out : Outside) (given : Status) (image : IsImage start) (me_sound : IsUuid me) (x : ShotRun files start me (Runs what) out given) where
+module _ (start : Image) (me : List ℕ) (what : Ask) (files : Files) (out : Outside) (given : Status) (image : IsImage start) (me_sound : IsUuid me)
+    (x : ShotRun files start me (Runs what) out given) where
   abbrev name : List ℕ
   name = x.steps.name
 

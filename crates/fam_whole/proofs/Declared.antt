@@ -46,7 +46,8 @@ status_end [] note = refl
 status_end (one ∷ []) note = refl
 status_end (one ∷ next ∷ front) note = status_end (next ∷ front) note
 
-pub ends_same : {out : Outside} {given own own' : Status} {text text' : List ℕ} {left left' : Image} → EndsAs out given text left own → text ≡ text' → left ≡ left' → own ≡ own' → EndsAs out given text' left' own'
+pub ends_same : {out : Outside} {given own own' : Status} {text text' : List ℕ} {left left' : Image} → EndsAs out given text left own → text ≡ text'
+    → left ≡ left' → own ≡ own' → EndsAs out given text' left' own'
 ends_same {out} {given} {own} {own'} {text} {text'} {left} {left'} ends t l o = record {
   put = ends.put ∙ ap (λ (z : List ℕ). option_map (Rattle.fam_media.specs.Outside.with_piece z) out.sink.old.bytes) t;
   left_is = ends.left_is ∙ ap Some l;
@@ -85,7 +86,8 @@ module _ (start : Image) (name me : List ℕ) where
   -- a file system is refused by its numbers alone, before any operation
   pub make_refusal : (request : MkfsRequest) → refusal_of (call.Makes name request) declared ≡ option_map cause_of (early_refusal request.unit request.log (line_bytes * length start))
   unfolding refusal_of
-  make_refusal request = ap (λ (o : Option ℕ). on_host o (λ h. makes_refusal request.unit request.log h declared)) number_is ∙ or_none (option_map cause_of (early_refusal request.unit request.log (line_bytes * length start)))
+  make_refusal request = ap (λ (o : Option ℕ). on_host o (λ h. makes_refusal request.unit request.log h declared)) number_is
+      ∙ or_none (option_map cause_of (early_refusal request.unit request.log (line_bytes * length start)))
 
   -- Its events: it is declared, and does one thing.
 
@@ -124,7 +126,9 @@ module _ (start : Image) (name me : List ℕ) where
     none_taken (suc count) = refl
 
     -- where its journal ends in a note that isn't of its own declaring, it did the one thing
-    pub one_event : (e : Event) (test : Note → Bool) → test (Host name me) ≡ false → (journal : List Note) (last : Session) (count : ℕ) (events : List Event) → events ≡ event.Host name me ∷ take count (e ∷ []) → Follows files events (first_session start) journal last → last_passes test journal ≡ true → Two e journal last
+    pub one_event : (e : Event) (test : Note → Bool) → test (Host name me) ≡ false
+        → (journal : List Note) (last : Session) (count : ℕ) (events : List Event) → events ≡ event.Host name me ∷ take count (e ∷ [])
+        → Follows files events (first_session start) journal last → last_passes test journal ≡ true → Two e journal last
     one_event e test other journal last zero events is follows passes =
         absurd (let same = alone journal last (subst (λ (es : List Event). Follows files es (first_session start) journal last) is follows) in
         let ended = ap (last_passes test) same in cc)

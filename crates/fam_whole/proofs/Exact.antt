@@ -87,7 +87,9 @@ module _ (image : Image) (cache : Cache) (normal : map eight image ≡ image) (c
 
 -- Hosts at rest.
 
-pub rests_changed : (h : ℕ) (g : HostState → HostState) (memory image : Image) (hosts : List HostState) → Rested (record { memory = memory; hosts = hosts }) → ((host : HostState) → slice_get hosts h ≡ Some host → HostRests (g host)) → Rested (record { memory = image; hosts = changed_at h g hosts })
+pub rests_changed : (h : ℕ) (g : HostState → HostState) (memory image : Image) (hosts : List HostState)
+    → Rested (record { memory = memory; hosts = hosts }) → ((host : HostState) → slice_get hosts h ≡ Some host → HostRests (g host))
+    → Rested (record { memory = image; hosts = changed_at h g hosts })
 rests_changed h g memory image hosts rests mine k host is =
     elim (cases_eq k h) [
       | inl e ↦ at_h (slice_get hosts h) refl (subst (λ (n : ℕ). slice_get (changed_at h g hosts) n ≡ Some host) e is)
@@ -98,7 +100,8 @@ rests_changed h g memory image hosts rests mine k host is =
     at_h None none is' = absurd (let e = changed_here h g hosts ∙ ap (Rattle.std.specs.Prelude.option_map g) none in cc)
     at_h (Some z) some is' = subst HostRests (same_Some (g z) host (sym (changed_at_member h g hosts z some) ∙ is')) (mine z some)
 
-rests_more : (memory : Image) (hosts : List HostState) (host : HostState) → Rested (record { memory = memory; hosts = hosts }) → HostRests host → Rested (record { memory = memory; hosts = hosts ++ host ∷ [] })
+rests_more : (memory : Image) (hosts : List HostState) (host : HostState) → Rested (record { memory = memory; hosts = hosts }) → HostRests host
+    → Rested (record { memory = memory; hosts = hosts ++ host ∷ [] })
 rests_more memory hosts host rests mine k z is =
     elim (cases_eq k (length hosts)) [
       | inl e ↦ subst HostRests (same_Some host z (sym (member_last hosts host) ∙ subst (λ (n : ℕ). slice_get (hosts ++ host ∷ []) n ≡ Some z) e is)) mine
@@ -210,7 +213,9 @@ module _ (start : Image) (files : Files) (old : Machines) (journal : List Note) 
           sure = sure;
         })
 
-  moves_exact : (ev : Event) (name : List ℕ) (line : ℕ) (move : Move) (new : Machines) (notes : List Note) → AreFaultless notes → (h : ℕ) (host : HostState) → slice_get old.hosts h ≡ Some host → ActsAt (call.Moves name line move) h host old notes new → EventExact ev x old new notes
+  moves_exact : (ev : Event) (name : List ℕ) (line : ℕ) (move : Move) (new : Machines) (notes : List Note) → AreFaultless notes
+      → (h : ℕ) (host : HostState) → slice_get old.hosts h ≡ Some host → ActsAt (call.Moves name line move) h host old notes new
+      → EventExact ev x old new notes
   moves_exact ev name line move new notes clean h host is (inl moves) =
       subst (λ (z : Machines). EventExact ev x old z notes) (sym moves.left)
       (subst (EventExact ev x old _) (sym moves.notes_are)
@@ -237,7 +242,8 @@ module _ (start : Image) (files : Files) (old : Machines) (journal : List Note) 
       })))
 
   -- a cache's own move
-  move_exact : (ev : Event) (name : List ℕ) (line : ℕ) (move : Move) (new : Machines) (notes : List Note) → AreFaultless notes → Does (call.Moves name line move) old notes new → EventExact ev x old new notes
+  move_exact : (ev : Event) (name : List ℕ) (line : ℕ) (move : Move) (new : Machines) (notes : List Note) → AreFaultless notes
+      → Does (call.Moves name line move) old notes new → EventExact ev x old new notes
   move_exact ev name line move new notes clean does =
       by_refusal (call.Moves name line move) old new notes does (λ cause e f. quiet ev name cause new notes e f)
       (λ free acts. by_host (call.Moves name line move) old new notes acts (λ h host number is at. moves_exact ev name line move new notes clean h host is at))
@@ -273,14 +279,18 @@ module _ (start : Image) (files : Files) (old : Machines) (journal : List Note) 
     through_host h host number is at =
         let mid : Machines = with_task h (Some (task_begun host.kept cmd host.uuid)) old in
         let mid_as : mid ≡ with_machine h (record { image = old.memory; cache = host.cache }) (Some (task_begun host.kept cmd host.uuid)) old =
-        ap (λ (hosts : List HostState). record { memory = old.memory; hosts = hosts }) (changed_same h (λ z. record z { task = Some (task_begun host.kept cmd host.uuid) }) (λ z. record z { cache = host.cache; task = Some (task_begun host.kept cmd host.uuid) }) old.hosts host is refl) in
+        ap (λ (hosts : List HostState). record { memory = old.memory; hosts = hosts })
+        (changed_same h (λ z. record z { task = Some (task_begun host.kept cmd host.uuid) })
+        (λ z. record z { cache = host.cache; task = Some (task_begun host.kept cmd host.uuid) }) old.hosts host is refl) in
         let mid_is : run.mid.machines ≡ with_machine h (record { image = old.memory; cache = host.cache }) (Some (task_begun host.kept cmd host.uuid)) old = at.1 ∙ mid_as in
         let numbers : run.host ≡ h =
-        same_Some run.host h (sym run.number ∙ ap (number_of name) at.1 ∙ place_same (has_name name) (λ z. record z { task = Some (task_begun host.kept cmd host.uuid) }) (λ z. refl) h 0 old.hosts ∙ number) in
+        same_Some run.host h (sym run.number ∙ ap (number_of name) at.1 ∙ place_same (has_name name)
+        (λ z. record z { task = Some (task_begun host.kept cmd host.uuid) }) (λ z. refl) h 0 old.hosts ∙ number) in
         let completes : Completes h (with_machine h (record { image = old.memory; cache = host.cache }) (Some (task_begun host.kept cmd host.uuid)) old) run.rest new.machines =
         subst (λ (n : ℕ). Completes n (with_machine h (record { image = old.memory; cache = host.cache }) (Some (task_begun host.kept cmd host.uuid)) old) run.rest new.machines) numbers
         (subst (λ (z : Machines). Completes run.host z run.rest new.machines) mid_is run.does) in
-        let kept' : Reached start run.mid.machines (journal ++ run.first) = begun_kept start files name what s run.mid journal run.first (subst (λ (z : Machines). Reached start z journal) (sym same) kept) run.begun in
+        let kept' : Reached start run.mid.machines (journal ++ run.first) = begun_kept start files name what s run.mid journal run.first
+        (subst (λ (z : Machines). Reached start z journal) (sym same) kept) run.begun in
         let kept_as : Reached start (with_machine h (record { image = old.memory; cache = host.cache }) (Some (task_begun host.kept cmd host.uuid)) old) (journal ++ Start h cmd ∷ []) =
         subst (λ (z : Machines). Reached start z (journal ++ Start h cmd ∷ [])) mid_is (subst (λ (z : List Note). Reached start run.mid.machines (journal ++ z)) at.0 kept') in
         record {
@@ -291,7 +301,9 @@ module _ (start : Image) (files : Files) (old : Machines) (journal : List Note) 
           rest = run.rest;
           joined = run.joined ∙ ap (λ (z : List Note). z ++ run.rest) at.0;
           sure_then = state_after h;
-          ended = run_solo (event.Run name what) start h old host is (joined_of h host is) cmd (journal ++ Start h cmd ∷ []) (state_after h) completes.count new.machines run.rest kept_as completes.does (clean_rest run.first run.rest notes run.joined clean) completes.done;
+          ended = run_solo (event.Run name what) start h old host is (joined_of h host is) cmd (journal ++ Start h cmd ∷ [])
+              (state_after h) completes.count new.machines run.rest kept_as completes.does (clean_rest run.first run.rest notes run.joined clean)
+              completes.done;
           enough = at_most least_lines (length old.memory) (no_when _ _ (or_first _ _ (sym (ap (λ (o : Option ℕ). on_host o (λ h. begins_refusal h (is_mount cmd) old)) number) ∙ free)));
         }
 
@@ -313,11 +325,19 @@ module _ (start : Image) (files : Files) (old : Machines) (journal : List Note) 
             let settled : IsStateOf (past_of start j).state old.memory = subst (λ (w : Past). IsStateOf w.state old.memory) (sym past_is) (rest_state start old journal kept rests sure) in
             let limit : line_bytes * length old.memory ≤ device_limit = subst (λ (n : ℕ). line_bytes * n ≤ device_limit) (sym kept.held.lines) kept.held.limit in
             let f : Finished (event.Run name what) old (past_of start j) t.rest new.machines (operated (op_of t.ended.t) t.ended.m) =
-            finished (event.Run name what) start t.h old t.host t.is (joined_of t.h t.host t.is) cmd j t.sure_then settled t.enough limit normal (rests t.h t.host t.is).clean command (front_of t.h t.host t.is) new.machines t.rest t.ended in
+            finished (event.Run name what) start t.h old t.host t.is (joined_of t.h t.host t.is) cmd j t.sure_then settled t.enough limit normal
+            (rests t.h t.host t.is).clean command (front_of t.h t.host t.is) new.machines t.rest t.ended in
             let g : Finished (event.Run name what) old (past_behind x (Start t.h cmd ∷ [])) t.rest new.machines (operated (op_of t.ended.t) t.ended.m) =
             subst (λ (w : Past). Finished (event.Run name what) old w t.rest new.machines (operated (op_of t.ended.t) t.ended.m)) past_is f in
             record {
-              rests = subst Rested (sym t.ended.state_is) (rests_changed t.h (λ z. record z { cache = (operated (op_of t.ended.t) t.ended.m).cache; task = None; kept = kept_by t.ended.reply (read_by t.ended.t) t.host.kept }) old.memory (operated (op_of t.ended.t) t.ended.m).image old.hosts rests (λ z at. record { clean = g.clean; idle = refl }));
+              rests = subst Rested (sym t.ended.state_is)
+                  (rests_changed t.h (λ z. record z {
+                    cache = (operated (op_of t.ended.t) t.ended.m).cache;
+                    task = None;
+                    kept =
+                        kept_by t.ended.reply (read_by t.ended.t) t.host.kept;
+                  }) old.memory (operated (op_of t.ended.t) t.ended.m).image old.hosts rests
+                  (λ z at. record { clean = g.clean; idle = refl }));
               image = g.image;
               whole = (tt, g.whole);
               sure = g.sure;
@@ -338,7 +358,8 @@ module _ (start : Image) (files : Files) (old : Machines) (journal : List Note) 
         from : Through → Solo
         from t =
             let j : List Note = journal ++ Start t.h cmd ∷ [] in
-            let settled : IsStateOf (past_of start j).state old.memory = subst (λ (w : Past). IsStateOf w.state old.memory) (sym (past_both (first_past start) journal (Start t.h cmd ∷ []))) (rest_state start old journal kept rests sure) in
+            let settled : IsStateOf (past_of start j).state old.memory = subst (λ (w : Past). IsStateOf w.state old.memory)
+            (sym (past_both (first_past start) journal (Start t.h cmd ∷ []))) (rest_state start old journal kept rests sure) in
             let limit : line_bytes * length old.memory ≤ device_limit = subst (λ (n : ℕ). line_bytes * n ≤ device_limit) (sym kept.held.lines) kept.held.limit in
             record {
               h = t.h;
@@ -348,19 +369,24 @@ module _ (start : Image) (files : Files) (old : Machines) (journal : List Note) 
               notes_are =
                   t.joined
                   ∙ ap (λ (z : List Note). Start t.h cmd ∷ z) (t.ended.notes_are ∙ ap (λ (r : Reply). t.ended.before ++ Answered t.h (Replied r) ∷ [])
-                  (reply_is (event.Run name what) start t.h old t.host t.is (joined_of t.h t.host t.is) cmd j t.sure_then settled t.enough limit normal (rests t.h t.host t.is).clean command (front_of t.h t.host t.is) new.machines t.rest t.ended));
-              left = left_is (event.Run name what) start t.h old t.host t.is (joined_of t.h t.host t.is) cmd j t.sure_then settled t.enough limit normal (rests t.h t.host t.is).clean command (front_of t.h t.host t.is) new.machines t.rest t.ended;
+                  (reply_is (event.Run name what) start t.h old t.host t.is (joined_of t.h t.host t.is) cmd j t.sure_then settled t.enough limit
+                  normal (rests t.h t.host t.is).clean command (front_of t.h t.host t.is) new.machines t.rest t.ended));
+              left = left_is (event.Run name what) start t.h old t.host t.is (joined_of t.h t.host t.is) cmd j t.sure_then settled t.enough limit
+                  normal (rests t.h t.host t.is).clean command (front_of t.h t.host t.is) new.machines t.rest t.ended;
             }
 
   -- an event
-  event_exact : (e : Event) → IsValidEvent e → IsWholeEvent e → (s new : Session) → s.machines ≡ old → (notes : List Note) → AreFaultless notes → DoesEvent files e s notes new → EventExact e x old new.machines notes
+  event_exact : (e : Event) → IsValidEvent e → IsWholeEvent e → (s new : Session) → s.machines ≡ old → (notes : List Note) → AreFaultless notes
+      → DoesEvent files e s notes new → EventExact e x old new.machines notes
   event_exact (event.Host name uuid) sound whole s new same notes clean does =
       by_refusal (call.Declares name uuid) old new.machines notes (subst (λ (z : Machines). Does (call.Declares name uuid) z notes new.machines) same does.0)
       (λ cause e f. quiet (event.Host name uuid) name cause new.machines notes e f) (λ free acts. declared_exact name uuid new.machines notes acts)
   event_exact (event.Mkfs name fs unit log format force halt) sound whole s new same notes clean does =
-      by_refusal (call.Makes name (mkfs_request fs unit log format force halt)) old new.machines notes (subst (λ (z : Machines). Does (call.Makes name (mkfs_request fs unit log format force halt)) z notes new.machines) same does.0)
+      by_refusal (call.Makes name (mkfs_request fs unit log format force halt)) old new.machines notes
+      (subst (λ (z : Machines). Does (call.Makes name (mkfs_request fs unit log format force halt)) z notes new.machines) same does.0)
       (λ cause e f. quiet (event.Mkfs name fs unit log format force halt) name cause new.machines notes e f)
-      (λ free acts. by_host (call.Makes name (mkfs_request fs unit log format force halt)) old new.machines notes acts (λ h host number is at. makes_exact name fs unit log format force halt new.machines notes h host is at))
+      (λ free acts. by_host (call.Makes name (mkfs_request fs unit log format force halt)) old new.machines notes acts
+      (λ h host number is at. makes_exact name fs unit log format force halt new.machines notes h host is at))
   event_exact (event.Run name what) sound whole s new same notes clean (inl run) = run_exact name what s new same notes clean run
   event_exact (event.Run name what) sound whole s new same notes clean (inr (inl x)) =
       quiet (event.Run name what) name x.cause new.machines notes x.notes_are (ap (λ (z : Session). z.machines) x.same ∙ same)
@@ -374,7 +400,8 @@ module _ (start : Image) (files : Files) (old : Machines) (journal : List Note) 
   event_exact (event.Leak name line mask) sound whole s new same notes clean does =
       move_exact (event.Leak name line mask) name line.0 (Leak mask.0) new.machines notes clean (subst (λ (z : Machines). Does (call.Moves name line.0 (Leak mask.0)) z notes new.machines) same does.0)
   event_exact (event.Fetch name line mask) sound whole s new same notes clean does =
-      move_exact (event.Fetch name line mask) name line.0 (Fetch mask.0) new.machines notes clean (subst (λ (z : Machines). Does (call.Moves name line.0 (Fetch mask.0)) z notes new.machines) same does.0)
+      move_exact (event.Fetch name line mask) name line.0 (Fetch mask.0) new.machines notes clean
+      (subst (λ (z : Machines). Does (call.Moves name line.0 (Fetch mask.0)) z notes new.machines) same does.0)
   event_exact e sound whole s new same notes clean does = absurd whole
 
 -- All events.
@@ -386,11 +413,13 @@ pub record Between (start : Image) (s : Machines) (journal : List Note) : Type 0
   pub sure : HasNothingPending (past_of start journal).state
 
 module _ (start : Image) (files : Files) where
-  exact_then : (e : Event) → IsValidEvent e → IsWholeEvent e → (old new : Session) (journal notes : List Note) → Between start old.machines journal → AreFaultless notes → DoesEvent files e old notes new → EventExact e (past_of start journal) old.machines new.machines notes
+  exact_then : (e : Event) → IsValidEvent e → IsWholeEvent e → (old new : Session) (journal notes : List Note) → Between start old.machines journal
+      → AreFaultless notes → DoesEvent files e old notes new → EventExact e (past_of start journal) old.machines new.machines notes
   exact_then e sound whole old new journal notes between clean does =
       event_exact start files old.machines journal between.kept between.rests between.sure e sound whole old new refl notes clean does
 
-  pub one_more : (e : Event) → IsValidEvent e → IsWholeEvent e → (old new : Session) (journal notes : List Note) → Between start old.machines journal → AreFaultless notes → DoesEvent files e old notes new → Between start new.machines (journal ++ notes)
+  pub one_more : (e : Event) → IsValidEvent e → IsWholeEvent e → (old new : Session) (journal notes : List Note) → Between start old.machines journal
+      → AreFaultless notes → DoesEvent files e old notes new → Between start new.machines (journal ++ notes)
   one_more e sound whole old new journal notes between clean does =
       let x : EventExact e (past_of start journal) old.machines new.machines notes = exact_then e sound whole old new journal notes between clean does in
       record {
@@ -405,7 +434,9 @@ module _ (start : Image) (files : Files) where
     image : new.machines.memory ≡ events_image files events old notes new follows (past_of start journal) old.machines.memory
     whole : AreWholeEvents files events old notes new follows (past_of start journal) old.machines.memory
 
-  all_exact : (events : List Event) → AreSound events → AreWhole events → (old new : Session) (journal notes : List Note) → Between start old.machines journal → AreFaultless notes → (follows : Follows files events old notes new) → AllExact events old new journal notes follows
+  all_exact : (events : List Event) → AreSound events → AreWhole events → (old new : Session) (journal notes : List Note)
+      → Between start old.machines journal → AreFaultless notes → (follows : Follows files events old notes new)
+      → AllExact events old new journal notes follows
   all_exact [] sound whole old new journal notes between clean follows = record {
     between = subst (λ (z : Session). Between start z.machines (journal ++ notes)) (sym follows.1)
         (subst (Between start old.machines) (sym (append-nil journal) ∙ ap (λ (z : List Note). journal ++ z) (sym follows.0)) between);

@@ -30,9 +30,11 @@ laid p all history i e at =
     (subst (λ (l : List Entry). Rattle.fam_rules.specs.Place.IsFreeAfter p l f.entry) (sym (take-map (λ (g : File). g.entry) i all))
     (record { proper = belongs.proper; units = (joins_from p (entries_of (take i all)) f.entry belongs.joins).units }))
 
-module _ (start : Image) (state : Machines) (journal : List Note) (kept : Reached start state journal) (p : Params) (history : List File) (pending : Option File) (is : (past_of start journal).state ≡ Sound p history pending) where
+module _ (start : Image) (state : Machines) (journal : List Note) (kept : Reached start state journal) (p : Params) (history : List File)
+    (pending : Option File) (is : (past_of start journal).state ≡ Sound p history pending) where
   known : IsKnown p (with_pending history pending) (length history) (length start) (hosts_of kept.views (past_of start journal).hosts) (shared_of state.memory kept.views)
-  known = subst (λ (s : State). InvariantBy (settled_of s (line_at state.memory)) (length start) (hosts_of kept.views (past_of start journal).hosts) (shared_of state.memory kept.views)) is kept.held.invariant.stage
+  known = subst (λ (s : State). InvariantBy (settled_of s (line_at state.memory)) (length start) (hosts_of kept.views (past_of start journal).hosts)
+      (shared_of state.memory kept.views)) is kept.held.invariant.stage
 
   pub files_apart : (i j a b byte : ℕ) → StandsAt (entries_of (with_pending history pending)) i a byte → StandsAt (entries_of (with_pending history pending)) j b byte → (i ≡ j) × (a ≡ b)
   files_apart i j a b byte one other =
@@ -40,7 +42,8 @@ module _ (start : Image) (state : Machines) (journal : List Note) (kept : Reache
       (laid_apart p (entries_of (with_pending history pending)) (laid p (with_pending history pending) known.core.history)) one other
 
 -- what an image reads as has each file's bytes from it
-held_of : (image : Image) (p : Params) (history : List File) (r : Reading) → Sound p history None ≡ state_read image r → (i : ℕ) (f : File) → slice_get history i ≡ Some f → f ≡ held_file (line_at image) f.entry
+held_of : (image : Image) (p : Params) (history : List File) (r : Reading) → Sound p history None ≡ state_read image r → (i : ℕ) (f : File)
+    → slice_get history i ≡ Some f → f ≡ held_file (line_at image) f.entry
 held_of image p history (read.NoSuperblock fault) is i f at = absurd cc
 held_of image p history (read.BadHeader fault) is i f at = absurd cc
 held_of image p history (read.BadSlot k reason) is i f at = absurd cc
@@ -49,9 +52,12 @@ held_of image p history (read.Sound q entries) is i f at =
     let (e, there, same) = member_from (held_file (line_at image)) entries i f (ap (λ (fs : List File). slice_get fs i) (sym all) ∙ at) in
     sym same ∙ ap (held_file (line_at image)) (ap (λ (g : File). g.entry) same)
 
-held_by : (image : Image) (p : Params) (history : List File) (small : Bool) (few : State) → (Sound p history None ≡ few → ⊥) → Sound p history None ≡ (if small then few else state_read image (reading image)) → (i : ℕ) (f : File) → slice_get history i ≡ Some f → f ≡ held_file (line_at image) f.entry
+held_by : (image : Image) (p : Params) (history : List File) (small : Bool) (few : State) → (Sound p history None ≡ few → ⊥)
+    → Sound p history None ≡ (if small then few else state_read image (reading image)) → (i : ℕ) (f : File) → slice_get history i ≡ Some f
+    → f ≡ held_file (line_at image) f.entry
 held_by image p history true few none is i f at = absurd (none is)
 held_by image p history false few none is i f at = held_of image p history (reading image) is i f at
 
-pub files_held : (image : Image) (p : Params) (history : List File) → Sound p history None ≡ first_state image → (i : ℕ) (f : File) → slice_get history i ≡ Some f → f ≡ held_file (line_at image) f.entry
+pub files_held : (image : Image) (p : Params) (history : List File) → Sound p history None ≡ first_state image → (i : ℕ) (f : File)
+    → slice_get history i ≡ Some f → f ≡ held_file (line_at image) f.entry
 files_held image p history is i f at = held_by image p history (nat_lt (length image) least_lines) (Bad (Given image) (FewLines (length image)) 0) (λ e. absurd cc) is i f at

@@ -47,7 +47,8 @@ replied_same image state (Appended seq) sure = acknowledged_same image state seq
 replied_same image state e sure = refl
 
 -- what a state without anything pending says of the image that it is of
-sound_read : (image : Image) (p : Params) (history : List File) (r : Reading) → Sound p history None ≡ state_read image r → (entries : List Entry) × (r ≡ read.Sound p entries) × (history ≡ map (held_file (line_at image)) entries)
+sound_read : (image : Image) (p : Params) (history : List File) (r : Reading) → Sound p history None ≡ state_read image r
+    → (entries : List Entry) × (r ≡ read.Sound p entries) × (history ≡ map (held_file (line_at image)) entries)
 sound_read image p history (read.NoSuperblock fault) is = absurd cc
 sound_read image p history (read.BadHeader fault) is = absurd cc
 sound_read image p history (read.BadSlot i reason) is = absurd cc
@@ -66,8 +67,11 @@ pub record Finished (ev : Event) (base : Machines) (x : Past) (notes : List Note
   pub sure : HasNothingPending (past_behind x notes).state
   pub clean : IsClean left.cache
 
-module _ (ev : Event) (start : Image) (h : ℕ) (base : Machines) (host : HostState) (host_is : slice_get base.hosts h ≡ Some host) (joined : IsKept host.kept) (cmd : Cmd) (journal : List Note) (sure : HasNothingPending (past_of start journal).state)
-    (settled : IsStateOf (past_of start journal).state base.memory) (enough : least_lines ≤ length base.memory) (limit : line_bytes * length base.memory ≤ device_limit) (normal : map eight base.memory ≡ base.memory) (clean : IsClean host.cache) (command : IsCommand cmd) (front : KeepsFront (settled_at_first base.memory) host.kept)
+module _ (ev : Event) (start : Image) (h : ℕ) (base : Machines) (host : HostState) (host_is : slice_get base.hosts h ≡ Some host)
+    (joined : IsKept host.kept) (cmd : Cmd) (journal : List Note) (sure : HasNothingPending (past_of start journal).state)
+    (settled : IsStateOf (past_of start journal).state base.memory) (enough : least_lines ≤ length base.memory)
+    (limit : line_bytes * length base.memory ≤ device_limit) (normal : map eight base.memory ≡ base.memory) (clean : IsClean host.cache)
+    (command : IsCommand cmd) (front : KeepsFront (settled_at_first base.memory) host.kept)
     (new : Machines) (notes : List Note) (end : Ended ev start h base host host_is joined cmd journal sure new notes) where
   abbrev image : Image
   image = base.memory
@@ -110,7 +114,9 @@ module _ (ev : Event) (start : Image) (h : ℕ) (base : Machines) (host : HostSt
   reply_is = (solo host.kept joined image me cmd host.cache end.t end.words end.made end.m end.reply enough limit normal clean command front end.ran end.inside end.ends).0.answer
 
   pub left_is : new.memory ≡ solo_image image me cmd
-  left_is = ap (λ (m : Machines). m.memory) end.state_is ∙ (solo host.kept joined image me cmd host.cache end.t end.words end.made end.m end.reply enough limit normal clean command front end.ran end.inside end.ends).0.left_is
+  left_is = ap (λ (m : Machines). m.memory) end.state_is
+      ∙ (solo host.kept joined image me cmd host.cache end.t end.words end.made end.m end.reply enough limit normal clean command front end.ran
+      end.inside end.ends).0.left_is
 
   pub left_clean : IsClean left.cache
   left_clean = (solo host.kept joined image me cmd host.cache end.t end.words end.made end.m end.reply enough limit normal clean command front end.ran end.inside end.ends).1
@@ -129,7 +135,9 @@ module _ (ev : Event) (start : Image) (h : ℕ) (base : Machines) (host : HostSt
       let a = appends image me cmd late.p said.0 late.e said.1 decides in
       by_appends said.0 said.2 (solo_reply image me cmd) refl a late said.1 decides
     where
-      by_appends : (entries : List Entry) → late.history ≡ map (held_file (line_at image)) entries → (given : Reply) → solo_reply image me cmd ≡ given → Appends image me cmd → OnLate ev start h base host host_is joined cmd journal sure end.t y → reading image ≡ read.Sound late.p entries → decide late.p me entries cmd ≡ Some (Ok late.e) → Says
+      by_appends : (entries : List Entry) → late.history ≡ map (held_file (line_at image)) entries → (given : Reply) → solo_reply image me cmd ≡ given
+          → Appends image me cmd → OnLate ev start h base host host_is joined cmd journal sure end.t y → reading image ≡ read.Sound late.p entries
+          → decide late.p me entries cmd ≡ Some (Ok late.e) → Says
       by_appends entries history_is given given_is a late' sound decides =
           let sounds : read.Sound a.p a.entries ≡ read.Sound late.p entries = sym a.sound ∙ sound in
           let params : a.p ≡ late.p = cc in
@@ -146,7 +154,9 @@ module _ (ev : Event) (start : Image) (h : ℕ) (base : Machines) (host : HostSt
                 ∙ sym (ap (λ (r : Reply). replied_image image y.state r) reply ∙ ap (λ (z : State). acknowledged_image image z (length a.entries)) late.is);
             reply_whole = subst (λ (r : Reply). IsWholeReply r y.state image) (sym reply) (λ m e. absurd cc);
             sure_then = subst HasNothingPending (sym (ap (λ (r : Reply). replied r y.state) reply ∙ ap (acknowledges (length a.entries)) late.is
-                ∙ acknowledged late.p late.history (length a.entries) (Some (record { entry = late.e; bytes = fill (content_of cmd) late.e.size })) (omega (arith, count, length-append late.history (record { entry = late.e; bytes = fill (content_of cmd) late.e.size } ∷ []))))) refl;
+                ∙ acknowledged late.p late.history (length a.entries) (Some (record { entry = late.e; bytes = fill (content_of cmd) late.e.size }))
+                (omega (arith, count, length-append late.history (record { entry = late.e; bytes = fill (content_of cmd) late.e.size } ∷ [])))))
+                refl;
           }
 
   -- nothing is written
@@ -154,7 +164,8 @@ module _ (ev : Event) (start : Image) (h : ℕ) (base : Machines) (host : HostSt
   says_early same = elim (appends_or image me cmd) [
     | inl stays ↦ record {
       image_same = left_is ∙ stays ∙ sym (ap (λ (z : State). replied_image image z end.reply) same ∙ replied_same image x.state end.reply sure);
-      reply_whole = subst (λ (z : State). IsWholeReply end.reply z image) (sym same) (subst (λ (r : Reply). IsWholeReply r x.state image) (sym reply_is) (whole_reply image x.state me cmd settled_same));
+      reply_whole = subst (λ (z : State). IsWholeReply end.reply z image) (sym same)
+          (subst (λ (r : Reply). IsWholeReply r x.state image) (sym reply_is) (whole_reply image x.state me cmd settled_same));
       sure_then = subst HasNothingPending (sym (ap (replied end.reply) same ∙ replied_sure end.reply x.state sure)) sure;
     }
     | inr a ↦ absurd (not_written a same)

@@ -22,7 +22,8 @@ pub image_both : (e : Event) (x : Past) (image : Image) (a b : List Note) → im
 image_both e x image [] b = refl
 image_both e x image (note ∷ a) b = image_both e (past_after x note) (image_after e x image note) a b
 
-pub whole_both : (e : Event) (x : Past) (image : Image) (a b : List Note) → AreWholeNotes e x image a → AreWholeNotes e (past_behind x a) (image_behind e x image a) b → AreWholeNotes e x image (a ++ b)
+pub whole_both : (e : Event) (x : Past) (image : Image) (a b : List Note) → AreWholeNotes e x image a
+    → AreWholeNotes e (past_behind x a) (image_behind e x image a) b → AreWholeNotes e x image (a ++ b)
 whole_both e x image [] b first second = second
 whole_both e x image (note ∷ a) b first second = (first.0, whole_both e (past_after x note) (image_after e x image note) a b first.1 second)
 

@@ -47,7 +47,8 @@ standing_none true found is = refl
 standing_none false (Ok other) is = absurd cc
 standing_none false (Err fault) is = refl
 
-module _ (start : Image) (me : List ℕ) (request : MkfsRequest) (files : Files) (out : Outside) (given : Status) (image : IsImage start) (me_sound : IsUuid me) (whole : request.halt ≡ None) (x : ShotRun files start me (Makes request) out given) where
+module _ (start : Image) (me : List ℕ) (request : MkfsRequest) (files : Files) (out : Outside) (given : Status) (image : IsImage start)
+    (me_sound : IsUuid me) (whole : request.halt ≡ None) (x : ShotRun files start me (Makes request) out given) where
   abbrev name : List ℕ
   name = x.steps.name
 
@@ -68,7 +69,8 @@ module _ (start : Image) (me : List ℕ) (request : MkfsRequest) (files : Files)
 
   two : Two start name me files image me_sound (event.Mkfs name request.fs request.unit request.log request.format request.force request.halt) journal x.run.last
   two =
-      one_event start name me files image me_sound (event.Mkfs name request.fs request.unit request.log request.format request.force request.halt) (ends_shot (Makes request)) refl journal x.run.last x.steps.count x.events x.steps.events_are x.run.follows x.ended
+      one_event start name me files image me_sound (event.Mkfs name request.fs request.unit request.log request.format request.force request.halt)
+      (ends_shot (Makes request)) refl journal x.run.last x.steps.count x.events x.steps.events_are x.run.follows x.ended
 
   does : Does (call.Makes name request) old two.notes left
   does = subst (λ (m : Machines). Does (call.Makes name request) m two.notes left) two.mid_is two.does.0
@@ -83,13 +85,18 @@ module _ (start : Image) (me : List ℕ) (request : MkfsRequest) (files : Files)
   ends_in : (note : Note) → two.notes ≡ note ∷ [] → journal ≡ Host name me ∷ note ∷ []
   ends_in note is = two.journal_is ∙ ap (λ (z : List Note). Host name me ∷ z) is
 
-  unless : (o : Option Refusal) → mkfs_refusal start request.unit request.log request.force ≡ o → EndsUnless o start out given (EndsAs out given (line (made_text p)) (formatted start p) status.Done) → FormatsImage start me request out given
+  unless : (o : Option Refusal) → mkfs_refusal start request.unit request.log request.force ≡ o
+      → EndsUnless o start out given (EndsAs out given (line (made_text p)) (formatted start p) status.Done) → FormatsImage start me request out given
   unless o is ends = subst (λ (z : Option Refusal). EndsUnless z start out given (EndsAs out given (line (made_text p)) (formatted start p) status.Done)) (sym is) ends
 
-  refused : (cause : Refusal) → mkfs_refusal start request.unit request.log request.force ≡ Some cause → refusal_text (name ∷ []) cause ≡ refusal_text [] cause → two.notes ≡ Refused name cause ∷ [] → left.memory ≡ start → FormatsImage start me request out given
+  refused : (cause : Refusal) → mkfs_refusal start request.unit request.log request.force ≡ Some cause
+      → refusal_text (name ∷ []) cause ≡ refusal_text [] cause → two.notes ≡ Refused name cause ∷ [] → left.memory ≡ start
+      → FormatsImage start me request out given
   unfolding shown
   refused cause is nameless notes same =
-      unless (Some cause) is (ends_same x.ends (ap shown (ends_in (Refused name cause) notes) ∙ ap (λ (t : List ℕ). line (codes "refused " ++ t)) nameless) same (ap last_status (ends_in (Refused name cause) notes)))
+      unless (Some cause) is (ends_same x.ends
+      (ap shown (ends_in (Refused name cause) notes) ∙ ap (λ (t : List ℕ). line (codes "refused " ++ t)) nameless) same
+      (ap last_status (ends_in (Refused name cause) notes)))
 
   module _ (free : early_refusal request.unit request.log have ≡ None) where
     refusal_is : (o : Option Refusal) → standing_refusal request.force (super_in (line_at start) have) ≡ o → mkfs_refusal start request.unit request.log request.force ≡ o
@@ -99,21 +106,34 @@ module _ (start : Image) (me : List ℕ) (request : MkfsRequest) (files : Files)
     unfolding shown
     made h m =
         unless None (refusal_is None (standing_none request.force (super_in (line_at start) have) (ap (goes_on request.force) (sym found) ∙ m.free)))
-        (ends_same x.ends (ap shown (ends_in (Made h p) m.notes_are)) (ap (λ (z : Machines). z.memory) m.left ∙ clean_formats start finmap.empty image.normal clean_empty p) (ap last_status (ends_in (Made h p) m.notes_are)))
+        (ends_same x.ends (ap shown (ends_in (Made h p) m.notes_are))
+        (ap (λ (z : Machines). z.memory) m.left ∙ clean_formats start finmap.empty image.normal clean_empty p)
+        (ap last_status (ends_in (Made h p) m.notes_are)))
 
     meets : (h : ℕ) → Meets h p request.force name (only start name me) old two.notes left → FormatsImage start me request out given
     meets h m =
         refused (why.HasSuper m.other.fs)
-        (refusal_is (Some (why.HasSuper m.other.fs)) (ap (λ (t : Bool). standing_refusal t (super_in (line_at start) have)) m.unforced ∙ ap (standing_refusal false) (sym found ∙ m.stands))) refl m.notes_are
+        (refusal_is (Some (why.HasSuper m.other.fs))
+        (ap (λ (t : Bool). standing_refusal t (super_in (line_at start) have)) m.unforced ∙ ap (standing_refusal false) (sym found ∙ m.stands)))
+        refl m.notes_are
         (ap (λ (z : Machines). z.memory) m.left ∙ read_image start finmap.empty image.normal clean_empty)
 
     acts : Acts (call.Makes name request) old two.notes left → FormatsImage start me request out given
     acts a = by_host (call.Makes name request) old left two.notes a
-        (λ h host number is at. elim (subst (λ (z : HostState). ActsAt (call.Makes name request) h z old two.notes left) (host_is start name me h host is) at) [ inl m ↦ made h (subst (λ (o : Option ℕ). MakesOrHalts o h p request.force (only start name me) old two.notes left) whole m) | inr m ↦ meets h m ])
+        (λ h host number is at. elim (subst (λ (z : HostState). ActsAt (call.Makes name request) h z old two.notes left)
+        (host_is start name me h host is) at) [
+          | inl m ↦ made h (subst (λ (o : Option ℕ). MakesOrHalts o h p request.force (only start name me) old two.notes left) whole m)
+          | inr m ↦
+              meets h m
+        ])
 
-  by_early : (o : Option EarlyRefusal) → early_refusal request.unit request.log have ≡ o → ByRefusal name (option_map cause_of o) two.notes old left (Acts (call.Makes name request) old two.notes left) → FormatsImage start me request out given
+  by_early : (o : Option EarlyRefusal) → early_refusal request.unit request.log have ≡ o
+      → ByRefusal name (option_map cause_of o) two.notes old left (Acts (call.Makes name request) old two.notes left)
+      → FormatsImage start me request out given
   by_early (Some e) is d =
-      refused (cause_of e) (ap (λ (z : Option EarlyRefusal). or_else (option_map cause_of z) (standing_refusal request.force (super_in (line_at start) have))) is) (early_text (name ∷ []) e) d.0 (ap (λ (z : Machines). z.memory) d.1)
+      refused (cause_of e) (ap (λ (z : Option EarlyRefusal).
+      or_else (option_map cause_of z) (standing_refusal request.force (super_in (line_at start) have))) is) (early_text (name ∷ []) e) d.0
+      (ap (λ (z : Machines). z.memory) d.1)
   by_early None is a = acts is a
 
   pub mkfs_ends : FormatsImage start me request out given

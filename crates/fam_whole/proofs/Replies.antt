@@ -55,7 +55,8 @@ of_either n false a b x y = y
 
 of_verified : (n : ℕ) (bytes : List ℕ) (against : Content) → IsOf n (verified n bytes against)
 of_verified n bytes (content.Bytes given) =
-    of_either n (length given == length bytes) (compared n bytes (content.Bytes given)) (Length n (length bytes) (length given)) (of_compared n bytes (content.Bytes given) (first_difference bytes (content.Bytes given))) refl
+    of_either n (length given == length bytes) (compared n bytes (content.Bytes given)) (Length n (length bytes) (length given))
+    (of_compared n bytes (content.Bytes given) (first_difference bytes (content.Bytes given))) refl
 of_verified n bytes (content.Seed seed) = of_compared n bytes (content.Seed seed) (first_difference bytes (content.Seed seed))
 of_verified n bytes content.Zero = of_compared n bytes content.Zero (first_difference bytes content.Zero)
 
@@ -102,11 +103,13 @@ module _ (image : Image) (state : State) where
   abbrev have : ℕ
   have = line_bytes * length image
 
-  whole_asked : (entries : List Entry) (cmd : Cmd) (o : Option Reply) → ask (map (held_file memory) entries) cmd ≡ o → settled_length state ≡ length (map (held_file memory) entries) → IsWholeReply (unwrap_or o (Reports (report_of memory have))) state image
+  whole_asked : (entries : List Entry) (cmd : Cmd) (o : Option Reply) → ask (map (held_file memory) entries) cmd ≡ o
+      → settled_length state ≡ length (map (held_file memory) entries) → IsWholeReply (unwrap_or o (Reports (report_of memory have))) state image
   whole_asked entries cmd None is count = refl
   whole_asked entries cmd (Some given) is count = whole_of given (subst (λ (n : ℕ). IsOf n given) (sym count) (of_ask (map (held_file memory) entries) cmd given is))
 
-  whole_sound : (entries : List Entry) (cmd : Cmd) (o : Option (Result Entry Refused)) → settled_length state ≡ length (map (held_file memory) entries) → IsWholeReply (sound_reply memory have entries cmd o) state image
+  whole_sound : (entries : List Entry) (cmd : Cmd) (o : Option (Result Entry Refused))
+      → settled_length state ≡ length (map (held_file memory) entries) → IsWholeReply (sound_reply memory have entries cmd o) state image
   whole_sound entries cmd (Some d) count = whole_appended (length entries) d
   whole_sound entries cmd None count = whole_asked entries cmd (ask (map (held_file memory) entries) cmd) refl count
 
@@ -126,7 +129,8 @@ module _ (image : Image) (state : State) where
       by_cmd Logplay = whole_unless (head_refusal (wish_of Logplay) (super_in memory have) me) _ (whole_read me Logplay (reading image) is)
       by_cmd Mount = whole_unless (head_refusal (wish_of Mount) (super_in memory have) me) _ (whole_read me Mount (reading image) is)
       by_cmd (Mkdir path attr) = whole_unless (head_refusal (wish_of (Mkdir path attr)) (super_in memory have) me) _ (whole_read me (Mkdir path attr) (reading image) is)
-      by_cmd (Creat path size attr stripe fill) = whole_unless (head_refusal (wish_of (Creat path size attr stripe fill)) (super_in memory have) me) _ (whole_read me (Creat path size attr stripe fill) (reading image) is)
+      by_cmd (Creat path size attr stripe fill) = whole_unless (head_refusal (wish_of (Creat path size attr stripe fill)) (super_in memory have) me) _
+          (whole_read me (Creat path size attr stripe fill) (reading image) is)
       by_cmd (Cp path attr stripe bytes) = whole_unless (head_refusal (wish_of (Cp path attr stripe bytes)) (super_in memory have) me) _ (whole_read me (Cp path attr stripe bytes) (reading image) is)
       by_cmd (Verify path against) = whole_unless (head_refusal (wish_of (Verify path against)) (super_in memory have) me) _ (whole_read me (Verify path against) (reading image) is)
       by_cmd (Read path offset count) = whole_unless (head_refusal (wish_of (Read path offset count)) (super_in memory have) me) _ (whole_read me (Read path offset count) (reading image) is)

@@ -162,7 +162,8 @@ module _ (start : Image) (s : Machines) (journal : List Note) (kept : Reached st
       let d = declared_at start s journal kept h host is in
       let same : d.view.kept ≡ host.kept = sym d.stands.kept ∙ ap (λ (z : HostState). z.kept) (same_Some d.host host (sym d.host_is ∙ is)) in
       front_first (past_of start journal).state host.kept (rest_state sure)
-      (subst (KeepsFront (settled_of (past_of start journal).state (line_at s.memory))) (ap kept_at d.view_is ∙ same) (front_by (settled_of (past_of start journal).state (line_at s.memory)) kept.held.invariant.stage h))
+      (subst (KeepsFront (settled_of (past_of start journal).state (line_at s.memory))) (ap kept_at d.view_is ∙ same)
+      (front_by (settled_of (past_of start journal).state (line_at s.memory)) kept.held.invariant.stage h))
 
   pub keeps_joined : (h : ℕ) (host : HostState) → slice_get s.hosts h ≡ Some host → IsKept host.kept
   keeps_joined h host is =

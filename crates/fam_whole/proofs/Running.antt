@@ -49,7 +49,8 @@ use Rattle.fam_protocol.specs.After.{HasNamed}
 use Rattle.fam_whole.proofs.Phases.{IsLateTurn, WritesLate, late_turn, writes_turn}
 
 -- from the moment at which host h of these machines has begun the command of this event, behind this journal
-module _ (ev : Event) (start : Image) (h : ℕ) (base : Machines) (host : HostState) (host_is : slice_get base.hosts h ≡ Some host) (joined : IsKept host.kept) (cmd : Cmd) (journal : List Note) (sure : HasNothingPending (past_of start journal).state) where
+module _ (ev : Event) (start : Image) (h : ℕ) (base : Machines) (host : HostState) (host_is : slice_get base.hosts h ≡ Some host)
+    (joined : IsKept host.kept) (cmd : Cmd) (journal : List Note) (sure : HasNothingPending (past_of start journal).state) where
   abbrev image : Image
   image = base.memory
 
@@ -109,10 +110,17 @@ module _ (ev : Event) (start : Image) (h : ℕ) (base : Machines) (host : HostSt
     standing : StandsFor host.kept cmd me (length image) t words made
     standing = ran_stands host.kept cmd me image host.cache t words made m ran
 
-    row_is : operation Passes h (at m (Some s)) ≡ Some (record { notes = notes_of h (note_of turn); left = left_at after (machine.task_behind (note_of turn) (task_on s (given (op_of t) m))) (kept_after turn t host.kept) })
+    row_is : operation Passes h (at m (Some s))
+        ≡ Some (record {
+          notes = notes_of h (note_of turn);
+          left = left_at after (machine.task_behind (note_of turn) (task_on s (given (op_of t) m)))
+              (kept_after turn t host.kept);
+        })
     row_is =
-        row_served (at m (Some s)) h (record host { cache = m.cache; task = Some s }) (host_at m (Some s)) s refl (length image) count t record { joined = joined; stands = standing } m refl turn (same_turn t m)
-        ∙ ap (λ (z : Machines). Some (record { notes = notes_of h (note_of turn); left = z })) (parts_twice m after (Some s) (machine.task_behind (note_of turn) (task_on s (given (op_of t) m))) (kept_after turn t host.kept))
+        row_served (at m (Some s)) h (record host { cache = m.cache; task = Some s }) (host_at m (Some s)) s refl
+        (length image) count t record { joined = joined; stands = standing } m refl turn (same_turn t m)
+        ∙ ap (λ (z : Machines). Some (record { notes = notes_of h (note_of turn); left = z }))
+        (parts_twice m after (Some s) (machine.task_behind (note_of turn) (task_on s (given (op_of t) m))) (kept_after turn t host.kept))
 
     -- What the journal and the protocol say of the task.
 
@@ -151,9 +159,14 @@ module _ (ev : Event) (start : Image) (h : ℕ) (base : Machines) (host : HostSt
               cmd_is = told_task.cmd ∙ ap Some (standing_tied host.kept cmd me (length start) z words made joined other).cmd_is;
               uuid_is = d.host_told.uuid ∙ sym d.stands.uuid ∙ ap (λ (y : HostState). y.uuid) same;
               inside = subst (λ (op : Op). IsInImage op m) ops
-                  (asks_inside (settled_of (past_of start j).state (line_at m.image)) (length start) (hosts_of kept.views (past_of start j).hosts) (shared_of m.image kept.views) kept.held.limit kept.held.invariant.stage h (protocol_run z d.told)
+                  (asks_inside (settled_of (past_of start j).state (line_at m.image)) (length start) (hosts_of kept.views (past_of start j).hosts)
+                  (shared_of m.image kept.views) kept.held.limit kept.held.invariant.stage h (protocol_run z d.told)
                   (ap₂ run_at d.view_is d.told_is ∙ ap (λ (o : Option Task). run_with o (Some d.told)) runs) m
-                  record { memory = λ l. refl; copies = λ l. ap (λ (o : Option HostView). copy_at o l) d.view_is ∙ ap (λ (c : Cache). cell_at c l) (sym d.stands.cache ∙ ap (λ (y : HostState). y.cache) same) } kept.held.lines);
+                  record {
+                    memory = λ l. refl;
+                    copies = λ l. ap (λ (o : Option HostView). copy_at o l) d.view_is ∙ ap (λ (c : Cache). cell_at c l)
+                        (sym d.stands.cache ∙ ap (λ (y : HostState). y.cache) same);
+                  } kept.held.lines);
             }
 
     now : (j : List Note) → Reached start (at m (Some s)) j → Now j
@@ -215,7 +228,10 @@ module _ (ev : Event) (start : Image) (h : ℕ) (base : Machines) (host : HostSt
   past_here : (notes : List Note) → past_of start (journal ++ notes) ≡ past_behind x notes
   past_here notes = past_both (first_past start) journal notes
 
-  module _ (t : Task) (words : List ℕ) (made : ℕ) (m : Machine) (ran : SoloRun host.kept cmd me image host.cache t words made m) (notes : List Note) (notes_are : notes ≡ all_noted h (notes_up_to host.kept cmd me image host.cache t words made m ran)) (on : On t (past_of start (journal ++ notes))) (same : image_behind ev x image notes ≡ image) (whole : AreWholeNotes ev x image notes) (info : Now t words made m ran (journal ++ notes)) where
+  module _ (t : Task) (words : List ℕ) (made : ℕ) (m : Machine) (ran : SoloRun host.kept cmd me image host.cache t words made m) (notes : List Note)
+      (notes_are : notes ≡ all_noted h (notes_up_to host.kept cmd me image host.cache t words made m ran))
+      (on : On t (past_of start (journal ++ notes))) (same : image_behind ev x image notes ≡ image) (whole : AreWholeNotes ev x image notes)
+      (info : Now t words made m ran (journal ++ notes)) where
     abbrev y : Past
     y = past_of start (journal ++ notes)
 
@@ -227,7 +243,10 @@ module _ (ev : Event) (start : Image) (h : ℕ) (base : Machines) (host : HostSt
     first z = notes_of h (note_of z)
 
     -- the task goes on, with one note more or none
-    goes_on : (z : Turn) (n : Task) → turn_on t m ≡ z → task_after z ≡ Some n → machine.task_behind (note_of z) (task_on (state_of words made) (given (op_of t) m)) ≡ Some (task_on (state_of words made) (given (op_of t) m)) → kept_after z t host.kept ≡ host.kept → On n (past_behind y (first z)) → image_behind ev y image (first z) ≡ image → AreWholeNotes ev y image (first z) → Along (left z) (notes ++ first z)
+    goes_on : (z : Turn) (n : Task) → turn_on t m ≡ z → task_after z ≡ Some n
+        → machine.task_behind (note_of z) (task_on (state_of words made) (given (op_of t) m))
+        ≡ Some (task_on (state_of words made) (given (op_of t) m)) → kept_after z t host.kept ≡ host.kept → On n (past_behind y (first z))
+        → image_behind ev y image (first z) ≡ image → AreWholeNotes ev y image (first z) → Along (left z) (notes ++ first z)
     goes_on z n is next task keeps on' same' whole' =
         let came' : SoloRun host.kept cmd me image host.cache n (with_given words (given (op_of t) m)) (made + 1) (operated (op_of t) m) = goes ran info.inside (ap task_after is ∙ next) in
         record {
@@ -241,8 +260,11 @@ module _ (ev : Event) (start : Image) (h : ℕ) (base : Machines) (host : HostSt
               ap₂ (λ (u v : List Note). u ++ v) notes_are (sym (noted_one h (note_of z)) ∙ ap (λ (w : Turn). all_noted h (noted (note_of w))) (sym is))
               ∙ sym (noted_both h (notes_up_to host.kept cmd me image host.cache t words made m ran) (noted (note_of (turn_on t m))));
           on = subst (On n) (sym (past_on notes (first z))) on';
-          same = image_both ev x image notes (first z) ∙ ap (λ (i : Image). image_behind ev (past_behind x notes) i (first z)) same ∙ ap (λ (w : Past). image_behind ev w image (first z)) (sym (past_here notes)) ∙ same';
-          whole = whole_both ev x image notes (first z) whole (subst (λ (i : Image). AreWholeNotes ev (past_behind x notes) i (first z)) (sym same) (subst (λ (w : Past). AreWholeNotes ev w image (first z)) (past_here notes) whole'));
+          same = image_both ev x image notes (first z) ∙ ap (λ (i : Image). image_behind ev (past_behind x notes) i (first z)) same
+              ∙ ap (λ (w : Past). image_behind ev w image (first z)) (sym (past_here notes)) ∙ same';
+          whole = whole_both ev x image notes (first z) whole
+              (subst (λ (i : Image). AreWholeNotes ev (past_behind x notes) i (first z)) (sym same)
+              (subst (λ (w : Past). AreWholeNotes ev w image (first z)) (past_here notes) whole'));
         }
 
     -- the turn of a task that writes
@@ -325,18 +347,28 @@ module _ (ev : Event) (start : Image) (h : ℕ) (base : Machines) (host : HostSt
     })
 
   -- one operation more
-  step : (state mid : Machines) (notes first : List Note) → Along state notes → Reached start state (journal ++ notes) → Operation h state first mid → IsFaultless first → Along mid (notes ++ first) ⊎ Ended mid (notes ++ first)
+  step : (state mid : Machines) (notes first : List Note) → Along state notes → Reached start state (journal ++ notes) → Operation h state first mid
+      → IsFaultless first → Along mid (notes ++ first) ⊎ Ended mid (notes ++ first)
   step state mid notes first along kept op clean =
       let s : TaskState = state_of along.words along.made in
       let kept' : Reached start (at along.m (Some s)) (journal ++ notes) = subst (λ (z : Machines). Reached start z (journal ++ notes)) along.state_is kept in
       let op' : Operation h (at along.m (Some s)) first mid = subst (λ (z : Machines). Operation h z first mid) along.state_is op in
       let info = now along.t along.words along.made along.m along.ran (journal ++ notes) kept' in
       let turn : Turn = turn_on along.t along.m in
-      let same : record { notes = notes_of h (note_of turn); left = left_at (operated (op_of along.t) along.m) (machine.task_behind (note_of turn) (task_on s (given (op_of along.t) along.m))) (kept_after turn along.t host.kept) } ≡ record { notes = first; left = mid } =
-      same_Some _ (record { notes = first; left = mid }) (sym (row_is along.t along.words along.made along.m along.ran) ∙ passes h (at along.m (Some s)) op'.outcome (record { notes = first; left = mid }) op'.is clean) in
-      let legal : LegalBehind (past_of start (journal ++ notes)) first = legal_rest (first_past start) (journal ++ notes) first (operation_kept start h (at along.m (Some s)) (journal ++ notes) kept' first mid op').held.legal in
+      let same : record {
+        notes = notes_of h (note_of turn);
+        left = left_at (operated (op_of along.t) along.m)
+            (machine.task_behind (note_of turn) (task_on s (given (op_of along.t) along.m))) (kept_after turn along.t host.kept);
+      }
+      ≡ record { notes = first; left = mid } =
+      same_Some _ (record { notes = first; left = mid })
+      (sym (row_is along.t along.words along.made along.m along.ran) ∙ passes h (at along.m (Some s)) op'.outcome
+      (record { notes = first; left = mid }) op'.is clean) in
+      let legal : LegalBehind (past_of start (journal ++ notes)) first = legal_rest (first_past start) (journal ++ notes) first
+      (operation_kept start h (at along.m (Some s)) (journal ++ notes) kept' first mid op').held.legal in
       subst (λ (d : Done). Along d.left (notes ++ d.notes) ⊎ Ended d.left (notes ++ d.notes)) same
-      (by_turn along.t along.words along.made along.m along.ran notes along.notes_are along.on along.same along.whole info turn refl (subst (λ (d : Done). LegalBehind (past_of start (journal ++ notes)) d.notes) (sym same) legal))
+      (by_turn along.t along.words along.made along.m along.ran notes along.notes_are along.on along.same along.whole info turn refl
+      (subst (λ (d : Done). LegalBehind (past_of start (journal ++ notes)) d.notes) (sym same) legal))
 
   busy : (state : Machines) (notes : List Note) → Along state notes → busy_at h state ≡ true
   busy state notes along = ap (busy_at h) along.state_is ∙ ap is_busy_host (host_at along.m (Some (state_of along.words along.made)))
@@ -350,14 +382,16 @@ module _ (ev : Event) (start : Image) (h : ℕ) (base : Machines) (host : HostSt
   rests (suc count) state new rest idle (inl o) = (o.1, o.2)
   rests (suc count) state new rest idle (inr o) = absurd (let b = o.0 in cc)
 
-  run : (count : ℕ) (state new : Machines) (notes rest : List Note) → Along state notes → Reached start state (journal ++ notes) → DoesOperations h count state rest new → IsFaultless rest → busy_at h new ≡ false → Ended new (notes ++ rest)
+  run : (count : ℕ) (state new : Machines) (notes rest : List Note) → Along state notes → Reached start state (journal ++ notes)
+      → DoesOperations h count state rest new → IsFaultless rest → busy_at h new ≡ false → Ended new (notes ++ rest)
   run zero state new notes rest along kept o clean done = absurd (let b = busy state notes along in let same = ap (busy_at h) o.1 in cc)
   run (suc count) state new notes rest along kept (inl o) clean done = absurd (let b = busy state notes along in let f = o.0 in cc)
   run (suc count) state new notes rest along kept (inr o) clean done =
       let first_clean : IsFaultless o.2 = clean_prefix o.2 o.3 rest o.6 clean in
       let rest_clean : IsFaultless o.3 = clean_rest o.2 o.3 rest o.6 clean in
       let joined : (notes ++ o.2) ++ o.3 ≡ notes ++ rest = append_assoc notes o.2 o.3 ∙ ap (λ (z : List Note). notes ++ z) (sym o.6) in
-      let kept' : Reached start o.1 (journal ++ (notes ++ o.2)) = subst (λ (z : List Note). Reached start o.1 z) (append_assoc journal notes o.2) (operation_kept start h state (journal ++ notes) kept o.2 o.1 o.4) in
+      let kept' : Reached start o.1 (journal ++ (notes ++ o.2)) = subst (λ (z : List Note). Reached start o.1 z) (append_assoc journal notes o.2)
+      (operation_kept start h state (journal ++ notes) kept o.2 o.1 o.4) in
       elim (step state o.1 notes o.2 along kept o.4 first_clean) [
         | inl more ↦ subst (Ended new) joined (run count o.1 new (notes ++ o.2) o.3 more kept' o.5 rest_clean done)
         | inr ended ↦
@@ -367,7 +401,10 @@ module _ (ev : Event) (start : Image) (h : ℕ) (base : Machines) (host : HostSt
       ]
 
   -- all operations of the command
-  pub run_solo : (count : ℕ) (new : Machines) (notes : List Note) → Reached start (at (record { image = image; cache = host.cache }) (Some (state_of [] 0))) journal → DoesOperations h count (at (record { image = image; cache = host.cache }) (Some (state_of [] 0))) notes new → IsFaultless notes → busy_at h new ≡ false → Ended new notes
+  pub run_solo : (count : ℕ) (new : Machines) (notes : List Note)
+      → Reached start (at (record { image = image; cache = host.cache }) (Some (state_of [] 0))) journal
+      → DoesOperations h count (at (record { image = image; cache = host.cache }) (Some (state_of [] 0))) notes new → IsFaultless notes
+      → busy_at h new ≡ false → Ended new notes
   run_solo count new notes kept o clean done =
       run count (at (record { image = image; cache = host.cache }) (Some (state_of [] 0))) new [] notes
       record {

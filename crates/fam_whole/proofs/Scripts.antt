@@ -21,14 +21,19 @@ use Rattle.fam_whole.specs.Whole.{AreWhole, EndsExact, IsExact, WholeRun}
 use Rattle.fam_whole.proofs.Exact.{exact}
 
 -- where no put failed the text is put whole, and the status is its own
-pub put_whole : (out : Outside) → NoneRose out → (own given : Status) (text : List ℕ) → IsPut own given text out → (given ≡ own) × (out.sink.new.bytes ≡ option_map (with_piece text) out.sink.old.bytes)
+pub put_whole : (out : Outside) → NoneRose out → (own given : Status) (text : List ℕ) → IsPut own given text out
+    → (given ≡ own) × (out.sink.new.bytes ≡ option_map (with_piece text) out.sink.old.bytes)
 put_whole out none own given text put = go put.outcome
   where
-    go : ((given ≡ own) × (out.sink.new.bytes ≡ option_map (with_piece text) out.sink.old.bytes)) ⊎ ((given ≡ status.SinkFault) × IsPartlyPut out.sink.old.bytes out.sink.new.bytes text) → (given ≡ own) × (out.sink.new.bytes ≡ option_map (with_piece text) out.sink.old.bytes)
+    go : ((given ≡ own) × (out.sink.new.bytes ≡ option_map (with_piece text) out.sink.old.bytes))
+        ⊎ ((given ≡ status.SinkFault) × IsPartlyPut out.sink.old.bytes out.sink.new.bytes text)
+        → (given ≡ own) × (out.sink.new.bytes ≡ option_map (with_piece text) out.sink.old.bytes)
     go (inl x) = x
     go (inr x) = absurd (none.sink (put.rose x.0))
 
-module _ (out : Outside) (none : NoneRose out) (grammar : Grammar) (storms : Storms) (name : List ℕ) (files : Files) (bytes : List ℕ) (events : List Event) (told : out.shelf.old.files ≡ Some files) (holds : finmap.get files name ≡ Some bytes) (within : length bytes ≤ script_limit) (reads : grammar bytes ≡ Ok events) where
+module _ (out : Outside) (none : NoneRose out) (grammar : Grammar) (storms : Storms) (name : List ℕ) (files : Files) (bytes : List ℕ)
+    (events : List Event) (told : out.shelf.old.files ≡ Some files) (holds : finmap.get files name ≡ Some bytes)
+    (within : length bytes ≤ script_limit) (reads : grammar bytes ≡ Ok events) where
   -- no event is run only for want of memory
   early_memory : (early : Early) → IsEarly grammar storms (Some (Script name)) out early → early_status early ≡ status.OutOfMemory
   early_memory NoCommand x = absurd cc
@@ -47,7 +52,8 @@ module _ (out : Outside) (none : NoneRose out) (grammar : Grammar) (storms : Sto
   early_memory (Prints script) x = absurd x
   early_memory EarlyOutOfMemory x = refl
 
-  module _ (start : Image) (told_start : out.media.old.image ≡ Some start) (image : IsImage start) (sound : AreSound events) (whole : AreWhole events) (given : Status) (text : List ℕ) (own : Status) (put : IsPut own given text out) where
+  module _ (start : Image) (told_start : out.media.old.image ≡ Some start) (image : IsImage start) (sound : AreSound events) (whole : AreWhole events)
+      (given : Status) (text : List ℕ) (own : Status) (put : IsPut own given text out) where
     abbrev Comes : List Event → Type 0
     Comes es = (given ≡ status.OutOfMemory) ⊎ EndsExact files es start out given
 
@@ -75,7 +81,8 @@ module _ (out : Outside) (none : NoneRose out) (grammar : Grammar) (storms : Sto
               exact = is;
               answered = all_end files x.events (first_session start) x.run.journal all.last complete.clean all.follows;
               ends = record {
-                put = (put_whole out none own given text put).1 ∙ ap (λ (t : List ℕ). option_map (with_piece t) out.sink.old.bytes) (subst (λ (z : Ending). ScriptPuts z x.run.journal text) e x.run.text_is);
+                put = (put_whole out none own given text put).1 ∙ ap (λ (t : List ℕ). option_map (with_piece t) out.sink.old.bytes)
+                    (subst (λ (z : Ending). ScriptPuts z x.run.journal text) e x.run.text_is);
                 left_is = all.left ∙ ap Some is.image;
                 status_is = (put_whole out none own given text put).0 ∙ x.run.status_is ∙ ap (λ (z : Ending). script_status z x.run.journal) e;
               };
@@ -90,5 +97,6 @@ module _ (out : Outside) (none : NoneRose out) (grammar : Grammar) (storms : Sto
     shown_ends (inr x) = script_ends x
 
   -- a script whose commands are whole is run to its end, exactly; or there is no memory
-  pub program_exact : (start : Image) → out.media.old.image ≡ Some start → IsImage start → AreSound events → AreWhole events → (given : Status) → TopEnds grammar storms (Some (Script name)) out given → (given ≡ status.OutOfMemory) ⊎ EndsExact files events start out given
+  pub program_exact : (start : Image) → out.media.old.image ≡ Some start → IsImage start → AreSound events → AreWhole events → (given : Status)
+      → TopEnds grammar storms (Some (Script name)) out given → (given ≡ status.OutOfMemory) ⊎ EndsExact files events start out given
   program_exact start told_start image sound whole given top = shown_ends start told_start image sound whole given top.text top.own top.put top.shows

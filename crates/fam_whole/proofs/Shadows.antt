@@ -55,11 +55,13 @@ module _ (me : List ℕ) (start : Image) (files : Files) (image : IsImage start)
     pub logplay_left : TopEnds script_events storm (Some (Single me logplay)) out given → out.media.new.image ≡ Some start
     logplay_left top = elim (logplay_ends top) [ inl memory ↦ spared top.shows (sym (put_whole out none top.own given top.text top.put).0 ∙ memory) | inr ends ↦ ends_left ends ]
       where
-        spared : EndsEarly script_events storm (Some (Single me logplay)) out top.text top.own ⊎ CommandRuns script_events storm (Some (Single me logplay)) out given top.text top.own → top.own ≡ status.OutOfMemory → out.media.new.image ≡ Some start
+        spared : EndsEarly script_events storm (Some (Single me logplay)) out top.text top.own ⊎ CommandRuns script_events storm
+            (Some (Single me logplay)) out given top.text top.own → top.own ≡ status.OutOfMemory → out.media.new.image ≡ Some start
         spared (inl early) memory = early.same ∙ told_start
         spared (inr x) memory = x.spares memory start told_start files told
 
-  module _ (out : Outside) (none : NoneRose out) (later : NoneFalls out) (told_start : out.media.old.image ≡ Some start) (told : out.shelf.old.files ≡ Some files) (shade : ShadeChange) (given : Status) where
+  module _ (out : Outside) (none : NoneRose out) (later : NoneFalls out) (told_start : out.media.old.image ≡ Some start)
+      (told : out.shelf.old.files ≡ Some files) (shade : ShadeChange) (given : Status) where
     -- another sink, which didn't fail
     none_with : (text : List ℕ) → NoneRose (with_sink (takes_whole text out.sink.old) out)
     none_with text = record {

@@ -83,7 +83,9 @@ pub record ShotRun (files : Files) (start : Image) (me : List ℕ) (shot : OneSh
   pub ended : last_passes (ends_shot shot) run.journal ≡ true
   pub ends : EndsAs out given (shown run.journal) run.last.machines.memory (done_status shot run.journal)
 
-module _ (out : Outside) (none : NoneRose out) (me : List ℕ) (shot : OneShot) (start : Image) (files : Files) (told_start : out.media.old.image ≡ Some start) (told : out.shelf.old.files ≡ Some files) (image : IsImage start) (me_sound : IsUuid me) (shot_sound : IsSoundShot shot) where
+module _ (out : Outside) (none : NoneRose out) (me : List ℕ) (shot : OneShot) (start : Image) (files : Files)
+    (told_start : out.media.old.image ≡ Some start) (told : out.shelf.old.files ≡ Some files) (image : IsImage start) (me_sound : IsUuid me)
+    (shot_sound : IsSoundShot shot) where
   module _ (grammar : Grammar) (storms : Storms) (given : Status) where
     early_memory : (early : Early) → IsEarly grammar storms (Some (Single me shot)) out early → early_status early ≡ status.OutOfMemory
     early_memory NoCommand x = absurd cc
@@ -140,7 +142,8 @@ module _ (out : Outside) (none : NoneRose out) (me : List ℕ) (shot : OneShot) 
 
 -- Directories along a path.
 
-pub parents_end : (files : Files) (start : Image) (me path : List ℕ) (attr : Attr) (out : Outside) (given : Status) → IsImage start → ShotRun files start me (MakesParents path attr) out given → ParentsEnd files start me path attr out given
+pub parents_end : (files : Files) (start : Image) (me path : List ℕ) (attr : Attr) (out : Outside) (given : Status) → IsImage start
+    → ShotRun files start me (MakesParents path attr) out given → ParentsEnd files start me path attr out given
 parents_end files start me path attr out given image x =
     let is : IsExact x.run = exact start files x.events image x.sound x.run in
     record {

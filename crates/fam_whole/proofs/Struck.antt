@@ -24,18 +24,23 @@ module _ (start : Image) (files : Files) where
     notes : a ≡ b
     sessions : TwinSessions m n
 
-  call_same : (c : Call) (s t m n : Session) (j k a b : List Note) → Between start s.machines j → Between start t.machines k → TwinSessions s t → Does c s.machines a m.machines × (m.copied ≡ s.copied) → Does c t.machines b n.machines × (n.copied ≡ t.copied)
+  call_same : (c : Call) (s t m n : Session) (j k a b : List Note) → Between start s.machines j → Between start t.machines k → TwinSessions s t
+      → Does c s.machines a m.machines × (m.copied ≡ s.copied) → Does c t.machines b n.machines × (n.copied ≡ t.copied)
       → (Acts c s.machines a m.machines → Acts c t.machines b n.machines → Same start files a b m.machines n.machines) → Alike a b m n
   call_same c s t m n j k a b bs bt twins x y act =
       let same = by_both start files s.machines t.machines j k bs bt twins.machines a b m.machines n.machines c x.0 y.0 act in
       record { notes = same.notes; sessions = record { machines = same.machines; copied = x.1 ∙ twins.copied ∙ sym y.1 } }
 
   -- the same command on both
-  command_same : (e : Event) → is_move e ≡ false → IsValidEvent e → IsWholeEvent e → (s t m n : Session) (j k a b : List Note) → Between start s.machines j → Between start t.machines k → TwinSessions s t → AreClean a → AreClean b → DoesEvent files e s a m → DoesEvent files e t b n → Alike a b m n
+  command_same : (e : Event) → is_move e ≡ false → IsValidEvent e → IsWholeEvent e → (s t m n : Session) (j k a b : List Note)
+      → Between start s.machines j → Between start t.machines k → TwinSessions s t → AreClean a → AreClean b → DoesEvent files e s a m
+      → DoesEvent files e t b n → Alike a b m n
   command_same (event.Host name uuid) is sound whole s t m n j k a b bs bt twins clean_a clean_b x y =
       call_same (call.Declares name uuid) s t m n j k a b bs bt twins x y (host_same start files s.machines t.machines j k bs bt twins.machines a b m.machines n.machines name uuid)
   command_same (event.Mkfs name fs unit log format force halt) is sound whole s t m n j k a b bs bt twins clean_a clean_b x y =
-      call_same (call.Makes name (mkfs_request fs unit log format force halt)) s t m n j k a b bs bt twins x y (makes_same start files s.machines t.machines j k bs bt twins.machines a b m.machines n.machines name (mkfs_request fs unit log format force halt))
+      call_same (call.Makes name (mkfs_request fs unit log format force halt)) s t m n j k a b bs bt twins x y
+      (makes_same start files s.machines t.machines j k bs bt twins.machines a b m.machines n.machines name
+      (mkfs_request fs unit log format force halt))
   command_same (event.Run name what) is sound whole s t m n j k a b bs bt twins clean_a clean_b x y =
       let both = ask_same start files name what s t m n j k a b bs bt twins clean_a clean_b x y in
       record { notes = both.notes; sessions = both.sessions }
@@ -58,7 +63,8 @@ module _ (start : Image) (files : Files) where
   -- one list of events beside another
   Goal : List Event → List Event → Type 0
   Goal one other =
-      commands_in one ≡ commands_in other → AreSound one → AreWhole one → AreSound other → AreWhole other → (s t m n : Session) (j k a b : List Note) → Between start s.machines j → Between start t.machines k → TwinSessions s t → AreClean a → AreClean b
+      commands_in one ≡ commands_in other → AreSound one → AreWhole one → AreSound other → AreWhole other → (s t m n : Session) (j k a b : List Note)
+      → Between start s.machines j → Between start t.machines k → TwinSessions s t → AreClean a → AreClean b
       → (f : Follows files one s a m) → (g : Follows files other t b n) → Alike (command_notes files one s a m f) (command_notes files other t b n g) m n
 
   struck_in : (e : Event) (events : List Event) → is_move e ≡ true → commands_in (e ∷ events) ≡ commands_in events
@@ -147,7 +153,8 @@ module _ (start : Image) (files : Files) where
       by_move goal true is = skip_one e one other is (goal other)
       by_move goal false is = beside e one is goal other
 
-  pub scripts_alike : (one other : List Event) → IsImage start → AreSound one → AreSound other → commands_in one ≡ commands_in other → (a : WholeRun files one start) (b : WholeRun files other start) → RunsAgree a b
+  pub scripts_alike : (one other : List Event) → IsImage start → AreSound one → AreSound other → commands_in one ≡ commands_in other
+      → (a : WholeRun files one start) (b : WholeRun files other start) → RunsAgree a b
   unfolding Goal
   scripts_alike one other image sound sound' same a b =
       let alike = all_same one other same sound a.whole sound' b.whole (first_session start) (first_session start) a.last b.last [] [] a.journal b.journal

@@ -151,7 +151,8 @@ pub record TwinSessions (s t : Session) : Type 0 where
 -- A cache's own move leaves a twin.
 
 module _ (start : Image) (files : Files) where
-  moves_twin : (name : List ℕ) (line : ℕ) (move : Move) (s new : Machines) (journal notes : List Note) → Between start s journal → AreFaultless notes → Does (call.Moves name line move) s notes new → Twins new s
+  moves_twin : (name : List ℕ) (line : ℕ) (move : Move) (s new : Machines) (journal notes : List Note) → Between start s journal → AreFaultless notes
+      → Does (call.Moves name line move) s notes new → Twins new s
   moves_twin name line move s new journal notes between clean does =
       by_refusal (call.Moves name line move) s new notes does (λ cause e f. twins_as new s f)
       (λ free acts. by_host (call.Moves name line move) s new notes acts (λ h host number is at. at_host h host is at))
@@ -165,10 +166,14 @@ module _ (start : Image) (files : Files) where
           }
       at_host h host is (inr x) = absurd (not_clean _ notes x.notes_are refl clean)
 
-  pub move_twin : (e : Event) → is_move e ≡ true → (s new : Session) (journal notes : List Note) → Between start s.machines journal → AreFaultless notes → DoesEvent files e s notes new → TwinSessions new s
-  move_twin (event.Evict name line) is s new journal notes between clean does = record { machines = moves_twin name line.0 Evict s.machines new.machines journal notes between clean does.0; copied = does.1 }
-  move_twin (event.Leak name line mask) is s new journal notes between clean does = record { machines = moves_twin name line.0 (Leak mask.0) s.machines new.machines journal notes between clean does.0; copied = does.1 }
-  move_twin (event.Fetch name line mask) is s new journal notes between clean does = record { machines = moves_twin name line.0 (Fetch mask.0) s.machines new.machines journal notes between clean does.0; copied = does.1 }
+  pub move_twin : (e : Event) → is_move e ≡ true → (s new : Session) (journal notes : List Note) → Between start s.machines journal
+      → AreFaultless notes → DoesEvent files e s notes new → TwinSessions new s
+  move_twin (event.Evict name line) is s new journal notes between clean does =
+      record { machines = moves_twin name line.0 Evict s.machines new.machines journal notes between clean does.0; copied = does.1 }
+  move_twin (event.Leak name line mask) is s new journal notes between clean does =
+      record { machines = moves_twin name line.0 (Leak mask.0) s.machines new.machines journal notes between clean does.0; copied = does.1 }
+  move_twin (event.Fetch name line mask) is s new journal notes between clean does =
+      record { machines = moves_twin name line.0 (Fetch mask.0) s.machines new.machines journal notes between clean does.0; copied = does.1 }
   move_twin e is s new journal notes between clean does = absurd cc
 
   -- A command of twins has the same notes and leaves twins.
@@ -206,12 +211,15 @@ module _ (start : Image) (files : Files) where
     pub host_same : (name uuid : List ℕ) → Acts (call.Declares name uuid) s a m → Acts (call.Declares name uuid) t b n → Same a b m n
     host_same name uuid x y = record {
       notes = x.0 ∙ sym y.0;
-      machines = subst (λ (z : Machines). Twins z n) (sym x.1) (subst (λ (z : Machines). Twins (record s { hosts = s.hosts ++ record { name = name; uuid = uuid; cache = finmap.empty; task = None; kept = None } ∷ [] }) z) (sym y.1)
+      machines = subst (λ (z : Machines). Twins z n) (sym x.1)
+          (subst (λ (z : Machines). Twins
+          (record s { hosts = s.hosts ++ record { name = name; uuid = uuid; cache = finmap.empty; task = None; kept = None } ∷ [] }) z) (sym y.1)
           record { memory = twins.memory; hosts = same_more s.hosts t.hosts _ _ twins.hosts (record { name = refl; uuid = refl; kept = refl }) });
     }
 
     -- both make a file system, halt in making it, or meet the same one
-    module _ (name : List ℕ) (request : MkfsRequest) (h i : ℕ) (host other : HostState) (number : number_of name s ≡ Some h) (number' : number_of name t ≡ Some i) (is : slice_get s.hosts h ≡ Some host) (is' : slice_get t.hosts i ≡ Some other) where
+    module _ (name : List ℕ) (request : MkfsRequest) (h i : ℕ) (host other : HostState) (number : number_of name s ≡ Some h)
+        (number' : number_of name t ≡ Some i) (is : slice_get s.hosts h ≡ Some host) (is' : slice_get t.hosts i ≡ Some other) where
       phases : h ≡ i
       phases = same_Some h i (sym number ∙ numbers name ∙ number')
 
@@ -241,7 +249,9 @@ module _ (start : Image) (files : Files) where
               memory =
                   clean_formats s.memory host.cache bs.kept.held.normal (bs.rests h host is).clean p ∙ ap₂ formatted twins.memory params
                   ∙ sym (clean_formats t.memory other.cache bt.kept.held.normal (bt.rests i other is').clean q);
-              hosts = same_on _ s.hosts _ (same_changed h _ (λ z. record { name = refl; uuid = refl; kept = refl }) s.hosts) (same_on s.hosts t.hosts _ twins.hosts (same_back _ t.hosts (same_changed i _ (λ z. record { name = refl; uuid = refl; kept = refl }) t.hosts)));
+              hosts = same_on _ s.hosts _ (same_changed h _ (λ z. record { name = refl; uuid = refl; kept = refl }) s.hosts)
+                  (same_on s.hosts t.hosts _ twins.hosts
+                  (same_back _ t.hosts (same_changed i _ (λ z. record { name = refl; uuid = refl; kept = refl }) t.hosts)));
             });
       }
 
@@ -249,12 +259,16 @@ module _ (start : Image) (files : Files) where
       one_cut : (k : ℕ) → HaltsMaking h p request.force k host s a m → HaltsMaking i q request.force k other t b n → Same a b m n
       one_cut k x y = record {
         notes = x.notes_are ∙ ap (λ (j : ℕ). Cut j k ∷ []) phases ∙ sym y.notes_are;
-        machines = subst (λ (z : Machines). Twins z n) (sym x.left) (subst (λ (z : Machines). Twins (with_machine h (machine (operated_all (here.halted_ops k p) (machine_of s host)).image finmap.empty) host.task s) z) (sym y.left)
+        machines = subst (λ (z : Machines). Twins z n) (sym x.left)
+            (subst (λ (z : Machines). Twins
+            (with_machine h (machine (operated_all (here.halted_ops k p) (machine_of s host)).image finmap.empty) host.task s) z) (sym y.left)
             record {
               memory =
                   halted_clean s.memory host.cache bs.kept.held.normal (bs.rests h host is).clean k p ∙ ap₂ (λ (z : Params) (image : Image). here.halted_image k z image) params twins.memory
                   ∙ sym (halted_clean t.memory other.cache bt.kept.held.normal (bt.rests i other is').clean k q);
-              hosts = same_on _ s.hosts _ (same_changed h _ (λ z. record { name = refl; uuid = refl; kept = refl }) s.hosts) (same_on s.hosts t.hosts _ twins.hosts (same_back _ t.hosts (same_changed i _ (λ z. record { name = refl; uuid = refl; kept = refl }) t.hosts)));
+              hosts = same_on _ s.hosts _ (same_changed h _ (λ z. record { name = refl; uuid = refl; kept = refl }) s.hosts)
+                  (same_on s.hosts t.hosts _ twins.hosts
+                  (same_back _ t.hosts (same_changed i _ (λ z. record { name = refl; uuid = refl; kept = refl }) t.hosts)));
             });
       }
 
@@ -264,8 +278,12 @@ module _ (start : Image) (files : Files) where
 
       made_same : ActsAt (call.Makes name request) h host s a m → ActsAt (call.Makes name request) i other t b n → Same a b m n
       made_same (inl x) (inl y) = goes_same request.halt x y
-      made_same (inl x) (inr y) = absurd (met_or_made request.force (here.superblock_found p (machine_of s host)) y.other (goes_free s m a request.halt h p request.force host x) y.unforced (found_same ∙ y.stands))
-      made_same (inr x) (inl y) = absurd (met_or_made request.force (here.superblock_found q (machine_of t other)) x.other (goes_free t n b request.halt i q request.force other y) x.unforced (sym found_same ∙ x.stands))
+      made_same (inl x) (inr y) = absurd
+          (met_or_made request.force (here.superblock_found p (machine_of s host)) y.other (goes_free s m a request.halt h p request.force host x)
+          y.unforced (found_same ∙ y.stands))
+      made_same (inr x) (inl y) = absurd
+          (met_or_made request.force (here.superblock_found q (machine_of t other)) x.other (goes_free t n b request.halt i q request.force other y)
+          x.unforced (sym found_same ∙ x.stands))
       made_same (inr x) (inr y) =
           let oks : ◌≡◌ {A = Result Params SuperFault} (Ok x.other) (Ok y.other) = sym x.stands ∙ found_same ∙ y.stands in
           let others : x.other ≡ y.other = cc in
@@ -273,8 +291,11 @@ module _ (start : Image) (files : Files) where
             notes = x.notes_are ∙ ap (λ (z : Params). Refused name (why.HasSuper z.fs) ∷ []) others ∙ sym y.notes_are;
             machines = subst (λ (z : Machines). Twins z n) (sym x.left) (subst (λ (z : Machines). Twins (with_machine h (operated_all here.read_ops (machine_of s host)) host.task s) z) (sym y.left)
                 record {
-                  memory = read_image s.memory host.cache bs.kept.held.normal (bs.rests h host is).clean ∙ twins.memory ∙ sym (read_image t.memory other.cache bt.kept.held.normal (bt.rests i other is').clean);
-                  hosts = same_on _ s.hosts _ (same_changed h _ (λ z. record { name = refl; uuid = refl; kept = refl }) s.hosts) (same_on s.hosts t.hosts _ twins.hosts (same_back _ t.hosts (same_changed i _ (λ z. record { name = refl; uuid = refl; kept = refl }) t.hosts)));
+                  memory = read_image s.memory host.cache bs.kept.held.normal (bs.rests h host is).clean ∙ twins.memory
+                      ∙ sym (read_image t.memory other.cache bt.kept.held.normal (bt.rests i other is').clean);
+                  hosts = same_on _ s.hosts _ (same_changed h _ (λ z. record { name = refl; uuid = refl; kept = refl }) s.hosts)
+                      (same_on s.hosts t.hosts _ twins.hosts
+                      (same_back _ t.hosts (same_changed i _ (λ z. record { name = refl; uuid = refl; kept = refl }) t.hosts)));
                 });
           }
 
@@ -295,7 +316,8 @@ module _ (start : Image) (files : Files) where
           machines = subst (λ (z : Machines). Twins z n) (sym (at.1 ∙ ap (λ (k : ℕ). with_kept k None s) phases)) (subst (λ (z : Machines). Twins (with_kept i None s) z) (sym at'.1)
               record {
                 memory = twins.memory;
-                hosts = same_both i (λ z. record z { kept = None }) (λ z. record z { kept = None }) (λ a b same. record { name = same.name; uuid = same.uuid; kept = refl }) s.hosts t.hosts twins.hosts;
+                hosts = same_both i (λ z. record z { kept = None }) (λ z. record z { kept = None })
+                    (λ a b same. record { name = same.name; uuid = same.uuid; kept = refl }) s.hosts t.hosts twins.hosts;
               });
         }))
 
@@ -316,7 +338,8 @@ pub record Stood (kept : Option Kept) (cmd : Cmd) (me : List ℕ) (image : Image
   rest_is : rest ≡ all_noted h stand.notes ++ Answered h (Replied reply) ∷ []
   left_is : left ≡ kept_by reply (read_by stand.task) kept
 
-one_stood : (kept : Option Kept) (cmd : Cmd) (me : List ℕ) (image : Image) (h : ℕ) (a b : List Note) (k l : Option Kept) → Stood kept cmd me image h a k → Stood kept cmd me image h b l → (a ≡ b) × (k ≡ l)
+one_stood : (kept : Option Kept) (cmd : Cmd) (me : List ℕ) (image : Image) (h : ℕ) (a b : List Note) (k l : Option Kept)
+    → Stood kept cmd me image h a k → Stood kept cmd me image h b l → (a ≡ b) × (k ≡ l)
 one_stood kept cmd me image h a b k l x y =
     let same : x.stand ≡ y.stand = same_stand kept cmd me image x.made y.made x.stand y.stand x.reply y.reply x.stands x.ends y.stands y.ends in
     let turns : Ends x.reply ≡ Ends y.reply = sym x.ends ∙ ap (Rattle.fam_commands.specs.Solo.image_turn image) same ∙ y.ends in
@@ -357,9 +380,14 @@ module _ (start : Image) (files : Files) (name : List ℕ) (what : Ask) where
 
     memory_then : new.machines.memory ≡ solo_image s.machines.memory go.host.uuid run.begun.cmd
     memory_then =
-        left_is (event.Run name what) start go.h s.machines go.host go.is (joined_of start files s.machines j between.kept between.rests between.sure go.h go.host go.is) run.begun.cmd journal go.sure_then
-        (subst (λ (w : Past). IsStateOf w.state s.machines.memory) (sym (past_both (Rattle.fam_journal.specs.Past.first_past start) j (Start go.h run.begun.cmd ∷ []))) (rest_state start s.machines j between.kept between.rests between.sure))
-        go.enough (subst (λ (n : ℕ). line_bytes * n ≤ device_limit) (sym between.kept.held.lines) between.kept.held.limit) between.kept.held.normal (between.rests go.h go.host go.is).clean command (front_of start files s.machines j between.kept between.rests between.sure go.h go.host go.is) new.machines go.rest go.ended
+        left_is (event.Run name what) start go.h s.machines go.host go.is
+        (joined_of start files s.machines j between.kept between.rests between.sure go.h go.host go.is) run.begun.cmd journal go.sure_then
+        (subst (λ (w : Past). IsStateOf w.state s.machines.memory)
+        (sym (past_both (Rattle.fam_journal.specs.Past.first_past start) j (Start go.h run.begun.cmd ∷ [])))
+        (rest_state start s.machines j between.kept between.rests between.sure))
+        go.enough (subst (λ (n : ℕ). line_bytes * n ≤ device_limit) (sym between.kept.held.lines) between.kept.held.limit) between.kept.held.normal
+        (between.rests go.h go.host go.is).clean command
+        (front_of start files s.machines j between.kept between.rests between.sure go.h go.host go.is) new.machines go.rest go.ended
 
     hosts_then : new.machines.hosts ≡ changed_at go.h (λ z. record z { cache = (operated (op_of go.ended.t) go.ended.m).cache; task = None; kept = kept_then }) s.machines.hosts
     hosts_then = ap (λ (z : Machines). z.hosts) go.ended.state_is
@@ -368,7 +396,8 @@ module _ (start : Image) (files : Files) (name : List ℕ) (what : Ask) where
     copied_then = run.copied ∙ run.begun.copied_is
 
   -- two runs
-  module _ (s t m n : Session) (j k a b : List Note) (bs : Between start s.machines j) (bt : Between start t.machines k) (twins : TwinSessions s t) (clean_a : AreFaultless a) (clean_b : AreFaultless b) where
+  module _ (s t m n : Session) (j k a b : List Note) (bs : Between start s.machines j) (bt : Between start t.machines k) (twins : TwinSessions s t)
+      (clean_a : AreFaultless a) (clean_b : AreFaultless b) where
     pub record Both : Type 0 where
       pub notes : a ≡ b
       pub sessions : TwinSessions m n
@@ -376,20 +405,23 @@ module _ (start : Image) (files : Files) (name : List ℕ) (what : Ask) where
     runs_same : Continues Completes files name what s a m → Continues Completes files name what t b n → Both
     runs_same x y =
         let sources : Ready x.begun.cmd x.begun.copied ≡ Ready y.begun.cmd y.begun.copied =
-        one_source one_listing files t.copied what (Ready x.begun.cmd x.begun.copied) (Ready y.begun.cmd y.begun.copied) (subst (λ (c : ℕ). SourceSays files c what (Ready x.begun.cmd x.begun.copied)) twins.copied x.begun.says) y.begun.says in
+        one_source one_listing files t.copied what (Ready x.begun.cmd x.begun.copied) (Ready y.begun.cmd y.begun.copied)
+        (subst (λ (c : ℕ). SourceSays files c what (Ready x.begun.cmd x.begun.copied)) twins.copied x.begun.says) y.begun.says in
         let cmds : x.begun.cmd ≡ y.begun.cmd = cc in
         let counts : x.begun.copied ≡ y.begun.copied = cc in
         let gx = go s m j a bs clean_a x in
         let gy = go t n k b bt clean_b y in
         let phases : gx.h ≡ gy.h = same_Some gx.h gy.h (sym gx.number ∙ numbers start files s.machines t.machines j k bs bt twins.machines a b m.machines n.machines name ∙ gy.number) in
-        let named : Named gx.host gy.host = same_member s.machines.hosts t.machines.hosts gy.h gx.host gy.host twins.machines.hosts (subst (λ (i : ℕ). slice_get s.machines.hosts i ≡ Some gx.host) phases gx.is) gy.is in
+        let named : Named gx.host gy.host = same_member s.machines.hosts t.machines.hosts gy.h gx.host gy.host twins.machines.hosts
+        (subst (λ (i : ℕ). slice_get s.machines.hosts i ≡ Some gx.host) phases gx.is) gy.is in
         let stood_x : Stood gy.host.kept y.begun.cmd gy.host.uuid t.machines.memory gy.h gx.rest (kept_then s m j a bs clean_a x) =
         subst (λ (k : Option Kept). Stood k y.begun.cmd gy.host.uuid t.machines.memory gy.h gx.rest (kept_then s m j a bs clean_a x)) named.kept
         (subst (λ (c : Cmd). Stood gx.host.kept c gy.host.uuid t.machines.memory gy.h gx.rest (kept_then s m j a bs clean_a x)) cmds
         (subst (λ (u : List ℕ). Stood gx.host.kept x.begun.cmd u t.machines.memory gy.h gx.rest (kept_then s m j a bs clean_a x)) named.uuid
         (subst (λ (i : Image). Stood gx.host.kept x.begun.cmd gx.host.uuid i gy.h gx.rest (kept_then s m j a bs clean_a x)) twins.machines.memory
         (subst (λ (i : ℕ). Stood gx.host.kept x.begun.cmd gx.host.uuid s.machines.memory i gx.rest (kept_then s m j a bs clean_a x)) phases (stood s m j a bs clean_a x))))) in
-        let same = one_stood gy.host.kept y.begun.cmd gy.host.uuid t.machines.memory gy.h gx.rest gy.rest (kept_then s m j a bs clean_a x) (kept_then t n k b bt clean_b y) stood_x (stood t n k b bt clean_b y) in
+        let same = one_stood gy.host.kept y.begun.cmd gy.host.uuid t.machines.memory gy.h gx.rest gy.rest (kept_then s m j a bs clean_a x)
+        (kept_then t n k b bt clean_b y) stood_x (stood t n k b bt clean_b y) in
         let rests : gx.rest ≡ gy.rest = same.0 in
         record {
           notes = gx.joined ∙ ap₂ (λ (i : ℕ) (c : Cmd). Start i c ∷ gx.rest) phases cmds ∙ ap (λ (z : List Note). Start gy.h y.begun.cmd ∷ z) rests ∙ sym gy.joined;
@@ -400,8 +432,15 @@ module _ (start : Image) (files : Files) (name : List ℕ) (what : Ask) where
                   ∙ ap₂ (λ (i : Image) (u : List ℕ). solo_image i u x.begun.cmd) twins.machines.memory named.uuid
                   ∙ ap (solo_image t.machines.memory gy.host.uuid) cmds
                   ∙ sym (memory_then t n k b bt clean_b y);
-              hosts = subst (λ (z : List HostState). SameHosts z n.machines.hosts) (sym (hosts_then s m j a bs clean_a x ∙ ap (λ (i : ℕ). changed_at i (λ z. record z { cache = (operated (op_of gx.ended.t) gx.ended.m).cache; task = None; kept = kept_then s m j a bs clean_a x }) s.machines.hosts) phases))
-                  (subst (λ (z : List HostState). SameHosts (changed_at gy.h (λ z. record z { cache = (operated (op_of gx.ended.t) gx.ended.m).cache; task = None; kept = kept_then s m j a bs clean_a x }) s.machines.hosts) z) (sym (hosts_then t n k b bt clean_b y))
+              hosts = subst (λ (z : List HostState). SameHosts z n.machines.hosts)
+                  (sym (hosts_then s m j a bs clean_a x
+                  ∙ ap (λ (i : ℕ). changed_at i (λ z.
+                  record z { cache = (operated (op_of gx.ended.t) gx.ended.m).cache; task = None; kept = kept_then s m j a bs clean_a x })
+                  s.machines.hosts) phases))
+                  (subst (λ (z : List HostState).
+                  SameHosts (changed_at gy.h (λ z.
+                  record z { cache = (operated (op_of gx.ended.t) gx.ended.m).cache; task = None; kept = kept_then s m j a bs clean_a x })
+                  s.machines.hosts) z) (sym (hosts_then t n k b bt clean_b y))
                   (same_both gy.h _ _ (λ c d near. record { name = near.name; uuid = near.uuid; kept = same.1 }) s.machines.hosts t.machines.hosts twins.machines.hosts));
             };
             copied = copied_then s m j a bs clean_a x ∙ counts ∙ sym (copied_then t n k b bt clean_b y);
@@ -425,10 +464,14 @@ module _ (start : Image) (files : Files) (name : List ℕ) (what : Ask) where
     ask_same (inl x) (inl y) = runs_same x y
     ask_same (inl x) (inr (inl y)) = absurd (let e : None ≡ Some y.cause = sym x.begun.free ∙ may_be_same ∙ y.first in cc)
     ask_same (inl x) (inr (inr y)) =
-        absurd (let e : Ready x.begun.cmd x.begun.copied ≡ Unfit y.cause y.copied = one_source one_listing files t.copied what (Ready x.begun.cmd x.begun.copied) (Unfit y.cause y.copied) (subst (λ (c : ℕ). SourceSays files c what (Ready x.begun.cmd x.begun.copied)) twins.copied x.begun.says) y.says in cc)
+        absurd (let e : Ready x.begun.cmd x.begun.copied ≡ Unfit y.cause y.copied = one_source one_listing files t.copied what
+        (Ready x.begun.cmd x.begun.copied) (Unfit y.cause y.copied)
+        (subst (λ (c : ℕ). SourceSays files c what (Ready x.begun.cmd x.begun.copied)) twins.copied x.begun.says) y.says in cc)
     ask_same (inr (inl x)) (inl y) = absurd (let e : Some x.cause ≡ None = sym x.first ∙ may_be_same ∙ y.begun.free in cc)
     ask_same (inr (inr x)) (inl y) =
-        absurd (let e : Unfit x.cause x.copied ≡ Ready y.begun.cmd y.begun.copied = one_source one_listing files t.copied what (Unfit x.cause x.copied) (Ready y.begun.cmd y.begun.copied) (subst (λ (c : ℕ). SourceSays files c what (Unfit x.cause x.copied)) twins.copied x.says) y.begun.says in cc)
+        absurd (let e : Unfit x.cause x.copied ≡ Ready y.begun.cmd y.begun.copied = one_source one_listing files t.copied what
+        (Unfit x.cause x.copied) (Ready y.begun.cmd y.begun.copied)
+        (subst (λ (c : ℕ). SourceSays files c what (Unfit x.cause x.copied)) twins.copied x.says) y.begun.says in cc)
     ask_same (inr (inl x)) (inr (inl y)) =
         let causes : x.cause ≡ y.cause = same_Some x.cause y.cause (sym x.first ∙ may_be_same ∙ y.first) in
         refused_both x.cause x.notes_are (y.notes_are ∙ ap (λ (c : Refusal). Refused name c ∷ []) (sym causes)) (ap (λ (z : Session). z.machines) x.same) (ap (λ (z : Session). z.machines) y.same)
@@ -436,7 +479,8 @@ module _ (start : Image) (files : Files) (name : List ℕ) (what : Ask) where
     ask_same (inr (inl x)) (inr (inr y)) = absurd (let e : Some x.cause ≡ None = sym x.first ∙ may_be_same ∙ y.free in cc)
     ask_same (inr (inr x)) (inr (inl y)) = absurd (let e : None ≡ Some y.cause = sym x.free ∙ may_be_same ∙ y.first in cc)
     ask_same (inr (inr x)) (inr (inr y)) =
-        let unfits : Unfit x.cause x.copied ≡ Unfit y.cause y.copied = one_source one_listing files t.copied what (Unfit x.cause x.copied) (Unfit y.cause y.copied) (subst (λ (c : ℕ). SourceSays files c what (Unfit x.cause x.copied)) twins.copied x.says) y.says in
+        let unfits : Unfit x.cause x.copied ≡ Unfit y.cause y.copied = one_source one_listing files t.copied what (Unfit x.cause x.copied)
+        (Unfit y.cause y.copied) (subst (λ (c : ℕ). SourceSays files c what (Unfit x.cause x.copied)) twins.copied x.says) y.says in
         let causes : x.cause ≡ y.cause = cc in
         let counts : x.copied ≡ y.copied = cc in
         let left = source_refused s m a x in

@@ -38,17 +38,21 @@ pub with_lines : (p : Params) (s : Geometry) (g f n gate d k made : ℕ) → s �
 with_lines p s g f n gate d k made same from at_gate is at_made = rw (same, from, at_gate, is) (omega arith)
 
 -- up to the line that holds a byte
-pub up_to_line : (p : Params) (s : Geometry) (g f n gate j b made : ℕ) → s ≡ geometry p → g ≡ f → n ≡ gate → b < 64 → made ≡ decided_and p f gate 0 + (9 * j + 9) → made ≡ decided_steps s g n + line_steps * ((64 * j + b) / 64 + 1)
+pub up_to_line : (p : Params) (s : Geometry) (g f n gate j b made : ℕ) → s ≡ geometry p → g ≡ f → n ≡ gate → b < 64
+    → made ≡ decided_and p f gate 0 + (9 * j + 9) → made ≡ decided_steps s g n + line_steps * ((64 * j + b) / 64 + 1)
 up_to_line p s g f n gate j b made same from at_gate inside at_made = rw (same, from, at_gate) (omega arith)
 
 -- the whole append
-pub appended_at : (p : Params) (s : Geometry) (g f n gate d k made : ℕ) → s ≡ geometry p → g ≡ f → n ≡ gate → d ≡ k → made ≡ decided_and p f gate (line_steps * (geometry p).lines + 3) + 9 * k → made + 1 ≡ decided_steps s g n + append_steps s d
+pub appended_at : (p : Params) (s : Geometry) (g f n gate d k made : ℕ) → s ≡ geometry p → g ≡ f → n ≡ gate → d ≡ k
+    → made ≡ decided_and p f gate (line_steps * (geometry p).lines + 3) + 9 * k → made + 1 ≡ decided_steps s g n + append_steps s d
 appended_at p s g f n gate d k made same from at_gate is at_made = rw (same, from, at_gate, is) (omega arith)
 
 -- The entries that the words tell.
 
 -- the words tell the task's entries
-pub told_are : (kept : Option Kept) (cmd : Cmd) (me : List ℕ) (lines : ℕ) (p : Params) (gate : ℕ) (entries : List Entry) (survey : Survey) (words : List ℕ) → ReadsLog cmd → HasSlots kept cmd me lines p gate entries survey words gate → told_entries (used_told kept cmd words lines) words lines ≡ entries
+pub told_are : (kept : Option Kept) (cmd : Cmd) (me : List ℕ) (lines : ℕ) (p : Params) (gate : ℕ) (entries : List Entry) (survey : Survey)
+    (words : List ℕ) → ReadsLog cmd → HasSlots kept cmd me lines p gate entries survey words gate
+    → told_entries (used_told kept cmd words lines) words lines ≡ entries
 told_are kept cmd me lines p gate entries survey words reads h =
     ap (λ (list : List Entry). told_entries list words lines) (used_told_is kept cmd me lines p gate words h.gated)
     ∙ ap (λ (q : Params). entries_read (fed_slots words q (used kept cmd p gate) (fed_gate words))) (ap (params_or no_params) h.gated.log.head.super)
@@ -56,15 +60,21 @@ told_are kept cmd me lines p gate entries survey words reads h =
     ∙ ap entries_read (read_of kept cmd p gate entries survey words gate reads h.known).sound
 
 -- the entry at a path
-found_size : (entries told : List Entry) (path : List ℕ) (e : Entry) → told ≡ entries → ((q : List ℕ) → finmap.get (replay entries) q ≡ find (λ x. path_eq x.path q) entries) → find (λ x. path_eq x.path path) entries ≡ Some e → size_of (finmap.get (replay told) path) ≡ e.size
+found_size : (entries told : List Entry) (path : List ℕ) (e : Entry) → told ≡ entries
+    → ((q : List ℕ) → finmap.get (replay entries) q ≡ find (λ x. path_eq x.path q) entries) → find (λ x. path_eq x.path path) entries ≡ Some e
+    → size_of (finmap.get (replay told) path) ≡ e.size
 found_size entries told path e is lookups found = ap (λ (l : List Entry). size_of (finmap.get (replay l) path)) is ∙ ap size_of (lookups path ∙ found)
 
 -- the lines of a file that is compared
-pub verify_file_lines : (path : List ℕ) (against : Content) (entries told : List Entry) (e : Entry) → told ≡ entries → ((q : List ℕ) → finmap.get (replay entries) q ≡ find (λ x. path_eq x.path q) entries) → find (λ x. path_eq x.path path) entries ≡ Some e → file_lines (Verify path against) told ≡ wanted_lines (Verify path against) e.size
+pub verify_file_lines : (path : List ℕ) (against : Content) (entries told : List Entry) (e : Entry) → told ≡ entries
+    → ((q : List ℕ) → finmap.get (replay entries) q ≡ find (λ x. path_eq x.path q) entries) → find (λ x. path_eq x.path path) entries ≡ Some e
+    → file_lines (Verify path against) told ≡ wanted_lines (Verify path against) e.size
 verify_file_lines path against entries told e is lookups found = ap (wanted_lines (Verify path against)) (found_size entries told path e is lookups found)
 
 -- those of a file that is read
-pub read_file_lines : (path : List ℕ) (offset count : ℕ) (entries told : List Entry) (e : Entry) → told ≡ entries → ((q : List ℕ) → finmap.get (replay entries) q ≡ find (λ x. path_eq x.path q) entries) → find (λ x. path_eq x.path path) entries ≡ Some e → file_lines (Read path offset count) told ≡ wanted_lines (Read path offset count) e.size
+pub read_file_lines : (path : List ℕ) (offset count : ℕ) (entries told : List Entry) (e : Entry) → told ≡ entries
+    → ((q : List ℕ) → finmap.get (replay entries) q ≡ find (λ x. path_eq x.path q) entries) → find (λ x. path_eq x.path path) entries ≡ Some e
+    → file_lines (Read path offset count) told ≡ wanted_lines (Read path offset count) e.size
 read_file_lines path offset count entries told e is lookups found = ap (wanted_lines (Read path offset count)) (found_size entries told path e is lookups found)
 
 -- What is decided.

@@ -35,7 +35,8 @@ abbrev fits_rows : Cmd → Params → List Entry → Entry → List Row
 fits_rows cmd p entries e = rows (append_ops p (length entries) e (content_of cmd)) (Answer (Appended (length entries)))
 
 -- what comes behind the decision of an append
-last_is : (cmd : Cmd) (p : Params) (me : List ℕ) (words : List ℕ) (first : ℕ) (entries : List Entry) (e : Entry) → decide p me entries cmd ≡ Some (Ok e) → last_rows cmd me words p first entries ≡ fits_rows cmd p entries e
+last_is : (cmd : Cmd) (p : Params) (me : List ℕ) (words : List ℕ) (first : ℕ) (entries : List Entry) (e : Entry)
+    → decide p me entries cmd ≡ Some (Ok e) → last_rows cmd me words p first entries ≡ fits_rows cmd p entries e
 last_is (Mkdir path attr) p me words first entries e is = ap (append_rows (Mkdir path attr) p (length entries)) is
 last_is (Creat path size attr stripe fill) p me words first entries e is = ap (append_rows (Creat path size attr stripe fill) p (length entries)) is
 last_is (Cp path attr stripe bytes) p me words first entries e is = ap (append_rows (Cp path attr stripe bytes) p (length entries)) is
@@ -65,10 +66,17 @@ module _ (p : Params) (seq : ℕ) (e : Entry) (fill : Content) where
   pub length-append_ops : length (append_ops p seq e fill) ≡ append_steps (geometry p) (lines_of e.size)
   length-append_ops =
       ap length parts
-      ∙ omega (arith, length-append data_part (slot_lines ++ gate_part), length-append slot_lines gate_part, length-sends (file_line e) (content_line fill e.size) (λ j. Invalidate (line_no (file_line e j))) (lines_of e.size), length-sends (slot_line p seq) (slot_part (spelling (geometry p) e seq)) (λ j. WriteBack (line_no (slot_line p seq j))) (geometry p).lines)
+      ∙ omega (
+        arith,
+        length-append data_part (slot_lines ++ gate_part),
+        length-append slot_lines gate_part,
+        length-sends (file_line e) (content_line fill e.size) (λ j. Invalidate (line_no (file_line e j))) (lines_of e.size),
+        length-sends (slot_line p seq) (slot_part (spelling (geometry p) e seq)) (λ j. WriteBack (line_no (slot_line p seq j))) (geometry p).lines,
+      )
 
   -- a store into the file
-  pub data_store : (j k m : ℕ) → j < lines_of e.size → k < 8 → m ≡ 9 * j + k → slice_get (append_ops p seq e fill) m ≡ Some (Store (line_no (file_line e j)) k (slice_index (content_line fill e.size j) k))
+  pub data_store : (j k m : ℕ) → j < lines_of e.size → k < 8 → m ≡ 9 * j + k
+      → slice_get (append_ops p seq e fill) m ≡ Some (Store (line_no (file_line e j)) k (slice_index (content_line fill e.size j) k))
   data_store j k m below small is =
       ap (λ (l : List Op). slice_get l m) parts
       ∙ store_at (file_line e) (content_line fill e.size) (λ j. Invalidate (line_no (file_line e j))) (lines_of e.size) j k m (slot_lines ++ gate_part) below small is
@@ -86,7 +94,8 @@ module _ (p : Params) (seq : ℕ) (e : Entry) (fill : Content) where
       ∙ behind_sends (file_line e) (content_line fill e.size) (λ j. Invalidate (line_no (file_line e j))) (lines_of e.size) r m (slot_lines ++ gate_part) is
 
   -- a store into the slot
-  pub slot_store : (j k m : ℕ) → j < (geometry p).lines → k < 8 → m ≡ 9 * lines_of e.size + (9 * j + k) → slice_get (append_ops p seq e fill) m ≡ Some (Store (line_no (slot_line p seq j)) k (slice_index (spelling (geometry p) e seq) (8 * j + k)))
+  pub slot_store : (j k m : ℕ) → j < (geometry p).lines → k < 8 → m ≡ 9 * lines_of e.size + (9 * j + k)
+      → slice_get (append_ops p seq e fill) m ≡ Some (Store (line_no (slot_line p seq j)) k (slice_index (spelling (geometry p) e seq) (8 * j + k)))
   slot_store j k m below small is =
       behind_data (9 * j + k) m is
       ∙ store_at (slot_line p seq) (slot_part (spelling (geometry p) e seq)) (λ j. WriteBack (line_no (slot_line p seq j))) (geometry p).lines j k (9 * j + k) gate_part below small refl
@@ -141,7 +150,8 @@ module _ (t : Task) (words more : List ℕ) (a : IsAppending t words) where
       ∙ ap (λ (n : ℕ). slice_get (rows (append_ops t.params n a.e (content_of t.cmd)) (Answer (Appended n))) k) count
 
   -- one before the last
-  quiet_at : (k m : ℕ) (op : Op) → k < 9 * lines_of a.e.size + (9 * (geometry t.params).lines + 3) → m ≡ decided_and t.params (first_in t) t.gate 0 + k → slice_get ops k ≡ Some op → Here t words more m op Quiet
+  quiet_at : (k m : ℕ) (op : Op) → k < 9 * lines_of a.e.size + (9 * (geometry t.params).lines + 3)
+      → m ≡ decided_and t.params (first_in t) t.gate 0 + k → slice_get ops k ≡ Some op → Here t words more m op Quiet
   quiet_at k m op before is found =
       append_at k m is ∙ row_before ops (Answer (Appended t.gate)) k op (omega (arith, length-append_ops t.params t.gate a.e (content_of t.cmd))) found
 
@@ -163,14 +173,16 @@ module _ (t : Task) (words more : List ℕ) (a : IsAppending t words) where
       ∙ ap (λ (o : Option Entry). Some (row (Invalidate (line_no (line_of o j))) Quiet)) (sym a.entry_is)
 
   -- a store into the slot
-  pub store_slot_row : (j k made : ℕ) → j < (geometry t.params).lines → k < 8 → made ≡ decided_and t.params (first_in t) t.gate 0 + 9 * new_lines t + (9 * j + k) → Here t words more made (op_at t (at.StoreSlot j k)) Quiet
+  pub store_slot_row : (j k made : ℕ) → j < (geometry t.params).lines → k < 8
+      → made ≡ decided_and t.params (first_in t) t.gate 0 + 9 * new_lines t + (9 * j + k) → Here t words more made (op_at t (at.StoreSlot j k)) Quiet
   store_slot_row j k made below small is =
       let same = lines_are in
       quiet_at (9 * lines_of a.e.size + (9 * j + k)) made _ (omega arith) (omega arith) (slot_store t.params t.gate a.e (content_of t.cmd) j k (9 * lines_of a.e.size + (9 * j + k)) below small refl)
       ∙ ap (λ (l : List ℕ). Some (row (Store (line_no (slot_line t.params t.gate j)) k (slice_index l (8 * j + k))) Quiet)) (sym a.spelled)
 
   -- a line of the slot is sent
-  pub send_slot_row : (j made : ℕ) → j < (geometry t.params).lines → made ≡ decided_and t.params (first_in t) t.gate 0 + 9 * new_lines t + (9 * j + 8) → Here t words more made (op_at t (at.SendSlot j)) Quiet
+  pub send_slot_row : (j made : ℕ) → j < (geometry t.params).lines → made ≡ decided_and t.params (first_in t) t.gate 0 + 9 * new_lines t + (9 * j + 8)
+      → Here t words more made (op_at t (at.SendSlot j)) Quiet
   send_slot_row j made below is =
       let same = lines_are in
       quiet_at (9 * lines_of a.e.size + (9 * j + 8)) made _ (omega arith) (omega arith) (slot_send t.params t.gate a.e (content_of t.cmd) j (9 * lines_of a.e.size + (9 * j + 8)) below refl)
@@ -179,23 +191,29 @@ module _ (t : Task) (words more : List ℕ) (a : IsAppending t words) where
   pub fence_slot_row : (made : ℕ) → made ≡ decided_and t.params (first_in t) t.gate (line_steps * (geometry t.params).lines) + 9 * new_lines t → Here t words more made (op_at t at.FenceSlot) Quiet
   fence_slot_row made is =
       let same = lines_are in
-      quiet_at (9 * lines_of a.e.size + (9 * (geometry t.params).lines + 0)) made _ (omega arith) (omega arith) (slot_fence t.params t.gate a.e (content_of t.cmd) (9 * lines_of a.e.size + (9 * (geometry t.params).lines + 0)) refl)
+      quiet_at (9 * lines_of a.e.size + (9 * (geometry t.params).lines + 0)) made _ (omega arith) (omega arith)
+      (slot_fence t.params t.gate a.e (content_of t.cmd) (9 * lines_of a.e.size + (9 * (geometry t.params).lines + 0)) refl)
 
   -- the gate is stored
   pub store_gate_row : (made : ℕ) → made ≡ decided_and t.params (first_in t) t.gate (line_steps * (geometry t.params).lines + 1) + 9 * new_lines t → Here t words more made (op_at t at.StoreGate) Quiet
   store_gate_row made is =
       let same = lines_are in
-      quiet_at (9 * lines_of a.e.size + (9 * (geometry t.params).lines + 1)) made _ (omega arith) (omega arith) (gate_store t.params t.gate a.e (content_of t.cmd) (9 * lines_of a.e.size + (9 * (geometry t.params).lines + 1)) refl)
+      quiet_at (9 * lines_of a.e.size + (9 * (geometry t.params).lines + 1)) made _ (omega arith) (omega arith)
+      (gate_store t.params t.gate a.e (content_of t.cmd) (9 * lines_of a.e.size + (9 * (geometry t.params).lines + 1)) refl)
 
   -- it is asked for
   pub send_gate_row : (made : ℕ) → made ≡ decided_and t.params (first_in t) t.gate (line_steps * (geometry t.params).lines + 2) + 9 * new_lines t → Here t words more made (op_at t at.SendGate) Quiet
   send_gate_row made is =
       let same = lines_are in
-      quiet_at (9 * lines_of a.e.size + (9 * (geometry t.params).lines + 2)) made _ (omega arith) (omega arith) (gate_send t.params t.gate a.e (content_of t.cmd) (9 * lines_of a.e.size + (9 * (geometry t.params).lines + 2)) refl)
+      quiet_at (9 * lines_of a.e.size + (9 * (geometry t.params).lines + 2)) made _ (omega arith) (omega arith)
+      (gate_send t.params t.gate a.e (content_of t.cmd) (9 * lines_of a.e.size + (9 * (geometry t.params).lines + 2)) refl)
 
   -- the gate is sent, with the answer
-  pub fence_gate_row : (made : ℕ) → made ≡ decided_and t.params (first_in t) t.gate (line_steps * (geometry t.params).lines + 3) + 9 * new_lines t → Here t words more made (op_at t at.FenceGate) (Answer (Appended t.gate))
+  pub fence_gate_row : (made : ℕ) → made ≡ decided_and t.params (first_in t) t.gate (line_steps * (geometry t.params).lines + 3) + 9 * new_lines t
+      → Here t words more made (op_at t at.FenceGate) (Answer (Appended t.gate))
   fence_gate_row made is =
       let same = lines_are in
       append_at (9 * lines_of a.e.size + (9 * (geometry t.params).lines + 3)) made (omega arith)
-      ∙ row_last ops (Answer (Appended t.gate)) (9 * lines_of a.e.size + (9 * (geometry t.params).lines + 3)) _ (omega (arith, length-append_ops t.params t.gate a.e (content_of t.cmd))) (gate_fence t.params t.gate a.e (content_of t.cmd) (9 * lines_of a.e.size + (9 * (geometry t.params).lines + 3)) refl)
+      ∙ row_last ops (Answer (Appended t.gate)) (9 * lines_of a.e.size + (9 * (geometry t.params).lines + 3)) _
+      (omega (arith, length-append_ops t.params t.gate a.e (content_of t.cmd)))
+      (gate_fence t.params t.gate a.e (content_of t.cmd) (9 * lines_of a.e.size + (9 * (geometry t.params).lines + 3)) refl)

@@ -18,7 +18,8 @@ drop_row Header t words more j made h = header_drop_row t words more j made h.wi
 drop_row (Slot i) t words more j made h = slot_drop_row t words more i j made h.known.0 h.known.1 h.within h.made_is
 drop_row File t words more j made h = file_drop_row t words more h.known.0 j h.known.1 h.within made h.made_is
 
-word_row : (part : Part) (t : Task) (words more : List ℕ) (j k made : ℕ) → InPart part t words j k (1 + k) made → k < 8 → Here t words more made (op_at t (at.Word part j k)) (note_at (at.Word part j k) t (words ++ more))
+word_row : (part : Part) (t : Task) (words more : List ℕ) (j k made : ℕ) → InPart part t words j k (1 + k) made → k < 8
+    → Here t words more made (op_at t (at.Word part j k)) (note_at (at.Word part j k) t (words ++ more))
 word_row Superblock t words more j k made h small = super_word_row t words more j k made h.within small h.made_is
 word_row Header t words more j k made h small = header_word_row t words more j k made h.known.0 h.within small h.made_is
 word_row (Slot i) t words more j k made h small = slot_word_row t words more i j k made h.known.0 h.known.1 h.within small h.made_is

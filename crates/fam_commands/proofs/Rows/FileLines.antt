@@ -27,7 +27,9 @@ use Rattle.fam_commands.proofs.Rows.Slots.{ReadsLog, tail_at}
 use Rattle.fam_commands.proofs.Steps.Ties.{TaskSlots, FileKnown, note_at, line_end, decided_and}
 
 -- the first of a map is the map of the first
-find-map_more : {A B : Type 0} (test : B → Bool) (f : A → B) (x : A) (xs : List A) (b : Bool) → find test (map f xs) ≡ option_map f (find (λ y. test (f y)) xs) → cond b (Some (f x)) (find test (map f xs)) ≡ option_map f (cond b (Some x) (find (λ y. test (f y)) xs))
+find-map_more : {A B : Type 0} (test : B → Bool) (f : A → B) (x : A) (xs : List A) (b : Bool)
+    → find test (map f xs) ≡ option_map f (find (λ y. test (f y)) xs)
+    → cond b (Some (f x)) (find test (map f xs)) ≡ option_map f (cond b (Some x) (find (λ y. test (f y)) xs))
 find-map_more test f x xs true h = refl
 find-map_more test f x xs false h = h
 
@@ -41,11 +43,14 @@ abbrev pub told_file : Cmd → List ℕ → Params → ℕ → List Entry → En
 told_file cmd words p first entries e = fed_file (drop (words_before p first (length entries)) words) (line_bytes * first_line cmd) e
 
 -- the file at a path
-pub told_at : (cmd : Cmd) (words : List ℕ) (p : Params) (first : ℕ) (entries : List Entry) (path : List ℕ) → file_at (fed_files words p first cmd entries) path ≡ option_map (told_file cmd words p first entries) (find (λ x. path_eq x.path path) entries)
+pub told_at : (cmd : Cmd) (words : List ℕ) (p : Params) (first : ℕ) (entries : List Entry) (path : List ℕ)
+    → file_at (fed_files words p first cmd entries) path ≡ option_map (told_file cmd words p first entries) (find (λ x. path_eq x.path path) entries)
 told_at cmd words p first entries path = find-map (λ f. path_eq f.entry.path path) (told_file cmd words p first entries) entries
 
 -- what comes behind the decision where a file is read
-file_last : (cmd : Cmd) (words : List ℕ) (p : Params) (first : ℕ) (entries : List Entry) (wanted : Option asks.File) (f : asks.File) → wanted ≡ Some f → f.entry.kind ≡ kind.File → fits_content cmd f.entry.size ≡ true → 0 < wanted_lines cmd f.entry.size → (if reads_file cmd wanted then wanted_rows cmd words p first entries wanted else []) ≡ file_rows cmd words p first entries f.entry
+file_last : (cmd : Cmd) (words : List ℕ) (p : Params) (first : ℕ) (entries : List Entry) (wanted : Option asks.File) (f : asks.File) → wanted ≡ Some f
+    → f.entry.kind ≡ kind.File → fits_content cmd f.entry.size ≡ true → 0 < wanted_lines cmd f.entry.size
+    → (if reads_file cmd wanted then wanted_rows cmd words p first entries wanted else []) ≡ file_rows cmd words p first entries f.entry
 file_last cmd words p first entries wanted f is file fits some =
     ap (λ (w : Option asks.File). if reads_file cmd w then wanted_rows cmd words p first entries w else []) is
     ∙ ap (λ (b : Bool). if b then file_rows cmd words p first entries f.entry else [])
@@ -60,13 +65,15 @@ pub record IsReading (cmd : Cmd) (entries : List Entry) (entry : Option Entry) :
   pub last : (me : List ℕ) (words : List ℕ) (p : Params) (first : ℕ) → last_rows cmd me words p first entries ≡ file_rows cmd words p first entries e
 
 -- a task at a file reads this file
-pub reading_of : (cmd : Cmd) (p : Params) (f gate : ℕ) (entries : List Entry) (entry : Option Entry) (words : List ℕ) (j : ℕ) → FileKnown cmd p f gate entries entry words j → IsReading cmd entries entry
+pub reading_of : (cmd : Cmd) (p : Params) (f gate : ℕ) (entries : List Entry) (entry : Option Entry) (words : List ℕ) (j : ℕ)
+    → FileKnown cmd p f gate entries entry words j → IsReading cmd entries entry
 reading_of (Verify path against) q f gate entries entry words j (e, chosen, same, long) =
     record {
       reads = tt;
       e = e;
       is = chosen.is;
-      last = λ me ws p first. file_last (Verify path against) ws p first entries (file_at (fed_files ws p first (Verify path against) entries) path) (told_file (Verify path against) ws p first entries e)
+      last = λ me ws p first. file_last (Verify path against) ws p first entries (file_at (fed_files ws p first (Verify path against) entries) path)
+          (told_file (Verify path against) ws p first entries e)
           (told_at (Verify path against) ws p first entries path ∙ ap (option_map (told_file (Verify path against) ws p first entries)) chosen.found) chosen.file chosen.fits chosen.some;
     }
 reading_of (Read path offset count) q f gate entries entry words j (e, chosen) =
@@ -74,15 +81,18 @@ reading_of (Read path offset count) q f gate entries entry words j (e, chosen) =
       reads = tt;
       e = e;
       is = chosen.is;
-      last = λ me ws p first. file_last (Read path offset count) ws p first entries (file_at (fed_files ws p first (Read path offset count) entries) path) (told_file (Read path offset count) ws p first entries e)
+      last = λ me ws p first. file_last (Read path offset count) ws p first entries
+          (file_at (fed_files ws p first (Read path offset count) entries) path) (told_file (Read path offset count) ws p first entries e)
           (told_at (Read path offset count) ws p first entries path ∙ ap (option_map (told_file (Read path offset count) ws p first entries)) chosen.found) chosen.file chosen.fits chosen.some;
     }
 reading_of cmd p f gate entries entry words j known = absurd known
 
-line_width : (cmd : Cmd) (words : List ℕ) (p : Params) (first : ℕ) (entries : List Entry) (e : Entry) (j : ℕ) → length (rows (load_ops (file_line e (first_line cmd + j)) 8) (line_note cmd words p first entries (wanted_lines cmd e.size) j)) ≡ 9
+line_width : (cmd : Cmd) (words : List ℕ) (p : Params) (first : ℕ) (entries : List Entry) (e : Entry) (j : ℕ)
+    → length (rows (load_ops (file_line e (first_line cmd + j)) 8) (line_note cmd words p first entries (wanted_lines cmd e.size) j)) ≡ 9
 line_width cmd words p first entries e j = length-rows (load_ops (file_line e (first_line cmd + j)) 8) (line_note cmd words p first entries (wanted_lines cmd e.size) j)
 
-module _ (t : Task) (words more : List ℕ) (h : TaskSlots t words t.gate) (j : ℕ) (known : FileKnown t.cmd t.params (first_in t) t.gate t.entries t.entry words j) (within : j < wanted_lines t.cmd (size_of t.entry)) where
+module _ (t : Task) (words more : List ℕ) (h : TaskSlots t words t.gate) (j : ℕ)
+    (known : FileKnown t.cmd t.params (first_in t) t.gate t.entries t.entry words j) (within : j < wanted_lines t.cmd (size_of t.entry)) where
   -- the words with those to come, and what the row has
   abbrev now : List ℕ
   now = words ++ more
@@ -101,7 +111,9 @@ module _ (t : Task) (words more : List ℕ) (h : TaskSlots t words t.gate) (j : 
   line_at r m small is =
       tail_at t words more (9 * j + r) m chosen.reads h is
       ∙ ap (λ (l : List Row). slice_get l (9 * j + r)) (chosen.last t.me now t.params (first_in t) ∙ sym (append-nil (file_rows t.cmd now t.params (first_in t) t.entries chosen.e)))
-      ∙ piece_at (λ j. rows (load_ops (file_line chosen.e (first_line t.cmd + j)) 8) (line_note t.cmd now t.params (first_in t) t.entries (wanted_lines t.cmd chosen.e.size) j)) 9 (line_width t.cmd now t.params (first_in t) t.entries chosen.e) (wanted_lines t.cmd chosen.e.size) j r (9 * j + r) []
+      ∙ piece_at (λ j. rows (load_ops (file_line chosen.e (first_line t.cmd + j)) 8)
+      (line_note t.cmd now t.params (first_in t) t.entries (wanted_lines t.cmd chosen.e.size) j)) 9
+      (line_width t.cmd now t.params (first_in t) t.entries chosen.e) (wanted_lines t.cmd chosen.e.size) j r (9 * j + r) []
       (omega (arith, ap (λ (o : Option Entry). wanted_lines t.cmd (size_of o)) chosen.is)) small refl
 
   -- a line of the file is dropped
@@ -112,7 +124,8 @@ module _ (t : Task) (words more : List ℕ) (h : TaskSlots t words t.gate) (j : 
       ∙ ap (λ (o : Option Entry). Some (row (Invalidate (line_no (line_of o (first_line t.cmd + j)))) Quiet)) (sym chosen.is)
 
   -- a word of it is loaded
-  pub file_word_row : (k made : ℕ) → k < 8 → made ≡ decided_and t.params (first_in t) t.gate 0 + (9 * j + (1 + k)) → Here t words more made (op_at t (at.Word File j k)) (note_at (at.Word File j k) t now)
+  pub file_word_row : (k made : ℕ) → k < 8 → made ≡ decided_and t.params (first_in t) t.gate 0 + (9 * j + (1 + k))
+      → Here t words more made (op_at t (at.Word File j k)) (note_at (at.Word File j k) t now)
   file_word_row k made small is = line_at (1 + k) made (omega arith) is ∙ by_word (cases_lt k 7)
     where
       word : slice_get (load_ops line 8) (1 + k) ≡ Some (Load (line_no line) k)

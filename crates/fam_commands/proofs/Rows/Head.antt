@@ -192,7 +192,8 @@ module _ (t : Task) (words more : List ℕ) where
       ∙ row_before (load_ops log_line 8) _ (9 * j) _ (let z : 9 * j + 1 < 9 = omega arith in z) (drop_at (λ j. log_line) 1 j (9 * j) [] below refl)
 
   -- a word of it is loaded
-  pub header_word_row : (j k made : ℕ) → HasSuper t.cmd t.me t.lines t.params words → j < 1 → k < 8 → made ≡ 20 + (9 * j + (1 + k)) → Here made (op_at t (at.Word Header j k)) (note_at (at.Word Header j k) t now)
+  pub header_word_row : (j k made : ℕ) → HasSuper t.cmd t.me t.lines t.params words → j < 1 → k < 8 → made ≡ 20 + (9 * j + (1 + k))
+      → Here made (op_at t (at.Word Header j k)) (note_at (at.Word Header j k) t now)
   header_word_row j k made h below small is =
       header_rows t.kept t.cmd t.me t.lines now (9 * j + (1 + k)) made (omega arith) is
       ∙ elim (cases_lt k 7) [
@@ -201,7 +202,8 @@ module _ (t : Task) (words more : List ℕ) where
             ∙ ap (λ (n : RowNote). Some (row (op_at t (at.Word Header j k)) n)) (sym (if_below k 7 Quiet (line_end Header t now j) less))
         | inr seven ↦
             row_last (load_ops log_line 8) _ (9 * j + (1 + k)) _ (let z : 9 * j + (1 + k) + 1 ≡ 9 = omega arith in z) word
-            ∙ ap (λ (p : Params). Some (row (op_at t (at.Word Header j k)) (header_note t.cmd now t.lines (log_fault (fed_head now log_line) p)))) (told_is t.kept t.cmd t.me t.lines t.params now (has_super_stays t.cmd t.me t.lines t.params words more h))
+            ∙ ap (λ (p : Params). Some (row (op_at t (at.Word Header j k)) (header_note t.cmd now t.lines (log_fault (fed_head now log_line) p))))
+            (told_is t.kept t.cmd t.me t.lines t.params now (has_super_stays t.cmd t.me t.lines t.params words more h))
             ∙ ap (λ (n : RowNote). Some (row (op_at t (at.Word Header j k)) n)) (sym (if_past k 7 Quiet (line_end Header t now j) seven))
       ]
     where

@@ -87,7 +87,8 @@ pub length-sends : (line : ℕ → ℕ) (words : ℕ → List ℕ) (send : ℕ �
 length-sends line words send n = length-pieces (λ j. store_ops (line j) (words j) ++ send j ∷ []) 9 (send_width line words send) 0 n
 
 -- a store among them
-pub store_at : (line : ℕ → ℕ) (words : ℕ → List ℕ) (send : ℕ → Op) (n j k m : ℕ) (rest : List Op) → j < n → k < 8 → m ≡ 9 * j + k → slice_get (sends line words send n ++ rest) m ≡ Some (Store (line_no (line j)) k (slice_index (words j) k))
+pub store_at : (line : ℕ → ℕ) (words : ℕ → List ℕ) (send : ℕ → Op) (n j k m : ℕ) (rest : List Op) → j < n → k < 8 → m ≡ 9 * j + k
+    → slice_get (sends line words send n ++ rest) m ≡ Some (Store (line_no (line j)) k (slice_index (words j) k))
 store_at line words send n j k m rest below small is =
     piece_at (λ j. store_ops (line j) (words j) ++ send j ∷ []) 9 (send_width line words send) n j k m rest below (omega arith) is
     ∙ get-append_left (store_ops (line j) (words j)) (send j ∷ []) k small

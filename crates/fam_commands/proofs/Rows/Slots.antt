@@ -38,7 +38,8 @@ ReadsLog (Read path offset count) = Unit {0}
 ReadsLog (Check listing) = Unit {0}
 
 -- what is known of the slots that it read
-pub read_of : (kept : Option Kept) (cmd : Cmd) (p : Params) (gate : ℕ) (entries : List Entry) (survey : Survey) (words : List ℕ) (i : ℕ) → ReadsLog cmd → SlotsKnown cmd p gate (used kept cmd p gate) entries survey words i → AreRead p (used kept cmd p gate) entries words i
+pub read_of : (kept : Option Kept) (cmd : Cmd) (p : Params) (gate : ℕ) (entries : List Entry) (survey : Survey) (words : List ℕ) (i : ℕ)
+    → ReadsLog cmd → SlotsKnown cmd p gate (used kept cmd p gate) entries survey words i → AreRead p (used kept cmd p gate) entries words i
 read_of kept Fsck p gate entries survey words i reads known = absurd reads
 read_of kept cmd p gate entries survey words i reads known = known
 
@@ -89,22 +90,29 @@ module _ (t : Task) (words more : List ℕ) where
       ∙ ap (λ (n : ℕ). slice_get (slots_rows t.cmd now t.params (used_in t) n ++ behind) k) (ap (slots_of_cmd t.cmd t.params) known.gated.gate_is ∙ slots_are t)
 
   -- row r of slot i
-  slot_at : (i r m : ℕ) → TaskSlots t words i → i < slots_read t → r < slot_steps (geometry t.params) → m ≡ steps_to t.params (first_in t) i + r → slice_get (table t.kept t.cmd t.me t.lines now) m ≡ slice_get (rows (slot_ops t.params i) (slot_note t.cmd now t.params (used_in t) i)) r
+  slot_at : (i r m : ℕ) → TaskSlots t words i → i < slots_read t → r < slot_steps (geometry t.params) → m ≡ steps_to t.params (first_in t) i + r
+      → slice_get (table t.kept t.cmd t.me t.lines now) m ≡ slice_get (rows (slot_ops t.params i) (slot_note t.cmd now t.params (used_in t) i)) r
   slot_at i r m h below small is =
       body_at i (slot_steps (geometry t.params) * (i - first_in t) + r) m h (omega arith)
-      ∙ pieces_from (λ i. rows (slot_ops t.params i) (slot_note t.cmd now t.params (used_in t) i)) (slot_steps (geometry t.params)) (slot_width t.cmd now t.params (used_in t)) (first_in t) (slots_read t - first_in t) i r (slot_steps (geometry t.params) * (i - first_in t) + r) behind h.behind (let b = h.behind in omega arith) small refl
+      ∙ pieces_from (λ i. rows (slot_ops t.params i) (slot_note t.cmd now t.params (used_in t) i)) (slot_steps (geometry t.params))
+      (slot_width t.cmd now t.params (used_in t)) (first_in t) (slots_read t - first_in t) i r
+      (slot_steps (geometry t.params) * (i - first_in t) + r) behind h.behind (let b = h.behind in omega arith) small refl
 
   -- a line of a slot is dropped
-  pub slot_drop_row : (i j made : ℕ) → TaskSlots t words i → i < slots_read t → j < (geometry t.params).lines → made ≡ steps_to t.params (first_in t) i + (9 * j + 0) → Here t words more made (op_at t (at.Drop (Slot i) j)) Quiet
+  pub slot_drop_row : (i j made : ℕ) → TaskSlots t words i → i < slots_read t → j < (geometry t.params).lines
+      → made ≡ steps_to t.params (first_in t) i + (9 * j + 0) → Here t words more made (op_at t (at.Drop (Slot i) j)) Quiet
   slot_drop_row i j made h below line is =
       slot_at i (9 * j) made h below (omega arith) (omega arith)
       ∙ row_before (slot_ops t.params i) _ (9 * j) _ (omega (arith, length-slot_ops t.params i)) (drop_at (slot_line t.params i) (geometry t.params).lines j (9 * j) (Digest ∷ []) line refl)
 
   -- a word of it is loaded
-  pub slot_word_row : (i j k made : ℕ) → TaskSlots t words i → i < slots_read t → j < (geometry t.params).lines → k < 8 → made ≡ steps_to t.params (first_in t) i + (9 * j + (1 + k)) → Here t words more made (op_at t (at.Word (Slot i) j k)) (note_at (at.Word (Slot i) j k) t now)
+  pub slot_word_row : (i j k made : ℕ) → TaskSlots t words i → i < slots_read t → j < (geometry t.params).lines → k < 8
+      → made ≡ steps_to t.params (first_in t) i + (9 * j + (1 + k))
+      → Here t words more made (op_at t (at.Word (Slot i) j k)) (note_at (at.Word (Slot i) j k) t now)
   slot_word_row i j k made h below line small is =
       slot_at i (9 * j + (1 + k)) made h below (omega arith) (omega arith)
-      ∙ row_before (slot_ops t.params i) _ (9 * j + (1 + k)) _ (omega (arith, length-slot_ops t.params i)) (word_at (slot_line t.params i) (geometry t.params).lines j k (9 * j + (1 + k)) (Digest ∷ []) line small refl)
+      ∙ row_before (slot_ops t.params i) _ (9 * j + (1 + k)) _ (omega (arith, length-slot_ops t.params i))
+      (word_at (slot_line t.params i) (geometry t.params).lines j k (9 * j + (1 + k)) (Digest ∷ []) line small refl)
       ∙ ap (λ (n : RowNote). Some (row (op_at t (at.Word (Slot i) j k)) n)) (quiet (cases_lt k 7))
     where
       quiet : (k < 7) ⊎ (7 ≤ k) → Quiet ≡ note_at (at.Word (Slot i) j k) t now
@@ -112,16 +120,21 @@ module _ (t : Task) (words more : List ℕ) where
       quiet (inr past) = sym (if_past k 7 Quiet Quiet past)
 
   -- the slot's words are looked at
-  pub check_row : (i made : ℕ) → TaskSlots t words i → i < slots_read t → made ≡ steps_to t.params (first_in t) i + line_steps * (geometry t.params).lines → Here t words more made (op_at t (at.Check i)) (note_at (at.Check i) t now)
+  pub check_row : (i made : ℕ) → TaskSlots t words i → i < slots_read t
+      → made ≡ steps_to t.params (first_in t) i + line_steps * (geometry t.params).lines
+      → Here t words more made (op_at t (at.Check i)) (note_at (at.Check i) t now)
   check_row i made h below is =
       slot_at i (line_steps * (geometry t.params).lines) made h below (omega arith) is
-      ∙ row_last (slot_ops t.params i) _ (line_steps * (geometry t.params).lines) Digest (sym (length-slot_ops t.params i)) (behind_loads (slot_line t.params i) (geometry t.params).lines 0 (line_steps * (geometry t.params).lines) (Digest ∷ []) (omega arith))
+      ∙ row_last (slot_ops t.params i) _ (line_steps * (geometry t.params).lines) Digest (sym (length-slot_ops t.params i))
+      (behind_loads (slot_line t.params i) (geometry t.params).lines 0 (line_steps * (geometry t.params).lines) (Digest ∷ []) (omega arith))
 
   -- the decision
   pub decide_row : (made : ℕ) → TaskSlots t words (slots_read t) → made ≡ steps_to t.params (first_in t) (slots_read t) → Here t words more made (op_at t at.Decide) (note_at at.Decide t now)
   decide_row made h is =
       body_at (slots_read t) (slot_steps (geometry t.params) * (slots_read t - first_in t)) made h is
-      ∙ after_from (λ i. rows (slot_ops t.params i) (slot_note t.cmd now t.params (used_in t) i)) (slot_steps (geometry t.params)) (slot_width t.cmd now t.params (used_in t)) (first_in t) (slots_read t - first_in t) 0 (slot_steps (geometry t.params) * (slots_read t - first_in t)) behind (omega arith)
+      ∙ after_from (λ i. rows (slot_ops t.params i) (slot_note t.cmd now t.params (used_in t) i)) (slot_steps (geometry t.params))
+      (slot_width t.cmd now t.params (used_in t)) (first_in t) (slots_read t - first_in t) 0
+      (slot_steps (geometry t.params) * (slots_read t - first_in t)) behind (omega arith)
 
   -- the entries that longer words tell
   pub entries_are : (i : ℕ) → ReadsLog t.cmd → i ≡ t.gate → TaskSlots t words i → entries ≡ t.entries
@@ -131,10 +144,14 @@ module _ (t : Task) (words more : List ℕ) where
       ap (λ (n : ℕ). entries_read (fed_slots now t.params (used_in t) n)) (known.gated.gate_is ∙ sym is) ∙ ap entries_read all.sound
 
   -- row k behind the decision
-  pub tail_at : (k m : ℕ) → ReadsLog t.cmd → TaskSlots t words t.gate → m ≡ decided_and t.params (first_in t) t.gate 0 + k → slice_get (table t.kept t.cmd t.me t.lines now) m ≡ slice_get (last_rows t.cmd t.me now t.params (first_in t) t.entries) k
+  pub tail_at : (k m : ℕ) → ReadsLog t.cmd → TaskSlots t words t.gate → m ≡ decided_and t.params (first_in t) t.gate 0 + k
+      → slice_get (table t.kept t.cmd t.me t.lines now) m ≡ slice_get (last_rows t.cmd t.me now t.params (first_in t) t.entries) k
   tail_at k m reads h is =
-      let count : slot_steps (geometry t.params) * (slots_read t - first_in t) ≡ slot_steps (geometry t.params) * (t.gate - first_in t) = ap (λ (n : ℕ). slot_steps (geometry t.params) * (n - first_in t)) (below_gate t reads) in
+      let count : slot_steps (geometry t.params) * (slots_read t - first_in t) ≡ slot_steps (geometry t.params) * (t.gate - first_in t) =
+      ap (λ (n : ℕ). slot_steps (geometry t.params) * (n - first_in t)) (below_gate t reads) in
       body_at t.gate (slot_steps (geometry t.params) * (slots_read t - first_in t) + (1 + k)) m h (omega arith)
-      ∙ after_from (λ i. rows (slot_ops t.params i) (slot_note t.cmd now t.params (used_in t) i)) (slot_steps (geometry t.params)) (slot_width t.cmd now t.params (used_in t)) (first_in t) (slots_read t - first_in t) (1 + k) (slot_steps (geometry t.params) * (slots_read t - first_in t) + (1 + k)) behind (omega arith)
+      ∙ after_from (λ i. rows (slot_ops t.params i) (slot_note t.cmd now t.params (used_in t) i)) (slot_steps (geometry t.params))
+      (slot_width t.cmd now t.params (used_in t)) (first_in t) (slots_read t - first_in t) (1 + k)
+      (slot_steps (geometry t.params) * (slots_read t - first_in t) + (1 + k)) behind (omega arith)
       ∙ ap (λ (i : ℕ). slice_get behind i) (let z : 1 + k ≡ suc k = omega arith in z)
       ∙ ap (λ (es : List Entry). slice_get (last_rows t.cmd t.me now t.params (first_in t) es) k) (entries_are t.gate reads refl h)

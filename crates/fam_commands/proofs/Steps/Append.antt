@@ -31,7 +31,8 @@ at_phase t phase words made tie = goes_on t (record t { phase = phase }) words m
 
 -- The decision.
 
-first_store_tie : (t : Task) (phase : Phase) (words : List ℕ) (e : Entry) (made : ℕ) → t.entry ≡ Some e → IsAppending t words → made ≡ decided_and t.params (first_in t) t.gate 0 → TieAt (first_store e.size) (record t { phase = phase }) words made
+first_store_tie : (t : Task) (phase : Phase) (words : List ℕ) (e : Entry) (made : ℕ) → t.entry ≡ Some e → IsAppending t words
+    → made ≡ decided_and t.params (first_in t) t.gate 0 → TieAt (first_store e.size) (record t { phase = phase }) words made
 first_store_tie t phase words e made is a at_made =
     let lines : new_lines t ≡ lines_of e.size = ap (λ (o : Option Entry). lines_of (size_of o)) is in
     elim (cases_eq e.size 0) [
@@ -44,10 +45,14 @@ first_store_tie t phase words e made is a at_made =
     ]
 
 -- an entry is to be appended, or the answer
-pub append_by : (t : Task) (words : List ℕ) (made : ℕ) (r : Result Entry Refused) → decide t.params t.me t.entries t.cmd ≡ Some r → TaskSlots t words t.gate → made ≡ decided_and t.params (first_in t) t.gate 0 → Outcome t (append_turn t r) (append_note t.gate (Some r)) words made
+pub append_by : (t : Task) (words : List ℕ) (made : ℕ) (r : Result Entry Refused) → decide t.params t.me t.entries t.cmd ≡ Some r
+    → TaskSlots t words t.gate → made ≡ decided_and t.params (first_in t) t.gate 0
+    → Outcome t (append_turn t r) (append_note t.gate (Some r)) words made
 append_by t words made (Err refused) is h at_made =
     ends t (reply.NotAppended refused) _ words made refl
-    (decided_at t.params (shape_told t words) (first_told t words) (first_in t) (fed_gate words) t.gate made (shape_told_is t words t.gate h) (first_told_is t words t.gate h) h.gated.gate_is at_made ∙ sym (refused_at t.params t.me t.entries (shape_told t words) (first_told t words) (fed_gate words) refused t.cmd h.gated.log.head.host is))
+    (decided_at t.params (shape_told t words) (first_told t words) (first_in t) (fed_gate words) t.gate made (shape_told_is t words t.gate h)
+    (first_told_is t words t.gate h) h.gated.gate_is at_made
+    ∙ sym (refused_at t.params t.me t.entries (shape_told t words) (first_told t words) (fed_gate words) refused t.cmd h.gated.log.head.host is))
 append_by t words made (Ok e) is h at_made =
     record {
       noted = refl;
@@ -59,7 +64,9 @@ append_by t words made (Ok e) is h at_made =
 -- The stores.
 
 -- where a store or the sending comes next
-store_or_send_tie : (t : Task) (store send phase : Phase) (words : List ℕ) (k made : ℕ) → (k < 7 → TieAt store (record t { phase = phase }) words made) → (7 ≤ k → TieAt send (record t { phase = phase }) words made) → TieAt (store_or_send k store send) (record t { phase = phase }) words made
+store_or_send_tie : (t : Task) (store send phase : Phase) (words : List ℕ) (k made : ℕ)
+    → (k < 7 → TieAt store (record t { phase = phase }) words made) → (7 ≤ k → TieAt send (record t { phase = phase }) words made)
+    → TieAt (store_or_send k store send) (record t { phase = phase }) words made
 store_or_send_tie t store send phase words k made less past =
     elim (cases_lt k 7) [
       | inl below ↦ subst (λ (p : Phase). TieAt p (record t { phase = phase }) words made) (sym (if_below k 7 store send below)) (less below)
@@ -67,7 +74,8 @@ store_or_send_tie t store send phase words k made less past =
     ]
 
 -- a store into the file
-pub store_data_step : (t : Task) (words : List ℕ) (j k made : ℕ) → TieAt (at.StoreData j k) t words made → Outcome t (Goes (record t { phase = store_or_send k (at.StoreData j (k + 1)) (at.SendData j) })) Quiet words (made + 1)
+pub store_data_step : (t : Task) (words : List ℕ) (j k made : ℕ) → TieAt (at.StoreData j k) t words made
+    → Outcome t (Goes (record t { phase = store_or_send k (at.StoreData j (k + 1)) (at.SendData j) })) Quiet words (made + 1)
 store_data_step t words j k made (a, below, small, is) =
     at_phase t (store_or_send k (at.StoreData j (k + 1)) (at.SendData j)) words (made + 1)
     (store_or_send_tie t (at.StoreData j (k + 1)) (at.SendData j) (store_or_send k (at.StoreData j (k + 1)) (at.SendData j)) words k (made + 1)
@@ -88,7 +96,8 @@ send_data_step t words j made (a, below, is) =
     ])
 
 -- a store into the slot
-pub store_slot_step : (t : Task) (words : List ℕ) (j k made : ℕ) → TieAt (at.StoreSlot j k) t words made → Outcome t (Goes (record t { phase = store_or_send k (at.StoreSlot j (k + 1)) (at.SendSlot j) })) Quiet words (made + 1)
+pub store_slot_step : (t : Task) (words : List ℕ) (j k made : ℕ) → TieAt (at.StoreSlot j k) t words made
+    → Outcome t (Goes (record t { phase = store_or_send k (at.StoreSlot j (k + 1)) (at.SendSlot j) })) Quiet words (made + 1)
 store_slot_step t words j k made (a, below, small, is) =
     at_phase t (store_or_send k (at.StoreSlot j (k + 1)) (at.SendSlot j)) words (made + 1)
     (store_or_send_tie t (at.StoreSlot j (k + 1)) (at.SendSlot j) (store_or_send k (at.StoreSlot j (k + 1)) (at.SendSlot j)) words k (made + 1)
@@ -124,5 +133,7 @@ send_gate_step t words made (a, is) = at_phase t at.FenceGate words (made + 1) (
 pub fence_gate_step : (t : Task) (words : List ℕ) (made : ℕ) → TieAt at.FenceGate t words made → Outcome t (Ends (reply.Appended t.gate)) (Answer (reply.Appended t.gate)) words (made + 1)
 fence_gate_step t words made (a, is) =
     ends t (reply.Appended t.gate) _ words (made + 1) refl
-    (appended_at t.params (shape_told t words) (first_told t words) (first_in t) (fed_gate words) t.gate (file_lines t.cmd (told_entries (used_told_by t words) words t.lines)) (new_lines t) made (shape_told_is t words t.gate a.slots) (first_told_is t words t.gate a.slots) a.slots.gated.gate_is
+    (appended_at t.params (shape_told t words) (first_told t words) (first_in t) (fed_gate words) t.gate
+    (file_lines t.cmd (told_entries (used_told_by t words) words t.lines)) (new_lines t) made (shape_told_is t words t.gate a.slots)
+    (first_told_is t words t.gate a.slots) a.slots.gated.gate_is
     (appended_lines t.params t.me t.entries a.e t.cmd (told_entries (used_told_by t words) words t.lines) a.decided ∙ sym (ap (λ (o : Option Entry). lines_of (size_of o)) a.entry_is)) is)

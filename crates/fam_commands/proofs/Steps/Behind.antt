@@ -32,7 +32,8 @@ let_through at.Decide t words made behind tie = tie.0.gated.log.head.host
 let_through other t words made behind tie = tie.0.slots.gated.log.head.host
 
 -- so a task that stands for a command
-pub behind_super : (kept : Option Kept) (cmd : Cmd) (me : List ℕ) (lines : ℕ) (t : Task) (words : List ℕ) (made : ℕ) → IsKept kept → StandsFor kept cmd me lines t words made → IsBehindSuper t.phase → host_refusal (wish_of cmd) t.params me ≡ None
+pub behind_super : (kept : Option Kept) (cmd : Cmd) (me : List ℕ) (lines : ℕ) (t : Task) (words : List ℕ) (made : ℕ) → IsKept kept
+    → StandsFor kept cmd me lines t words made → IsBehindSuper t.phase → host_refusal (wish_of cmd) t.params me ≡ None
 behind_super kept cmd me lines t words made joined stands behind =
     let tied = standing_tied kept cmd me lines t words made joined stands in
     ap (λ (m : List ℕ). host_refusal (wish_of cmd) t.params m) (sym tied.me_is) ∙ ap (λ (c : Cmd). host_refusal (wish_of c) t.params t.me) (sym tied.cmd_is)

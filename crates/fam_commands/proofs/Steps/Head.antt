@@ -38,26 +38,34 @@ use Rattle.fam_commands.proofs.Steps.Ties.{IsFresh, HasSuper, HasHeader, SlotsKn
 
 -- The magic.
 
-magic_by : (t : Task) (words : List ℕ) (f : Option SuperFault) → magic_fault (slice_index words 0) ≡ f → length words ≡ 1 → IsFresh t.kept t.entries t.survey → Outcome t (magic_turn t f) (magic_note t.cmd words t.lines f) words 2
+magic_by : (t : Task) (words : List ℕ) (f : Option SuperFault) → magic_fault (slice_index words 0) ≡ f → length words ≡ 1
+    → IsFresh t.kept t.entries t.survey → Outcome t (magic_turn t f) (magic_note t.cmd words t.lines f) words 2
 magic_by t words (Some fault) is long fresh =
     ends t (super_fault_reply t.cmd fault) _ words 2 (ap Answer (super_reply words t.lines t.cmd fault (super_by_magic words t.lines fault is)))
-    (sym (super_end_steps t.cmd (shape_told t words) (first_told t words) (fed_gate words) (file_lines t.cmd (told_entries (used_told_by t words) words t.lines)) fault ∙ magic_steps (slice_index words 0) fault is))
+    (sym (super_end_steps t.cmd (shape_told t words) (first_told t words) (fed_gate words)
+    (file_lines t.cmd (told_entries (used_told_by t words) words t.lines)) fault ∙ magic_steps (slice_index words 0) fault is))
 magic_by t words None is long fresh =
     goes_on t (record t { phase = at.Drop Superblock 0; words = [] }) words 2 refl refl refl refl
     (in_part Superblock t [] (at.Drop Superblock 0) words 0 0 0 2 (is, omega arith, fresh) (omega arith) (omega arith) (sym (drop_all 1 words (omega arith))) refl)
 
 -- the magic is loaded
-pub magic_step : (t : Task) (words : List ℕ) (word made : ℕ) → TieAt at.Magic t words made → Outcome t (magic_turn t (magic_fault word)) (magic_note t.cmd (words ++ word ∷ []) t.lines (magic_fault (slice_index (words ++ word ∷ []) 0))) (words ++ word ∷ []) (made + 1)
+pub magic_step : (t : Task) (words : List ℕ) (word made : ℕ) → TieAt at.Magic t words made
+    → Outcome t (magic_turn t (magic_fault word)) (magic_note t.cmd (words ++ word ∷ []) t.lines (magic_fault (slice_index (words ++ word ∷ []) 0)))
+    (words ++ word ∷ []) (made + 1)
 magic_step t words word made (empty, is, fresh) =
     let first : slice_index (words ++ word ∷ []) 0 ≡ word = get_or_push words word 0 0 (ap length empty) in
-    subst (λ (n : ℕ). Outcome t (magic_turn t (magic_fault word)) (magic_note t.cmd (words ++ word ∷ []) t.lines (magic_fault (slice_index (words ++ word ∷ []) 0))) (words ++ word ∷ []) n) (let z : 2 ≡ made + 1 = omega arith in z)
+    subst (λ (n : ℕ). Outcome t (magic_turn t (magic_fault word))
+    (magic_note t.cmd (words ++ word ∷ []) t.lines (magic_fault (slice_index (words ++ word ∷ []) 0))) (words ++ word ∷ []) n)
+    (let z : 2 ≡ made + 1 = omega arith in z)
     (outcome_as t _ (magic_turn t (magic_fault (slice_index (words ++ word ∷ []) 0))) _ _ (words ++ word ∷ []) 2 (ap (λ (w : ℕ). magic_turn t (magic_fault w)) (sym first)) refl
     (magic_by t (words ++ word ∷ []) (magic_fault (slice_index (words ++ word ∷ []) 0)) refl (length-append words (word ∷ []) ∙ ap (λ (n : ℕ). n + 1) (ap length empty)) fresh))
 
 -- The superblock.
 
 -- a host that appends is the master and its path fits, or it is refused
-host_by : (t : Task) (p : Params) (words : List ℕ) (made : ℕ) (w : Option Wish) → made ≡ 20 → (host_refusal w p t.me ≡ None → Outcome t (Goes (record t { params = p; phase = at.Drop Header 0; words = [] })) Quiet words made) → Outcome t (host_turn t p (host_refusal w p t.me)) (host_note w p t.me) words made
+host_by : (t : Task) (p : Params) (words : List ℕ) (made : ℕ) (w : Option Wish) → made ≡ 20
+    → (host_refusal w p t.me ≡ None → Outcome t (Goes (record t { params = p; phase = at.Drop Header 0; words = [] })) Quiet words made)
+    → Outcome t (host_turn t p (host_refusal w p t.me)) (host_note w p t.me) words made
 host_by t p words made None at_made on = on refl
 host_by t p words made (Some w) at_made on = by_cases (early_cases p t.me w.path)
   where
@@ -66,14 +74,17 @@ host_by t p words made (Some w) at_made on = by_cases (early_cases p t.me w.path
     by_cases (another other refusal) = rw refusal (ends t _ _ words made refl at_made)
     by_cases (too_long first same long refusal) = rw refusal (ends t _ _ words made refl at_made)
 
-super_by : (t : Task) (words : List ℕ) (made : ℕ) (r : Result Params SuperFault) → fed_super words t.lines ≡ r → length words ≡ 17 → made ≡ 20 → IsFresh t.kept t.entries t.survey → ((f : SuperFault) → r ≡ Err f → super_steps f ≡ 20) → Outcome t (super_turn t r) (super_note t.cmd t.me words t.lines r) words made
+super_by : (t : Task) (words : List ℕ) (made : ℕ) (r : Result Params SuperFault) → fed_super words t.lines ≡ r → length words ≡ 17 → made ≡ 20
+    → IsFresh t.kept t.entries t.survey → ((f : SuperFault) → r ≡ Err f → super_steps f ≡ 20)
+    → Outcome t (super_turn t r) (super_note t.cmd t.me words t.lines r) words made
 super_by t words made (Err fault) is long at_made fresh late = ends t (super_fault_reply t.cmd fault) _ words made (ap Answer (super_reply words t.lines t.cmd fault is))
     (at_made ∙ sym (super_end_steps t.cmd (shape_told t words) (first_told t words) (fed_gate words) (file_lines t.cmd (told_entries (used_told_by t words) words t.lines)) fault ∙ late fault refl))
 super_by t words made (Ok p) is long at_made fresh late =
     host_by t p words made (wish_of t.cmd) at_made
     (λ host.
     goes_on t (record t { params = p; phase = at.Drop Header 0; words = [] }) words made refl refl refl refl
-    (in_part Header (record t { params = p }) [] (at.Drop Header 0) words 0 0 0 made (record { super = is; host = host; long = omega arith }, fresh) (omega arith) (omega arith) (sym (drop_all 17 words (omega arith))) (omega arith)))
+    (in_part Header (record t { params = p }) [] (at.Drop Header 0) words 0 0 0 made (record { super = is; host = host; long = omega arith }, fresh)
+    (omega arith) (omega arith) (sym (drop_all 17 words (omega arith))) (omega arith)))
 
 -- a line of the superblock is loaded whole
 pub super_line : (t : Task) (words : List ℕ) (j made : ℕ) → InPart Superblock t words j 8 9 made → Outcome t (line_turn t Superblock j) (line_end Superblock t words j) words made
@@ -81,7 +92,8 @@ super_line t words j made h =
     let long = h.long in
     let within = h.within in
     let at_made = h.made_is in
-    by_less t (j + 1) 2 (Goes (record t { phase = at.Drop Superblock (j + 1) })) (super_turn t (super_body_of t.words (line_bytes * t.lines))) Quiet (super_note t.cmd t.me words t.lines (fed_super words t.lines)) words made
+    by_less t (j + 1) 2 (Goes (record t { phase = at.Drop Superblock (j + 1) })) (super_turn t (super_body_of t.words (line_bytes * t.lines))) Quiet
+    (super_note t.cmd t.me words t.lines (fed_super words t.lines)) words made
     (λ less. next_line Superblock t words j made h.known less h.long h.held h.made_is)
     (λ past.
     let seventeen : length words ≡ 17 = omega arith in
@@ -92,9 +104,12 @@ super_line t words j made h =
 
 -- The header.
 
-header_by : (t : Task) (words : List ℕ) (made : ℕ) (f : Option LogFault) → HasSuper t.cmd t.me t.lines t.params words → log_fault (fed_head words log_line) t.params ≡ f → length words ≡ 25 → made ≡ 29 → IsFresh t.kept t.entries t.survey → Outcome t (header_turn t f) (header_note t.cmd words t.lines f) words made
+header_by : (t : Task) (words : List ℕ) (made : ℕ) (f : Option LogFault) → HasSuper t.cmd t.me t.lines t.params words
+    → log_fault (fed_head words log_line) t.params ≡ f → length words ≡ 25 → made ≡ 29 → IsFresh t.kept t.entries t.survey
+    → Outcome t (header_turn t f) (header_note t.cmd words t.lines f) words made
 header_by t words made (Some fault) head is long at_made fresh = ends t (log_fault_reply t.cmd fault) _ words made (ap Answer (header_reply words t.lines t.cmd t.params fault head.super is))
-    (at_made ∙ sym (log_end_steps t.cmd (shape_told t words) (first_told t words) (fed_gate words) (file_lines t.cmd (told_entries (used_told_by t words) words t.lines)) fault ∙ header_steps (fed_head words log_line) t.params fault is))
+    (at_made ∙ sym (log_end_steps t.cmd (shape_told t words) (first_told t words) (fed_gate words)
+    (file_lines t.cmd (told_entries (used_told_by t words) words t.lines)) fault ∙ header_steps (fed_head words log_line) t.params fault is))
 header_by t words made None head is long at_made fresh =
     goes_on t (record t { phase = at.DropGate; words = [] }) words made refl refl refl refl (record { head = head; header = is; long = omega arith }, long, at_made, fresh, refl)
 
@@ -128,7 +143,8 @@ pub within_slots : (t : Task) (n : ℕ) → gate_fault n t.params ≡ None → l
 within_slots t n is = within_as t.cmd t n is
 
 -- before the first slot only the kept entries are known
-no_slot : (kept : Option Kept) (cmd : Cmd) (p : Params) (gate : ℕ) (entries : List Entry) (survey : Survey) (words : List ℕ) → IsFresh kept entries survey → SlotsKnown cmd p gate (used kept cmd p gate) (used kept cmd p gate) survey words (length (used kept cmd p gate))
+no_slot : (kept : Option Kept) (cmd : Cmd) (p : Params) (gate : ℕ) (entries : List Entry) (survey : Survey) (words : List ℕ)
+    → IsFresh kept entries survey → SlotsKnown cmd p gate (used kept cmd p gate) (used kept cmd p gate) survey words (length (used kept cmd p gate))
 no_slot kept Fsck p gate entries survey words fresh =
     fresh.nothing ∙ ap (λ (n : ℕ). survey_slots (fed p 0 words) p gate 0 n no_survey) (sym (used_fsck_count kept p gate))
 no_slot kept cmd p gate entries survey words fresh =
@@ -138,23 +154,39 @@ found_by : (t next : Task) (w : Option Wish) (n : ℕ) (words : List ℕ) (made 
 found_by t next None n words made on = on
 found_by t next (Some w) n words made on = record { noted = refl; tied = on.tied }
 
-gate_by : (t : Task) (words : List ℕ) (n made : ℕ) (f : Option LogFault) → HasHeader t.cmd t.me t.lines t.params words → fed_gate words ≡ n → gate_fault n t.params ≡ f → length words ≡ 26 → made ≡ 31 → IsFresh t.kept t.entries t.survey → t.words ≡ [] → Outcome t (gate_turn t n f) (gate_note t.cmd words t.lines f) words made
+gate_by : (t : Task) (words : List ℕ) (n made : ℕ) (f : Option LogFault) → HasHeader t.cmd t.me t.lines t.params words → fed_gate words ≡ n
+    → gate_fault n t.params ≡ f → length words ≡ 26 → made ≡ 31 → IsFresh t.kept t.entries t.survey → t.words ≡ []
+    → Outcome t (gate_turn t n f) (gate_note t.cmd words t.lines f) words made
 gate_by t words n made (Some fault) header told is long at_made fresh held =
     ends t (log_fault_reply t.cmd fault) _ words made (ap Answer (gate_reply words t.lines t.cmd t.params fault header.head.super header.header (ap (λ (g : ℕ). gate_fault g t.params) told ∙ is)))
-    (at_made ∙ sym (log_end_steps t.cmd (shape_told t words) (first_told t words) (fed_gate words) (file_lines t.cmd (told_entries (used_told_by t words) words t.lines)) fault ∙ gate_steps n t.params fault is))
+    (at_made ∙ sym (log_end_steps t.cmd (shape_told t words) (first_told t words) (fed_gate words)
+    (file_lines t.cmd (told_entries (used_told_by t words) words t.lines)) fault ∙ gate_steps n t.params fault is))
 gate_by t words n made None header told is long at_made fresh held =
     outcome_as t _ _ _ (found_note (wish_of t.cmd) n) words made refl (ap (found_note (wish_of t.cmd)) told)
     (found_by t (gate_loaded t n) (wish_of t.cmd) n words made
     (goes_on t (gate_loaded t n) words made refl refl refl refl
-    (slot_or_decide_tie (record t { gate = n; entries = used t.kept t.cmd t.params n }) (slot_or_decide (record t { gate = n }) (length (used t.kept t.cmd t.params n))) words (length (used t.kept t.cmd t.params n)) made known (within_slots t n is) held (omega (arith, piece_none (geometry t.params).words (length (used t.kept t.cmd t.params n)))) (omega (arith, piece_none (slot_steps (geometry t.params)) (length (used t.kept t.cmd t.params n)))))))
+    (slot_or_decide_tie (record t { gate = n; entries = used t.kept t.cmd t.params n })
+    (slot_or_decide (record t { gate = n }) (length (used t.kept t.cmd t.params n))) words (length (used t.kept t.cmd t.params n)) made known
+    (within_slots t n is) held (omega (arith, piece_none (geometry t.params).words (length (used t.kept t.cmd t.params n))))
+    (omega (arith, piece_none (slot_steps (geometry t.params)) (length (used t.kept t.cmd t.params n)))))))
   where
     known : TaskSlots (record t { gate = n; entries = used t.kept t.cmd t.params n }) words (length (used t.kept t.cmd t.params n))
-    known = record { gated = record { log = header; gate_is = told; within = is; long = omega arith }; known = no_slot t.kept t.cmd t.params n t.entries t.survey words fresh; behind = omega arith; long = omega (arith, piece_none (geometry t.params).words (length (used t.kept t.cmd t.params n))) }
+    known = record {
+      gated = record { log = header; gate_is = told; within = is; long = omega arith };
+      known =
+          no_slot t.kept t.cmd t.params n t.entries t.survey words fresh;
+      behind = omega arith;
+      long =
+          omega (arith, piece_none (geometry t.params).words (length (used t.kept t.cmd t.params n)));
+    }
 
 -- the gate is loaded
-pub gate_step : (t : Task) (words : List ℕ) (word made : ℕ) → TieAt at.Gate t words made → Outcome t (gate_turn t word (gate_fault word t.params)) (gate_note t.cmd (words ++ word ∷ []) t.lines (gate_fault (fed_gate (words ++ word ∷ [])) t.params)) (words ++ word ∷ []) (made + 1)
+pub gate_step : (t : Task) (words : List ℕ) (word made : ℕ) → TieAt at.Gate t words made
+    → Outcome t (gate_turn t word (gate_fault word t.params))
+    (gate_note t.cmd (words ++ word ∷ []) t.lines (gate_fault (fed_gate (words ++ word ∷ [])) t.params)) (words ++ word ∷ []) (made + 1)
 gate_step t words word made (header, long, is, fresh, held) =
     let told : fed_gate (words ++ word ∷ []) ≡ word = gate_fed (words ++ word ∷ []) ∙ get_or_push words word 0 25 long in
     outcome_as t _ _ _ (gate_note t.cmd (words ++ word ∷ []) t.lines (gate_fault word t.params)) (words ++ word ∷ []) (made + 1) refl
     (ap (λ (g : ℕ). gate_note t.cmd (words ++ word ∷ []) t.lines (gate_fault g t.params)) told)
-    (gate_by t (words ++ word ∷ []) word (made + 1) (gate_fault word t.params) (has_header_stays t.cmd t.me t.lines t.params words (word ∷ []) header) told refl (length-append words (word ∷ []) ∙ ap (λ (n : ℕ). n + 1) long) (omega arith) fresh held)
+    (gate_by t (words ++ word ∷ []) word (made + 1) (gate_fault word t.params) (has_header_stays t.cmd t.me t.lines t.params words (word ∷ []) header)
+    told refl (length-append words (word ∷ []) ∙ ap (λ (n : ℕ). n + 1) long) (omega arith) fresh held)

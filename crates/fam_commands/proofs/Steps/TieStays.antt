@@ -40,18 +40,23 @@ has_gate_stays cmd me lines p gate words more h =
     record { log = has_header_stays cmd me lines p words more h.log; gate_is = gate_stays words more h.long ∙ h.gate_is; within = h.within; long = longer words more 26 h.long }
 
 -- nor of the entries
-pub are_read_stay : (p : Params) (used entries : List Entry) (words more : List ℕ) (i : ℕ) → words_to p (length used) i ≤ length words → AreRead p used entries words i → AreRead p used entries (words ++ more) i
+pub are_read_stay : (p : Params) (used entries : List Entry) (words more : List ℕ) (i : ℕ) → words_to p (length used) i ≤ length words
+    → AreRead p used entries words i → AreRead p used entries (words ++ more) i
 are_read_stay p used entries words more i long h =
     record { sound = slots_stay words more p used i long ∙ h.sound; count = h.count; lookups = h.lookups }
 
 -- nor of a survey
-pub known_stays : (kept : Option Kept) (cmd : Cmd) (p : Params) (gate : ℕ) (entries : List Entry) (survey : Survey) (words more : List ℕ) (i : ℕ) → words_to p (length (used kept cmd p gate)) i ≤ length words → SlotsKnown cmd p gate (used kept cmd p gate) entries survey words i → SlotsKnown cmd p gate (used kept cmd p gate) entries survey (words ++ more) i
+pub known_stays : (kept : Option Kept) (cmd : Cmd) (p : Params) (gate : ℕ) (entries : List Entry) (survey : Survey) (words more : List ℕ) (i : ℕ)
+    → words_to p (length (used kept cmd p gate)) i ≤ length words → SlotsKnown cmd p gate (used kept cmd p gate) entries survey words i
+    → SlotsKnown cmd p gate (used kept cmd p gate) entries survey (words ++ more) i
 known_stays kept Fsck p gate entries survey words more i long h =
     h ∙ sym (survey_stays words more p gate i (subst (λ (n : ℕ). words_to p n i ≤ length words) (used_fsck_count kept p gate) long))
 known_stays kept cmd p gate entries survey words more i long h = are_read_stay p (used kept cmd p gate) entries words more i long h
 
 -- nor of all of these
-pub has_slots_stay : (kept : Option Kept) (cmd : Cmd) (me : List ℕ) (lines : ℕ) (p : Params) (gate : ℕ) (entries : List Entry) (survey : Survey) (words more : List ℕ) (i : ℕ) → HasSlots kept cmd me lines p gate entries survey words i → HasSlots kept cmd me lines p gate entries survey (words ++ more) i
+pub has_slots_stay : (kept : Option Kept) (cmd : Cmd) (me : List ℕ) (lines : ℕ) (p : Params) (gate : ℕ) (entries : List Entry) (survey : Survey)
+    (words more : List ℕ) (i : ℕ) → HasSlots kept cmd me lines p gate entries survey words i
+    → HasSlots kept cmd me lines p gate entries survey (words ++ more) i
 has_slots_stay kept cmd me lines p gate entries survey words more i h =
     record {
       gated = has_gate_stays cmd me lines p gate words more h.gated;
@@ -71,7 +76,8 @@ same_stays against e words more n j long h =
     λ o prefix inside. ap (λ (b : ℕ). b == content_byte against o) (byte_stays words more n o (omega arith)) ∙ h o prefix inside
 
 -- nor of the file that is read
-pub file_stays : (cmd : Cmd) (p : Params) (f gate : ℕ) (entries : List Entry) (entry : Option Entry) (words more : List ℕ) (j : ℕ) → FileKnown cmd p f gate entries entry words j → FileKnown cmd p f gate entries entry (words ++ more) j
+pub file_stays : (cmd : Cmd) (p : Params) (f gate : ℕ) (entries : List Entry) (entry : Option Entry) (words more : List ℕ) (j : ℕ)
+    → FileKnown cmd p f gate entries entry words j → FileKnown cmd p f gate entries entry (words ++ more) j
 file_stays (Verify path against) p f gate entries entry words more j h =
     (h.0, h.1, same_stays against h.0 words more (words_to p f gate) j h.3 h.2, longer words more (words_to p f gate + 8 * j) h.3)
 file_stays (Read path offset count) p f gate entries entry words more j h = h

@@ -11,7 +11,8 @@ use Rattle.fam_commands.specs.Counts.{used_told, head_steps, slot_steps}
 use Rattle.fam_commands.specs.Table.{fed_gate, fed_super, params_or}
 use Rattle.fam_commands.proofs.Steps.Ties.{HasGate, TaskSlots, steps_to}
 
-pub used_told_is : (kept : Option Kept) (cmd : Cmd) (me : List ℕ) (lines : ℕ) (p : Params) (gate : ℕ) (words : List ℕ) → HasGate cmd me lines p gate words → used_told kept cmd words lines ≡ used kept cmd p gate
+pub used_told_is : (kept : Option Kept) (cmd : Cmd) (me : List ℕ) (lines : ℕ) (p : Params) (gate : ℕ) (words : List ℕ)
+    → HasGate cmd me lines p gate words → used_told kept cmd words lines ≡ used kept cmd p gate
 used_told_is kept cmd me lines p gate words h =
     ap (λ (q : Result Params SuperFault). used kept cmd (params_or no_params q) (fed_gate words)) h.log.head.super
     ∙ ap (used kept cmd p) h.gate_is

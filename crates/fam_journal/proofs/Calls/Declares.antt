@@ -32,7 +32,8 @@ member_before (y ∷ xs) x zero ne = refl
 member_before (y ∷ xs) x (suc k) ne = member_before xs x k (λ e. ne (ap suc e))
 
 -- two lists of which both have a member at each place, or neither has, are equally long
-pub same_length : {A B : Type 0} (xs : List A) (ys : List B) (P : Option A → Option B → Type 0) → ((a : A) → P (Some a) None → ⊥) → ((b : B) → P None (Some b) → ⊥) → ((k : ℕ) → P (slice_get xs k) (slice_get ys k)) → length xs ≡ length ys
+pub same_length : {A B : Type 0} (xs : List A) (ys : List B) (P : Option A → Option B → Type 0) → ((a : A) → P (Some a) None → ⊥)
+    → ((b : B) → P None (Some b) → ⊥) → ((k : ℕ) → P (slice_get xs k) (slice_get ys k)) → length xs ≡ length ys
 same_length [] [] P more less all = refl
 same_length [] (y ∷ ys) P more less all = absurd (less y (all 0))
 same_length (x ∷ xs) [] P more less all = absurd (more x (all 0))
@@ -52,7 +53,8 @@ none_passes test (y ∷ xs) i none (suc k) x is = none_passes test xs (i + 1) (b
     by_rest true none = absurd cc
     by_rest false none = none
 
-module _ (start : Image) (state : Machines) (world : WorldView) (held : Agrees start state world state.memory) (name uuid : List ℕ) (other : (k : ℕ) (view : HostView) → slice_get world.hosts k ≡ Some view → view.uuid ≢ uuid) where
+module _ (start : Image) (state : Machines) (world : WorldView) (held : Agrees start state world state.memory) (name uuid : List ℕ)
+    (other : (k : ℕ) (view : HostView) → slice_get world.hosts k ≡ Some view → view.uuid ≢ uuid) where
   abbrev n : ℕ
   n = length world.hosts
 
@@ -125,9 +127,11 @@ module _ (start : Image) (state : Machines) (world : WorldView) (held : Agrees s
 
   pub declared_held : Agrees start (record { memory = state.memory; hosts = state.hosts ++ new_state ∷ [] }) (record { hosts = views; journal = world.journal ++ Host name uuid ∷ [] }) state.memory
   declared_held =
-      held_with start state world state.memory held (record { memory = state.memory; hosts = state.hosts ++ new_state ∷ [] }) views (Host name uuid ∷ []) (line_at state.memory) held.lines held.normal (tt, tt) stands told held.halted
+      held_with start state world state.memory held (record { memory = state.memory; hosts = state.hosts ++ new_state ∷ [] }) views
+      (Host name uuid ∷ []) (line_at state.memory) held.lines held.normal (tt, tt) stands told held.halted
       (subst (λ (s : SharedState). Invariant (settled_of x.state (line_at state.memory)) (length start) (hosts_of views (x.hosts ++ new_host name uuid ∷ [])) s) (sym shared_same)
-      (invariant_declared (settled_of x.state (line_at state.memory)) (length start) n uuid (hosts_of world.hosts x.hosts) (hosts_of views (x.hosts ++ new_host name uuid ∷ [])) (shared_of state.memory world.hosts) held.invariant
+      (invariant_declared (settled_of x.state (line_at state.memory)) (length start) n uuid (hosts_of world.hosts x.hosts)
+      (hosts_of views (x.hosts ++ new_host name uuid ∷ [])) (shared_of state.memory world.hosts) held.invariant
       record {
         fresh = ap uuid_at view_past;
         solo = λ k. apart k (slice_get world.hosts k) refl;

@@ -57,8 +57,12 @@ state_late k s late = go (nat_lt k first_sent) refl
     go true is = absurd (grind (arith, nat_tests, late))
     go false is = refl
 
-module _ (start : Image) (state : Machines) (world : WorldView) (held : Agrees start state world state.memory) (h : ℕ) (d : Declared start state world h) (p : Params) (sound : SoundParams p) (device : p.device ≡ line_bytes * length state.memory) (mine : d.view.uuid ≡ p.master)
-    (idle : (k : ℕ) (v : HostView) → slice_get world.hosts k ≡ Some v → v.task ≡ None) (bare : (k : ℕ) (v : HostView) → slice_get world.hosts k ≡ Some v → v.kept ≡ None) (clean : (k : ℕ) (v : HostView) → k ≢ h → slice_get world.hosts k ≡ Some v → (l : ℕ) → IsDirty (cell_at v.cache l) → ⊥) (k : ℕ) where
+module _ (start : Image) (state : Machines) (world : WorldView) (held : Agrees start state world state.memory) (h : ℕ)
+    (d : Declared start state world h) (p : Params) (sound : SoundParams p) (device : p.device ≡ line_bytes * length state.memory)
+    (mine : d.view.uuid ≡ p.master)
+    (idle : (k : ℕ) (v : HostView) → slice_get world.hosts k ≡ Some v → v.task ≡ None)
+    (bare : (k : ℕ) (v : HostView) → slice_get world.hosts k ≡ Some v → v.kept ≡ None)
+    (clean : (k : ℕ) (v : HostView) → k ≢ h → slice_get world.hosts k ≡ Some v → (l : ℕ) → IsDirty (cell_at v.cache l) → ⊥) (k : ℕ) where
   abbrev x : Past
   x = past_of start world.journal
 
@@ -73,7 +77,8 @@ module _ (start : Image) (state : Machines) (world : WorldView) (held : Agrees s
 
   -- what is held then, of this memory
   abbrev HoldsOf : Image → Type 0
-  HoldsOf left = Agrees start (with_machine h (machine left finmap.empty) d.host.task state) (record { hosts = changed_at h (λ v. record v { cache = finmap.empty }) world.hosts; journal = world.journal ++ Cut h k ∷ [] }) left
+  HoldsOf left = Agrees start (with_machine h (machine left finmap.empty) d.host.task state)
+      (record { hosts = changed_at h (λ v. record v { cache = finmap.empty }) world.hosts; journal = world.journal ++ Cut h k ∷ [] }) left
 
   -- the maker has no copy any more, and the others have theirs
   lost_here : (l : ℕ) → copy_at (slice_get views h) l ≡ cell_at finmap.empty l
@@ -108,7 +113,8 @@ module _ (start : Image) (state : Machines) (world : WorldView) (held : Agrees s
   early_holds : k < first_sent → HoldsOf state.memory
   early_holds early =
       holds_with state.memory x.state (state_early k x.state early) held.lines held.normal held.halted
-      (invariant_halted (settled_of x.state (line_at state.memory)) (length start) h (hosts_of world.hosts x.hosts) (hosts_of views x.hosts) (shared_of state.memory world.hosts) (shared_of state.memory views) held.invariant stops
+      (invariant_halted (settled_of x.state (line_at state.memory)) (length start) h (hosts_of world.hosts x.hosts) (hosts_of views x.hosts)
+      (shared_of state.memory world.hosts) (shared_of state.memory views) held.invariant stops
       record { memory = λ l. refl; lost = λ l. lost_here l ∙ cell_at-empty l; hosts = λ i l ne. lost_else i l ne })
 
   -- Behind it there is no superblock.
@@ -146,7 +152,8 @@ module _ (start : Image) (state : Machines) (world : WorldView) (held : Agrees s
 
     late_holds : HoldsOf cleared
     late_holds =
-        holds_with cleared (Bad Halted (past.NoSuperblock (super.NoSuper 0)) 0) (state_late k x.state late) (count ∙ held.lines) (puts_normal puts state.memory held.normal) record { damage_is = refl; word = word }
+        holds_with cleared (Bad Halted (past.NoSuperblock (super.NoSuper 0)) 0) (state_late k x.state late) (count ∙ held.lines)
+        (puts_normal puts state.memory held.normal) record { damage_is = refl; word = word }
         (invariant_cleared h p (length start) (hosts_of views x.hosts) (shared_of state.memory world.hosts) (shared_of cleared views)
         (may start state world held h d p sound device mine idle bare clean finmap.empty) clears (are start state world held h d p sound device mine idle bare clean finmap.empty) wide)
 

@@ -17,12 +17,14 @@ use Rattle.fam_journal.proofs.Settled.OverMemory.{over_memory, still_cleared}
 use Rattle.fam_journal.proofs.Calls.Members.{changed_at_member, changed_other}
 
 -- what is held, from its parts over the past behind some more notes
-pub held_with : (start : Image) (state : Machines) (world : WorldView) (image : Image) (held : Agrees start state world image) (next : Machines) (views : List HostView) (notes : List Note) (now : Lines)
+pub held_with : (start : Image) (state : Machines) (world : WorldView) (image : Image) (held : Agrees start state world image) (next : Machines)
+    (views : List HostView) (notes : List Note) (now : Lines)
     → length next.memory ≡ length start → map eight next.memory ≡ next.memory → LegalBehind (past_of start world.journal) notes
     → ((k : ℕ) → HostStandsAt (length start) (slice_get next.hosts k) (slice_get views k))
     → ((k : ℕ) → ToldAt (slice_get views k) (slice_get (past_behind (past_of start world.journal) notes).hosts k))
     → IfHalted (past_behind (past_of start world.journal) notes).state now
-    → Invariant (settled_of (past_behind (past_of start world.journal) notes).state now) (length start) (hosts_of views (past_behind (past_of start world.journal) notes).hosts) (shared_of next.memory views)
+    → Invariant (settled_of (past_behind (past_of start world.journal) notes).state now) (length start)
+    (hosts_of views (past_behind (past_of start world.journal) notes).hosts) (shared_of next.memory views)
     → Agrees start next (record { hosts = views; journal = world.journal ++ notes }) next.memory
 held_with start state world image held next views notes now lines normal legal stands told halted invariant =
     let x : Past = past_behind (past_of start world.journal) notes in
@@ -36,7 +38,8 @@ held_with start state world image held next views notes now lines normal legal s
       stands = stands;
       told = λ k. subst (λ (z : Past). ToldAt (slice_get views k) (slice_get z.hosts k)) (sym same) (told k);
       legal = legal_both (first_past start) world.journal notes held.legal legal;
-      halted = subst (λ (z : Past). IfHalted z.state (line_at next.memory)) (sym same) (still_cleared now (length start) (hosts_of views x.hosts) (shared_of next.memory views) x.state invariant halted);
+      halted = subst (λ (z : Past). IfHalted z.state (line_at next.memory)) (sym same)
+          (still_cleared now (length start) (hosts_of views x.hosts) (shared_of next.memory views) x.state invariant halted);
       invariant = subst (λ (z : Past). Invariant (settled_of z.state (line_at next.memory)) (length start) (hosts_of views z.hosts) (shared_of next.memory views)) (sym same)
           (over_memory now (length start) (hosts_of views x.hosts) (shared_of next.memory views) x.state invariant);
     }

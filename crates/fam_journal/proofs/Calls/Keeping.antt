@@ -53,7 +53,9 @@ kept_as start journal notes told new left e f kept =
     subst (λ (z : Machines). Reached start z (journal ++ notes)) (sym f) (subst (λ (z : List Note). Reached start left (journal ++ z)) (sym e) kept)
 
 -- the UUIDs of hosts of which one changes
-pub uuids_kept : (h : ℕ) (g : HostState → HostState) → ((z : HostState) → (g z).uuid ≡ z.uuid) → (xs : List HostState) → ((k : ℕ) (host : HostState) → slice_get xs k ≡ Some host → IsUuid host.uuid) → (k : ℕ) (host : HostState) → slice_get (changed_at h g xs) k ≡ Some host → IsUuid host.uuid
+pub uuids_kept : (h : ℕ) (g : HostState → HostState) → ((z : HostState) → (g z).uuid ≡ z.uuid) → (xs : List HostState)
+    → ((k : ℕ) (host : HostState) → slice_get xs k ≡ Some host → IsUuid host.uuid) → (k : ℕ) (host : HostState)
+    → slice_get (changed_at h g xs) k ≡ Some host → IsUuid host.uuid
 uuids_kept h g keeps xs all k host is =
     elim (cases_eq k h) [
       | inl e ↦ here (slice_get xs h) refl (subst (λ (n : ℕ). slice_get (changed_at h g xs) n ≡ Some host) e is)
@@ -61,7 +63,8 @@ uuids_kept h g keeps xs all k host is =
     ]
   where
     here : (o : Option HostState) → slice_get xs h ≡ o → slice_get (changed_at h g xs) h ≡ Some host → IsUuid host.uuid
-    here None none is = absurd (let e : option_map g (slice_get xs h) ≡ None = ap (option_map g) none in let f : slice_get (changed_at h g xs) h ≡ option_map g (slice_get xs h) = Rattle.fam_journal.proofs.Calls.Members.changed_here h g xs in cc)
+    here None none is = absurd (let e : option_map g (slice_get xs h) ≡ None = ap (option_map g) none in let f : slice_get (changed_at h g xs) h
+        ≡ option_map g (slice_get xs h) = Rattle.fam_journal.proofs.Calls.Members.changed_here h g xs in cc)
     here (Some x) was is =
         subst (λ (z : HostState). IsUuid z.uuid) (same_Some (g x) host (sym (changed_at_member h g xs x was) ∙ is)) (subst IsUuid (sym (keeps x)) (all h x was))
 
@@ -91,11 +94,13 @@ cut_says : (h : ℕ) (m : Machines) (o : Option Failure) (x : Done) → cut_task
 cut_says h m None x is = absurd cc
 cut_says h m (Some failure) x is = (failure.line.0, sym (ap (λ (z : Done). z.notes) (same_Some _ x is)))
 
-op_says : (through : Breaking) (h : ℕ) (m : Machines) (host : HostState) (s : TaskState) (o : Option Op) (x : Done) → op_done (Fails through) h m host s o ≡ Some x → (at : ℕ) × (x.notes ≡ Answered h (MediaFault at) ∷ [])
+op_says : (through : Breaking) (h : ℕ) (m : Machines) (host : HostState) (s : TaskState) (o : Option Op) (x : Done)
+    → op_done (Fails through) h m host s o ≡ Some x → (at : ℕ) × (x.notes ≡ Answered h (MediaFault at) ∷ [])
 op_says through h m host s None x is = absurd cc
 op_says through h m host s (Some op) x is = cut_says h m (failed through op (machine_of m host)) x is
 
-task_says : (through : Breaking) (h : ℕ) (m : Machines) (host : HostState) (o : Option TaskState) (x : Done) → task_done (Fails through) h m host o ≡ Some x → (at : ℕ) × (x.notes ≡ Answered h (MediaFault at) ∷ [])
+task_says : (through : Breaking) (h : ℕ) (m : Machines) (host : HostState) (o : Option TaskState) (x : Done)
+    → task_done (Fails through) h m host o ≡ Some x → (at : ℕ) × (x.notes ≡ Answered h (MediaFault at) ∷ [])
 task_says through h m host None x is = absurd cc
 task_says through h m host (Some s) x is = op_says through h m host s (next_op s (length m.memory)) x is
 
@@ -137,7 +142,9 @@ module _ (start : Image) (state : Machines) (journal : List Note) (kept : Reache
     module _ (t : Task) (runs : d.view.task ≡ Some t) (s : TaskState) (s_is : d.host.task ≡ Some s) (standing : StandsAs (length start) s t) where
       inside : IsInImage (op_of t) (record { image = state.memory; cache = d.view.cache })
       inside =
-          asks_inside (settled_of (past_of start journal).state (line_at state.memory)) (length start) (hosts_of kept.views (past_of start journal).hosts) (shared_of state.memory kept.views) held.limit held.invariant.stage h (protocol_run t d.told)
+          asks_inside (settled_of (past_of start journal).state (line_at state.memory)) (length start)
+          (hosts_of kept.views (past_of start journal).hosts) (shared_of state.memory kept.views) held.limit held.invariant.stage h
+          (protocol_run t d.told)
           (ap₂ run_at d.view_is d.told_is ∙ ap (λ (o : Option Task). run_with o (Some d.told)) runs) (record { image = state.memory; cache = d.view.cache })
           record { memory = λ l. refl; copies = λ l. ap (λ (o : Option HostView). copy_at o l) d.view_is } held.lines
 
@@ -161,7 +168,9 @@ module _ (start : Image) (state : Machines) (journal : List Note) (kept : Reache
           sym (ap (λ (z : Done). z.notes) (same_Some _ x (sym row ∙ is)))
 
       -- the media failed in the operation
-      cut_kept : (o : Option Failure) (x : Done) → cut_task h state o ≡ Some x → ((failure : Failure) → o ≡ Some failure → HasBroken (op_of t) (record { image = state.memory; cache = d.view.cache }) failure) → Reached start x.left (journal ++ x.notes)
+      cut_kept : (o : Option Failure) (x : Done) → cut_task h state o ≡ Some x
+          → ((failure : Failure) → o ≡ Some failure → HasBroken (op_of t) (record { image = state.memory; cache = d.view.cache }) failure)
+          → Reached start x.left (journal ++ x.notes)
       cut_kept None x is broken = absurd cc
       cut_kept (Some failure) x is broken =
           subst (λ (z : Done). Reached start z.left (journal ++ z.notes)) (same_Some _ x is)
@@ -195,7 +204,8 @@ module _ (start : Image) (state : Machines) (journal : List Note) (kept : Reache
       pub cmd_is : d.told.cmd ≡ Some s.cmd
       pub notes_are : notes ≡ notes_of h (note_of (turn_given t word))
 
-    turned_by : (outcome : Outcome) (x : Done) → operation outcome h state ≡ Some x → (o : Option Task) → d.view.task ≡ o → Turned x.notes ⊎ ((line : ℕ) × (x.notes ≡ Answered h (MediaFault line) ∷ []))
+    turned_by : (outcome : Outcome) (x : Done) → operation outcome h state ≡ Some x → (o : Option Task) → d.view.task ≡ o
+        → Turned x.notes ⊎ ((line : ℕ) × (x.notes ≡ Answered h (MediaFault line) ∷ []))
     turned_by outcome x is None none =
         absurd (no_operation outcome x (no_task (subst (λ (o : Option Task). TaskStands (length start) d.host.task o) none d.stands.task)) is)
     turned_by Passes x is (Some t) runs =
@@ -247,7 +257,9 @@ module _ (start : Image) (state : Machines) (journal : List Note) (kept : Reache
         go false None e = refl
         go false (Some k) e = absurd cc
 
-    pub begins_kept : (cmd : Rattle.fam_base.specs.declared.cmd.Cmd.Cmd) → IsCommand cmd → begins_refusal h (is_mount cmd) state ≡ None → Reached start (with_task h (Some (Rattle.fam_journal.specs.Machines.task_begun d.host.kept cmd d.host.uuid)) state) (journal ++ Rattle.fam_journal.specs.Notes.Start h cmd ∷ [])
+    pub begins_kept : (cmd : Rattle.fam_base.specs.declared.cmd.Cmd.Cmd) → IsCommand cmd → begins_refusal h (is_mount cmd) state ≡ None
+        → Reached start (with_task h (Some (Rattle.fam_journal.specs.Machines.task_begun d.host.kept cmd d.host.uuid)) state)
+        (journal ++ Rattle.fam_journal.specs.Notes.Start h cmd ∷ [])
     begins_kept cmd command free =
         let enough : least_lines ≤ length state.memory = at_most least_lines (length state.memory) (no_when _ _ (or_first _ _ free)) in
         record { views = _; held = begun_held start state world held h d cmd command (omega (arith, enough, held.lines)); uuids = uuids_kept h _ (λ z. refl) state.hosts kept.uuids }
@@ -272,32 +284,48 @@ module _ (start : Image) (state : Machines) (journal : List Note) (kept : Reache
         }
 
     pub made_kept : (request : MkfsRequest) → IsSoundRequest request → makes_refusal request.unit request.log h state ≡ None
-        → Reached start (with_machine h (operated_all (mkfs_ops (asked request d.host.uuid (length state.memory))) (machine_of state d.host)) d.host.task state) (journal ++ Rattle.fam_journal.specs.Notes.Made h (asked request d.host.uuid (length state.memory)) ∷ [])
+        → Reached start (with_machine h (operated_all (mkfs_ops (asked request d.host.uuid (length state.memory))) (machine_of state d.host))
+        d.host.task state) (journal ++ Rattle.fam_journal.specs.Notes.Made h (asked request d.host.uuid (length state.memory)) ∷ [])
     made_kept request good free =
         let p = asked request d.host.uuid (length state.memory) in
         let may = may_make request.unit request.log h state free in
         record {
           views = _;
-          held = subst (λ (z : Machine). Agrees start (with_machine h (operated_all (mkfs_ops p) z) d.host.task state) (record { hosts = changed_at h (λ v. record v { cache = (operated_all (mkfs_ops p) z).cache }) kept.views; journal = journal ++ Rattle.fam_journal.specs.Notes.Made h p ∷ [] }) (operated_all (mkfs_ops p) z).image) (sym same_cache)
+          held = subst (λ (z : Machine). Agrees start (with_machine h (operated_all (mkfs_ops p) z) d.host.task state)
+              (record {
+                hosts = changed_at h (λ v. record v { cache = (operated_all (mkfs_ops p) z).cache }) kept.views;
+                journal =
+                    journal ++ Rattle.fam_journal.specs.Notes.Made h p ∷ [];
+              }) (operated_all (mkfs_ops p) z).image) (sym same_cache)
               (made_held start state world held h d p (makes_sound request good free) refl (sym d.stands.uuid)
               (λ k v is. let host = view_of k v is in idle_of (length start) host.0 v host.2 (not_busy host.0 (none_passes is_engaged state.hosts 0 may.busy k host.0 host.1)))
               (λ k v is. let host = view_of k v is in bare_of (length start) host.0 v host.2 (none_passes is_engaged state.hosts 0 may.busy k host.0 host.1))
-              (λ k v ne is l. let host = view_of k v is in none_dirty v.cache (ap dirty_count (sym host.2.cache) ∙ none_dirty_from h state.hosts 0 may.dirty k host.0 host.1 (λ e. ne (zero_plus k ∙ e))) l));
+              (λ k v ne is l. let host = view_of k v is in none_dirty v.cache
+              (ap dirty_count (sym host.2.cache) ∙ none_dirty_from h state.hosts 0 may.dirty k host.0 host.1 (λ e. ne (zero_plus k ∙ e))) l));
           uuids = uuids_kept h _ (λ z. refl) state.hosts kept.uuids;
         }
 
     pub halts_kept : (request : MkfsRequest) → IsSoundRequest request → makes_refusal request.unit request.log h state ≡ None → (k : ℕ)
-        → Reached start (with_machine h (machine (operated_all (halted_ops k (asked request d.host.uuid (length state.memory))) (machine_of state d.host)).image finmap.empty) d.host.task state) (journal ++ Rattle.fam_journal.specs.Notes.Cut h k ∷ [])
+        → Reached start (with_machine h
+        (machine (operated_all (halted_ops k (asked request d.host.uuid (length state.memory))) (machine_of state d.host)).image finmap.empty)
+        d.host.task state) (journal ++ Rattle.fam_journal.specs.Notes.Cut h k ∷ [])
     halts_kept request good free k =
         let p = asked request d.host.uuid (length state.memory) in
         let may = may_make request.unit request.log h state free in
         record {
           views = _;
-          held = subst (λ (z : Machine). Agrees start (with_machine h (machine (operated_all (halted_ops k p) z).image finmap.empty) d.host.task state) (record { hosts = changed_at h (λ v. record v { cache = finmap.empty }) kept.views; journal = journal ++ Rattle.fam_journal.specs.Notes.Cut h k ∷ [] }) (operated_all (halted_ops k p) z).image) (sym same_cache)
+          held = subst (λ (z : Machine). Agrees start
+              (with_machine h (machine (operated_all (halted_ops k p) z).image finmap.empty) d.host.task state)
+              (record {
+                hosts = changed_at h (λ v. record v { cache = finmap.empty }) kept.views;
+                journal =
+                    journal ++ Rattle.fam_journal.specs.Notes.Cut h k ∷ [];
+              }) (operated_all (halted_ops k p) z).image) (sym same_cache)
               (halted_holds start state world held h d p (makes_sound request good free) refl (sym d.stands.uuid)
               (λ k v is. let host = view_of k v is in idle_of (length start) host.0 v host.2 (not_busy host.0 (none_passes is_engaged state.hosts 0 may.busy k host.0 host.1)))
               (λ k v is. let host = view_of k v is in bare_of (length start) host.0 v host.2 (none_passes is_engaged state.hosts 0 may.busy k host.0 host.1))
-              (λ k v ne is l. let host = view_of k v is in none_dirty v.cache (ap dirty_count (sym host.2.cache) ∙ none_dirty_from h state.hosts 0 may.dirty k host.0 host.1 (λ e. ne (zero_plus k ∙ e))) l) k);
+              (λ k v ne is l. let host = view_of k v is in none_dirty v.cache
+              (ap dirty_count (sym host.2.cache) ∙ none_dirty_from h state.hosts 0 may.dirty k host.0 host.1 (λ e. ne (zero_plus k ∙ e))) l) k);
           uuids = uuids_kept h _ (λ z. refl) state.hosts kept.uuids;
         }
 
@@ -306,10 +334,16 @@ module _ (start : Image) (state : Machines) (journal : List Note) (kept : Reache
         let may = may_make unit log h state free in
         omega (arith, may.room, (unit_told unit (both_first (is_unit unit) (is_log_length unit log) may.shape)).least)
 
-    pub met_kept : (name : List ℕ) (cause : Refusal) → least_lines ≤ length state.memory → Reached start (with_machine h (operated_all read_ops (machine_of state d.host)) d.host.task state) (journal ++ Refused name cause ∷ [])
+    pub met_kept : (name : List ℕ) (cause : Refusal) → least_lines ≤ length state.memory
+        → Reached start (with_machine h (operated_all read_ops (machine_of state d.host)) d.host.task state) (journal ++ Refused name cause ∷ [])
     met_kept name cause enough = record {
       views = _;
-      held = subst (λ (z : Machine). Agrees start (with_machine h (operated_all read_ops z) d.host.task state) (record { hosts = changed_at h (λ v. record v { cache = (operated_all read_ops z).cache }) kept.views; journal = journal ++ Refused name cause ∷ [] }) (operated_all read_ops z).image) (sym same_cache)
+      held = subst (λ (z : Machine). Agrees start (with_machine h (operated_all read_ops z) d.host.task state)
+          (record {
+            hosts = changed_at h (λ v. record v { cache = (operated_all read_ops z).cache }) kept.views;
+            journal =
+                journal ++ Refused name cause ∷ [];
+          }) (operated_all read_ops z).image) (sym same_cache)
           (met_held start state world held h d enough name cause);
       uuids = uuids_kept h _ (λ z. refl) state.hosts kept.uuids;
     }
@@ -317,15 +351,21 @@ module _ (start : Image) (state : Machines) (journal : List Note) (kept : Reache
     pub moved_kept : (move : Move) (line : ℕ) → line < length state.memory → Reached start (with_machine h (moved move line (machine_of state d.host)) d.host.task state) journal
     moved_kept move line within = record {
       views = _;
-      held = subst (λ (z : Machine). Agrees start (with_machine h (moved move line z) d.host.task state) (record { hosts = changed_at h (λ v. record v { cache = (moved move line z).cache }) kept.views; journal = journal }) (moved move line z).image) (sym same_cache)
+      held = subst (λ (z : Machine). Agrees start (with_machine h (moved move line z) d.host.task state)
+          (record { hosts = changed_at h (λ v. record v { cache = (moved move line z).cache }) kept.views; journal = journal })
+          (moved move line z).image) (sym same_cache)
           (cache_moved start state world held h d move line within);
       uuids = uuids_kept h _ (λ z. refl) state.hosts kept.uuids;
     }
 
-    pub move_failed_kept : (move : Move) (line through : ℕ) (left : Image) (name : List ℕ) (cause : Refusal) → line < length state.memory → move_failed move line through (machine_of state d.host) ≡ Some left → Reached start (with_memory left state) (journal ++ Refused name cause ∷ [])
+    pub move_failed_kept : (move : Move) (line through : ℕ) (left : Image) (name : List ℕ) (cause : Refusal) → line < length state.memory
+        → move_failed move line through (machine_of state d.host) ≡ Some left
+        → Reached start (with_memory left state) (journal ++ Refused name cause ∷ [])
     move_failed_kept move line through left name cause within fails = record {
       views = _;
-      held = line_torn_held start state world held h d left (move_tears_line move line (record { image = state.memory; cache = d.view.cache }) through left held.normal within (ap (move_failed move line through) (sym same_cache) ∙ fails)) name cause;
+      held = line_torn_held start state world held h d left
+          (move_tears_line move line (record { image = state.memory; cache = d.view.cache }) through left held.normal within
+          (ap (move_failed move line through) (sym same_cache) ∙ fails)) name cause;
       uuids = kept.uuids;
     }
 
@@ -333,20 +373,28 @@ module _ (start : Image) (state : Machines) (journal : List Note) (kept : Reache
   refused_kept name cause = record { views = kept.views; held = refused_held start state world held name cause; uuids = kept.uuids }
 
   pub declared_kept : (name uuid : List ℕ) → IsUuid uuid → refusal_of (call.Declares name uuid) state ≡ None
-      → Reached start (record state { hosts = state.hosts ++ record { name = name; uuid = uuid; cache = finmap.empty; task = None; kept = None } ∷ [] }) (journal ++ Rattle.fam_journal.specs.Notes.Host name uuid ∷ [])
+      → Reached start (record state {
+        hosts = state.hosts ++ record { name = name; uuid = uuid; cache = finmap.empty; task = None; kept = None } ∷ [];
+      }) (journal ++ Rattle.fam_journal.specs.Notes.Host name uuid ∷ [])
   unfolding refusal_of
   declared_kept name uuid sound free =
       let none : index_of (is_same name uuid) state.hosts ≡ None = no_same _ (or_first _ _ free) in
       record {
         views = _;
         held = declared_held start state world held name uuid
-            (λ k v is same. let host = find_host (length start) v (slice_get state.hosts k) (subst (λ (o : Option HostView). HostStandsAt (length start) (slice_get state.hosts k) o) is (held.stands k)) in
+            (λ k v is same. let host = find_host (length start) v (slice_get state.hosts k)
+            (subst (λ (o : Option HostView). HostStandsAt (length start) (slice_get state.hosts k) o) is (held.stands k)) in
             other_uuid name uuid host.0 (none_passes (is_same name uuid) state.hosts 0 none k host.0 host.1) (host.2.uuid ∙ same));
         uuids = λ k host is. by_phase k host is (cases_eq k (length state.hosts));
       }
     where
-      by_phase : (k : ℕ) (host : HostState) → slice_get (state.hosts ++ record { name = name; uuid = uuid; cache = finmap.empty; task = None; kept = None } ∷ []) k ≡ Some host → (k ≡ length state.hosts) ⊎ (k ≢ length state.hosts) → IsUuid host.uuid
+      by_phase : (k : ℕ) (host : HostState)
+          → slice_get (state.hosts ++ record { name = name; uuid = uuid; cache = finmap.empty; task = None; kept = None } ∷ []) k ≡ Some host
+          → (k ≡ length state.hosts) ⊎ (k ≢ length state.hosts) → IsUuid host.uuid
       by_phase k host is (inl e) =
           subst (λ (z : HostState). IsUuid z.uuid)
-          (same_Some _ host (sym (subst (λ (n : ℕ). slice_get (state.hosts ++ record { name = name; uuid = uuid; cache = finmap.empty; task = None; kept = None } ∷ []) n ≡ Some (record { name = name; uuid = uuid; cache = finmap.empty; task = None; kept = None })) (sym e) (member_last state.hosts (record { name = name; uuid = uuid; cache = finmap.empty; task = None; kept = None }))) ∙ is)) sound
+          (same_Some _ host (sym (subst (λ (n : ℕ).
+          slice_get (state.hosts ++ record { name = name; uuid = uuid; cache = finmap.empty; task = None; kept = None } ∷ []) n
+          ≡ Some (record { name = name; uuid = uuid; cache = finmap.empty; task = None; kept = None })) (sym e)
+          (member_last state.hosts (record { name = name; uuid = uuid; cache = finmap.empty; task = None; kept = None }))) ∙ is)) sound
       by_phase k host is (inr ne) = kept.uuids k host (sym (member_before state.hosts (record { name = name; uuid = uuid; cache = finmap.empty; task = None; kept = None }) k ne) ∙ is)

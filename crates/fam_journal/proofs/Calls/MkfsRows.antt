@@ -61,7 +61,10 @@ module _ (start : Image) (state : Machines) (world : WorldView) (held : Agrees s
 
   -- A file system is made.
 
-  module _ (p : Params) (sound : SoundParams p) (device : p.device ≡ line_bytes * length state.memory) (mine : d.view.uuid ≡ p.master) (idle : (k : ℕ) (v : HostView) → slice_get world.hosts k ≡ Some v → v.task ≡ None) (bare : (k : ℕ) (v : HostView) → slice_get world.hosts k ≡ Some v → v.kept ≡ None) (clean : (k : ℕ) (v : HostView) → k ≢ h → slice_get world.hosts k ≡ Some v → (l : ℕ) → IsDirty (cell_at v.cache l) → ⊥) where
+  module _ (p : Params) (sound : SoundParams p) (device : p.device ≡ line_bytes * length state.memory) (mine : d.view.uuid ≡ p.master)
+      (idle : (k : ℕ) (v : HostView) → slice_get world.hosts k ≡ Some v → v.task ≡ None)
+      (bare : (k : ℕ) (v : HostView) → slice_get world.hosts k ≡ Some v → v.kept ≡ None)
+      (clean : (k : ℕ) (v : HostView) → k ≢ h → slice_get world.hosts k ≡ Some v → (l : ℕ) → IsDirty (cell_at v.cache l) → ⊥) where
     -- Whatever the maker's cache is then, its hosts are as before.
     module _ (now : Cache) where
       abbrev pub recached : HostView → HostView
@@ -101,7 +104,8 @@ module _ (start : Image) (state : Machines) (world : WorldView) (held : Agrees s
 
       pub are : AreHosts (hosts_of changed x.hosts) (shared_of state.memory world.hosts)
       are = record {
-        apart = λ a b id is_a is_b. held.invariant.declared.apart a b id (sym (uuids_same h d.view world.hosts d.view_is recached refl a) ∙ is_a) (sym (uuids_same h d.view world.hosts d.view_is recached refl b) ∙ is_b);
+        apart = λ a b id is_a is_b. held.invariant.declared.apart a b id (sym (uuids_same h d.view world.hosts d.view_is recached refl a) ∙ is_a)
+            (sym (uuids_same h d.view world.hosts d.view_is recached refl b) ∙ is_b);
         absent = λ k l none. held.invariant.declared.absent k l (sym (uuids_same h d.view world.hosts d.view_is recached refl k) ∙ none);
         idle = λ k none. run_same k;
         bare = λ k none. keep_none k;
@@ -190,9 +194,11 @@ module _ (start : Image) (state : Machines) (world : WorldView) (held : Agrees s
         (invariant_formatted h p (length start) (hosts_of views x.hosts) (shared_of state.memory world.hosts) (shared_of left.image views) (may left.cache) formats (are left.cache) wide)
 
     -- the same, by the operations
-    pub made_held : Agrees start (with_machine h done d.host.task state) (record { hosts = changed_at h (λ v. record v { cache = done.cache }) world.hosts; journal = world.journal ++ Made h p ∷ [] }) done.image
+    pub made_held : Agrees start (with_machine h done d.host.task state)
+        (record { hosts = changed_at h (λ v. record v { cache = done.cache }) world.hosts; journal = world.journal ++ Made h p ∷ [] }) done.image
     made_held =
-        subst (λ (z : Machine). Agrees start (with_machine h z d.host.task state) (record { hosts = changed_at h (λ v. record v { cache = z.cache }) world.hosts; journal = world.journal ++ Made h p ∷ [] }) z.image)
+        subst (λ (z : Machine). Agrees start (with_machine h z d.host.task state)
+        (record { hosts = changed_at h (λ v. record v { cache = z.cache }) world.hosts; journal = world.journal ++ Made h p ∷ [] }) z.image)
         (sym (all_left p m whole)) formatted_held
 
 -- A superblock stands in the way: three lines were read.
@@ -209,7 +215,8 @@ changed_twice i f g [] = refl
 changed_twice zero f g (x ∷ xs) = refl
 changed_twice (suc i) f g (x ∷ xs) = ap (λ ys. x ∷ ys) (changed_twice i f g xs)
 
-module _ (start : Image) (state : Machines) (world : WorldView) (held : Agrees start state world state.memory) (h : ℕ) (d : Declared start state world h) (line : ℕ) (within : line < length state.memory) where
+module _ (start : Image) (state : Machines) (world : WorldView) (held : Agrees start state world state.memory) (h : ℕ)
+    (d : Declared start state world h) (line : ℕ) (within : line < length state.memory) where
   abbrev before : Machine
   before = record { image = state.memory; cache = d.view.cache }
 
@@ -225,7 +232,9 @@ module _ (start : Image) (state : Machines) (world : WorldView) (held : Agrees s
   line_now = line_at-with_line state.memory line sent_words within ∙ eight_whole sent_words words_wide
 
   -- a line is dropped and loaded
-  pub loaded_held : Agrees start (with_machine h (operated_all (load_ops line 8) before) d.host.task state) (record { hosts = changed_at h (λ v. record v { cache = (operated_all (load_ops line 8) before).cache }) world.hosts; journal = world.journal }) (operated_all (load_ops line 8) before).image
+  pub loaded_held : Agrees start (with_machine h (operated_all (load_ops line 8) before) d.host.task state)
+      (record { hosts = changed_at h (λ v. record v { cache = (operated_all (load_ops line 8) before).cache }) world.hosts; journal = world.journal })
+      (operated_all (load_ops line 8) before).image
   loaded_held =
       subst (λ (z : Machine). Agrees start (with_machine h z d.host.task state) (record { hosts = changed_at h (λ v. record v { cache = z.cache }) world.hosts; journal = world.journal }) z.image)
       (sym (line_loaded line before ∙ ap (λ (w : List ℕ). record { image = with_line line sent_words state.memory; cache = with_cell line (Clean w) d.view.cache }) line_now))
@@ -246,30 +255,54 @@ module _ (start : Image) (state : Machines) (world : WorldView) (h : ℕ) (d : D
   }
 
   -- two changes of one cache are the last one
-  one_change : (a b : Machine) → Agrees start (with_machine h b d.host.task (with_machine h a d.host.task state)) (record { hosts = changed_at h (λ v. record v { cache = b.cache }) (changed_at h (λ v. record v { cache = a.cache }) world.hosts); journal = world.journal }) b.image
+  one_change : (a b : Machine) → Agrees start (with_machine h b d.host.task (with_machine h a d.host.task state))
+      (record {
+        hosts = changed_at h (λ v. record v { cache = b.cache }) (changed_at h (λ v. record v { cache = a.cache }) world.hosts);
+        journal =
+            world.journal;
+      }) b.image
       → Agrees start (with_machine h b d.host.task state) (record { hosts = changed_at h (λ v. record v { cache = b.cache }) world.hosts; journal = world.journal }) b.image
   one_change a b held =
-      subst (λ (hosts : List HostState). Agrees start (record { memory = b.image; hosts = hosts }) (record { hosts = changed_at h (λ v. record v { cache = b.cache }) world.hosts; journal = world.journal }) b.image)
+      subst (λ (hosts : List HostState). Agrees start (record { memory = b.image; hosts = hosts })
+      (record { hosts = changed_at h (λ v. record v { cache = b.cache }) world.hosts; journal = world.journal }) b.image)
       (changed_twice h (λ (s : HostState). record s { cache = b.cache; task = d.host.task }) (λ (s : HostState). record s { cache = a.cache; task = d.host.task }) state.hosts)
       (subst (λ (hosts : List HostView). Agrees start (with_machine h b d.host.task (with_machine h a d.host.task state)) (record { hosts = hosts; journal = world.journal }) b.image)
       (changed_twice h (λ (v : HostView). record v { cache = b.cache }) (λ (v : HostView). record v { cache = a.cache }) world.hosts) held)
 
-module _ (start : Image) (state : Machines) (world : WorldView) (held : Agrees start state world state.memory) (h : ℕ) (d : Declared start state world h) (enough : least_lines ≤ length state.memory) where
+module _ (start : Image) (state : Machines) (world : WorldView) (held : Agrees start state world state.memory) (h : ℕ)
+    (d : Declared start state world h) (enough : least_lines ≤ length state.memory) where
   abbrev first_m : Machine
   first_m = record { image = state.memory; cache = d.view.cache }
 
   -- lines 0, 1 and 2 are read
-  pub read_held : Agrees start (with_machine h (operated_all read_ops first_m) d.host.task state) (record { hosts = changed_at h (λ v. record v { cache = (operated_all read_ops first_m).cache }) world.hosts; journal = world.journal }) (operated_all read_ops first_m).image
+  pub read_held : Agrees start (with_machine h (operated_all read_ops first_m) d.host.task state)
+      (record { hosts = changed_at h (λ v. record v { cache = (operated_all read_ops first_m).cache }) world.hosts; journal = world.journal })
+      (operated_all read_ops first_m).image
   unfolding moved_declared
   read_held =
       let a = operated_all (load_ops 0 8) first_m in
       let b = operated_all (load_ops 1 8) a in
       let c = operated_all (load_ops 2 8) b in
       let held_a = loaded_held start state world held h d 0 (omega (arith, enough)) in
-      let held_b = one_change start state world h d a b (loaded_held start (with_machine h a d.host.task state) (record { hosts = changed_at h (λ v. record v { cache = a.cache }) world.hosts; journal = world.journal }) held_a h (moved_declared start state world h d a) 1 (omega (arith, enough, held.lines, held_a.lines))) in
-      let held_c = one_change start state world h d b c (loaded_held start (with_machine h b d.host.task state) (record { hosts = changed_at h (λ v. record v { cache = b.cache }) world.hosts; journal = world.journal }) held_b h (moved_declared start state world h d b) 2 (omega (arith, enough, held.lines, held_b.lines))) in
-      subst (λ (z : Machine). Agrees start (with_machine h z d.host.task state) (record { hosts = changed_at h (λ v. record v { cache = z.cache }) world.hosts; journal = world.journal }) z.image) (sym (read_in_turn first_m)) held_c
+      let held_b = one_change start state world h d a b
+      (loaded_held start (with_machine h a d.host.task state)
+      (record { hosts = changed_at h (λ v. record v { cache = a.cache }) world.hosts; journal = world.journal }) held_a h
+      (moved_declared start state world h d a) 1 (omega (arith, enough, held.lines, held_a.lines))) in
+      let held_c = one_change start state world h d b c
+      (loaded_held start (with_machine h b d.host.task state)
+      (record { hosts = changed_at h (λ v. record v { cache = b.cache }) world.hosts; journal = world.journal }) held_b h
+      (moved_declared start state world h d b) 2 (omega (arith, enough, held.lines, held_b.lines))) in
+      subst (λ (z : Machine). Agrees start (with_machine h z d.host.task state)
+      (record { hosts = changed_at h (λ v. record v { cache = z.cache }) world.hosts; journal = world.journal }) z.image)
+      (sym (read_in_turn first_m)) held_c
 
   -- and a superblock stands there
-  pub met_held : (name : List ℕ) (cause : Refusal) → Agrees start (with_machine h (operated_all read_ops first_m) d.host.task state) (record { hosts = changed_at h (λ v. record v { cache = (operated_all read_ops first_m).cache }) world.hosts; journal = world.journal ++ Refused name cause ∷ [] }) (operated_all read_ops first_m).image
-  met_held name cause = refused_held start (with_machine h (operated_all read_ops first_m) d.host.task state) (record { hosts = changed_at h (λ v. record v { cache = (operated_all read_ops first_m).cache }) world.hosts; journal = world.journal }) read_held name cause
+  pub met_held : (name : List ℕ) (cause : Refusal) → Agrees start (with_machine h (operated_all read_ops first_m) d.host.task state)
+      (record {
+        hosts = changed_at h (λ v. record v { cache = (operated_all read_ops first_m).cache }) world.hosts;
+        journal = world.journal
+            ++ Refused name cause ∷ [];
+      }) (operated_all read_ops first_m).image
+  met_held name cause = refused_held start (with_machine h (operated_all read_ops first_m) d.host.task state)
+      (record { hosts = changed_at h (λ v. record v { cache = (operated_all read_ops first_m).cache }) world.hosts; journal = world.journal })
+      read_held name cause

@@ -23,7 +23,9 @@ use Rattle.fam_journal.proofs.Calls.Shown.{number_shown}
 use Rattle.fam_journal.proofs.Calls.Stepped.{find_host, find_task}
 use Rattle.fam_journal.proofs.Calls.TaskRows.{kept_joined, row_served, task_stands}
 
-module _ (state : Machines) (world : WorldView) (stands : WorldStands (length state.memory) state world) (name : List ℕ) (h : ℕ) (number : number_in name world ≡ Some h) (view : HostView) (view_is : slice_get world.hosts h ≡ Some view) (t : Task) (runs : view.task ≡ Some t) where
+module _ (state : Machines) (world : WorldView) (stands : WorldStands (length state.memory) state world) (name : List ℕ) (h : ℕ)
+    (number : number_in name world ≡ Some h) (view : HostView) (view_is : slice_get world.hosts h ≡ Some view) (t : Task)
+    (runs : view.task ≡ Some t) where
   abbrev lines : ℕ
   lines = length state.memory
 
@@ -62,7 +64,8 @@ module _ (state : Machines) (world : WorldView) (stands : WorldStands (length st
     acts : Acts (call.Steps name) state notes left
     acts =
         subst (λ (o : Option ℕ). AtNumber o state (λ h host. ActsAt (call.Steps name) h host state notes left)) (sym number_is)
-        (subst (λ (o : Option HostState). OnHost o (λ host. ActsAt (call.Steps name) h host state notes left)) (sym host_is) record { outcome = Passes; is = row_served state h host host_is s s_is lines refl t standing m machine_is turn refl })
+        (subst (λ (o : Option HostState). OnHost o (λ host. ActsAt (call.Steps name) h host state notes left))
+        (sym host_is) record { outcome = Passes; is = row_served state h host host_is s s_is lines refl t standing m machine_is turn refl })
 
     joined : IsKept (kept_after turn t view.kept)
     joined =
@@ -74,8 +77,24 @@ module _ (state : Machines) (world : WorldView) (stands : WorldStands (length st
       left = left;
       row = subst (λ (o : Option Refusal). ByRefusal name o notes state left (Acts (call.Steps name) state notes left)) (sym free) acts;
       memory = refl;
-      stands = stands_changed h view world.hosts view_is (λ v. record v { cache = after.cache; task = task_after turn; kept = kept_after turn t v.kept }) lines state.hosts host host_is (λ z. record z { cache = after.cache; task = machine.task_behind (note_of turn) (task_on s (given (op_of t) m)); kept = kept_after turn t host.kept })
-          record { name = mine.name; uuid = mine.uuid; cache = refl; task = task_stands state h host host_is s s_is lines refl t standing m machine_is turn refl; kept = ap (kept_after turn t) mine.kept; joined = joined } stands;
+      stands = stands_changed h view world.hosts view_is
+          (λ v. record v { cache = after.cache; task = task_after turn; kept = kept_after turn t v.kept }) lines state.hosts host host_is
+          (λ z. record z {
+            cache = after.cache;
+            task = machine.task_behind (note_of turn) (task_on s (given (op_of t) m));
+            kept =
+                kept_after turn t host.kept;
+          })
+          record {
+            name = mine.name;
+            uuid = mine.uuid;
+            cache = refl;
+            task =
+                task_stands state h host host_is s s_is lines refl t standing m machine_is turn refl;
+            kept = ap (kept_after turn t) mine.kept;
+            joined =
+                joined;
+          } stands;
     }
 
   pub own_step : IsStepped name h view t state world

@@ -54,10 +54,12 @@ pub record Declared (start : Image) (state : Machines) (world : WorldView) (h : 
   pub told_is : slice_get (past_of start world.journal).hosts h ≡ Some told
   pub host_told : HostTold view told
 
-pub declared : (start : Image) (state : Machines) (world : WorldView) (image : Image) → Agrees start state world image → (h : ℕ) (host : HostState) → slice_get state.hosts h ≡ Some host → Declared start state world h
+pub declared : (start : Image) (state : Machines) (world : WorldView) (image : Image) → Agrees start state world image → (h : ℕ) (host : HostState)
+    → slice_get state.hosts h ≡ Some host → Declared start state world h
 declared start state world image held h host host_is = by_view (slice_get world.hosts h) refl
   where
-    by_told : (view : HostView) → slice_get world.hosts h ≡ Some view → HostStands (length start) host view → (o : Option HostPast) → slice_get (past_of start world.journal).hosts h ≡ o → Declared start state world h
+    by_told : (view : HostView) → slice_get world.hosts h ≡ Some view → HostStands (length start) host view → (o : Option HostPast)
+        → slice_get (past_of start world.journal).hosts h ≡ o → Declared start state world h
     by_told view view_is stands None told_is =
         absurd (subst (λ (o : Option HostPast). ToldAt (Some view) o) told_is (subst (λ (o : Option HostView). ToldAt o (slice_get (past_of start world.journal).hosts h)) view_is (held.told h)))
     by_told view view_is stands (Some told) told_is = record {
@@ -73,10 +75,12 @@ declared start state world image held h host host_is = by_view (slice_get world.
 
     by_view : (o : Option HostView) → slice_get world.hosts h ≡ o → Declared start state world h
     by_view None is =
-        absurd (subst (λ (o : Option HostView). HostStandsAt (length start) (Some host) o) is (subst (λ (o : Option HostState). HostStandsAt (length start) o (slice_get world.hosts h)) host_is (held.stands h)))
+        absurd (subst (λ (o : Option HostView). HostStandsAt (length start) (Some host) o) is
+        (subst (λ (o : Option HostState). HostStandsAt (length start) o (slice_get world.hosts h)) host_is (held.stands h)))
     by_view (Some view) is =
         by_told view is
-        (subst (λ (o : Option HostView). HostStandsAt (length start) (Some host) o) is (subst (λ (o : Option HostState). HostStandsAt (length start) o (slice_get world.hosts h)) host_is (held.stands h)))
+        (subst (λ (o : Option HostView). HostStandsAt (length start) (Some host) o) is
+        (subst (λ (o : Option HostState). HostStandsAt (length start) o (slice_get world.hosts h)) host_is (held.stands h)))
         (slice_get (past_of start world.journal).hosts h) refl
 
 module _ (start : Image) (state : Machines) (world : WorldView) (held : Agrees start state world state.memory) (h : ℕ) (d : Declared start state world h) where
@@ -87,7 +91,8 @@ module _ (start : Image) (state : Machines) (world : WorldView) (held : Agrees s
   settled = settled_of x.state (line_at state.memory)
 
   -- where a change of the host keeps its cache, the protocol sees the same
-  cache_kept : (change : HostView → HostView) → ((l : ℕ) → copy_at (Some (change d.view)) l ≡ copy_at (Some d.view) l) → (image : Image) → shared_of image (changed_at h change world.hosts) ≡ shared_of image world.hosts
+  cache_kept : (change : HostView → HostView) → ((l : ℕ) → copy_at (Some (change d.view)) l ≡ copy_at (Some d.view) l) → (image : Image)
+      → shared_of image (changed_at h change world.hosts) ≡ shared_of image world.hosts
   cache_kept change keeps image = ap (λ (copy : ℕ → ℕ → Cell). record { memory = line_at image; copy = copy }) (fun_ext (λ k. fun_ext (λ l. copies k l)))
     where
       copies : (k l : ℕ) → copy_at (slice_get (changed_at h change world.hosts) k) l ≡ copy_at (slice_get world.hosts k) l
@@ -120,16 +125,20 @@ module _ (start : Image) (state : Machines) (world : WorldView) (held : Agrees s
     begun_shared : shared_of state.memory (changed_at h begins world.hosts) ≡ shared_of state.memory world.hosts
     begun_shared = cache_kept begins (λ l. refl) state.memory
 
-    pub begun_held : Agrees start (with_task h (Some (task_begun d.host.kept cmd d.host.uuid)) state) (record { hosts = changed_at h begins world.hosts; journal = world.journal ++ Start h cmd ∷ [] }) state.memory
+    pub begun_held : Agrees start (with_task h (Some (task_begun d.host.kept cmd d.host.uuid)) state)
+        (record { hosts = changed_at h begins world.hosts; journal = world.journal ++ Start h cmd ∷ [] }) state.memory
     begun_held =
-        held_with start state world state.memory held (with_task h (Some (task_begun d.host.kept cmd d.host.uuid)) state) (changed_at h begins world.hosts) (Start h cmd ∷ []) (line_at state.memory) held.lines held.normal (tt, tt)
+        held_with start state world state.memory held (with_task h (Some (task_begun d.host.kept cmd d.host.uuid)) state)
+        (changed_at h begins world.hosts) (Start h cmd ∷ []) (line_at state.memory) held.lines held.normal (tt, tt)
         (stands_changed h d.view world.hosts d.view_is begins (length start) state.hosts d.host d.host_is (λ z. record z { task = Some (task_begun d.host.kept cmd d.host.uuid) })
         record {
           name = d.stands.name;
           uuid = d.stands.uuid;
           cache = d.stands.cache;
           task = subst (λ (k : Option Kept). TaskStands (length start) (Some (task_begun k cmd d.host.uuid)) (Some (mounted d.view.kept cmd d.view.uuid (length start)))) (sym d.stands.kept)
-              (subst (λ (id : List ℕ). TaskStands (length start) (Some (task_begun d.view.kept cmd id)) (Some (mounted d.view.kept cmd d.view.uuid (length start)))) (sym d.stands.uuid) record { joined = d.stands.joined; stands = standing.starts });
+              (subst (λ (id : List ℕ). TaskStands (length start) (Some (task_begun d.view.kept cmd id))
+              (Some (mounted d.view.kept cmd d.view.uuid (length start))))
+              (sym d.stands.uuid) record { joined = d.stands.joined; stands = standing.starts });
           kept = d.stands.kept;
           joined = d.stands.joined;
         } held.stands)
@@ -179,7 +188,8 @@ module _ (start : Image) (state : Machines) (world : WorldView) (held : Agrees s
 
   pub stopped_held : Agrees start (with_task h None state) (record { hosts = changed_at h drops world.hosts; journal = world.journal ++ Stop h ∷ [] }) state.memory
   stopped_held =
-      held_with start state world state.memory held (with_task h None state) (changed_at h drops world.hosts) (Stop h ∷ []) (line_at state.memory) held.lines held.normal (tt, tt) drops_stands drops_told held.halted
+      held_with start state world state.memory held (with_task h None state) (changed_at h drops world.hosts) (Stop h ∷ [])
+      (line_at state.memory) held.lines held.normal (tt, tt) drops_stands drops_told held.halted
       (subst (λ (s : SharedState). Invariant settled (length start) (hosts_of (changed_at h drops world.hosts) x.hosts) s) (sym (dropped_shared state.memory))
       (invariant_stopped settled (length start) h (hosts_of world.hosts x.hosts) (hosts_of (changed_at h drops world.hosts) x.hosts) (shared_of state.memory world.hosts) held.invariant drops_stops))
 
@@ -188,15 +198,18 @@ module _ (start : Image) (state : Machines) (world : WorldView) (held : Agrees s
   abbrev halts : HostView → HostView
   halts v = record v { cache = finmap.empty; task = None; kept = None }
 
-  pub halted_held : Agrees start (with_parts h (record { image = state.memory; cache = finmap.empty }) None None state) (record { hosts = changed_at h halts world.hosts; journal = world.journal ++ Halt h ∷ [] }) state.memory
+  pub halted_held : Agrees start (with_parts h (record { image = state.memory; cache = finmap.empty }) None None state)
+      (record { hosts = changed_at h halts world.hosts; journal = world.journal ++ Halt h ∷ [] }) state.memory
   halted_held =
-      held_with start state world state.memory held (with_parts h (record { image = state.memory; cache = finmap.empty }) None None state) (changed_at h halts world.hosts) (Halt h ∷ []) (line_at state.memory) held.lines held.normal (tt, tt)
+      held_with start state world state.memory held (with_parts h (record { image = state.memory; cache = finmap.empty }) None None state)
+      (changed_at h halts world.hosts) (Halt h ∷ []) (line_at state.memory) held.lines held.normal (tt, tt)
       (stands_changed h d.view world.hosts d.view_is halts (length start) state.hosts d.host d.host_is (λ z. record z { cache = finmap.empty; task = None; kept = None })
       record { name = d.stands.name; uuid = d.stands.uuid; cache = refl; task = tt; kept = refl; joined = tt } held.stands)
       (told_changed h d.view world.hosts d.view_is halts x.hosts x.hosts d.told d.told_is (λ k ne. refl)
       record { name = d.host_told.name; uuid = d.host_told.uuid; task = tt } held.told)
       held.halted
-      (invariant_halted settled (length start) h (hosts_of world.hosts x.hosts) (hosts_of (changed_at h halts world.hosts) x.hosts) (shared_of state.memory world.hosts) (shared_of state.memory (changed_at h halts world.hosts)) held.invariant
+      (invariant_halted settled (length start) h (hosts_of world.hosts x.hosts) (hosts_of (changed_at h halts world.hosts) x.hosts)
+      (shared_of state.memory world.hosts) (shared_of state.memory (changed_at h halts world.hosts)) held.invariant
       record {
         is = run_here h d.view world.hosts d.view_is halts x.hosts d.told d.told_is;
         uuids = uuids_same h d.view world.hosts d.view_is halts refl;
@@ -234,11 +247,13 @@ module _ (start : Image) (state : Machines) (world : WorldView) (held : Agrees s
         record { name = d.host_told.name; uuid = d.host_told.uuid; task = d.host_told.task } held.told)
         held.halted
         (subst (λ (s : SharedState). Invariant settled (length start) (hosts_of (changed_at h forgets world.hosts) x.hosts) s) (sym (cache_kept forgets (λ l. refl) state.memory))
-        (invariant_stopped settled (length start) h (hosts_of world.hosts x.hosts) (hosts_of (changed_at h forgets world.hosts) x.hosts) (shared_of state.memory world.hosts) held.invariant forgets_stops))
+        (invariant_stopped settled (length start) h (hosts_of world.hosts x.hosts) (hosts_of (changed_at h forgets world.hosts) x.hosts)
+        (shared_of state.memory world.hosts) held.invariant forgets_stops))
 
   -- A cache moves by itself at a line: memory has these words of it then, and the host this copy.
 
-  module _ (line : ℕ) (within : line < length state.memory) (words : List ℕ) (cell : Cell) (transfers : Transfers (line_at state.memory line) (cell_at d.view.cache line) words cell) (wide : length words ≡ 8) where
+  module _ (line : ℕ) (within : line < length state.memory) (words : List ℕ) (cell : Cell)
+      (transfers : Transfers (line_at state.memory line) (cell_at d.view.cache line) words cell) (wide : length words ≡ 8) where
     abbrev moves : HostView → HostView
     moves v = record v { cache = with_cell line cell d.view.cache }
 
@@ -253,15 +268,20 @@ module _ (start : Image) (state : Machines) (world : WorldView) (held : Agrees s
     -- the same tasks
     moved_runs : hosts_of (changed_at h moves world.hosts) x.hosts ≡ hosts_of world.hosts x.hosts
     moved_runs =
-        ap₂ (λ (u : ℕ → Option (List ℕ)) (r : ℕ → Option Run). record { uuid = u; run = r; kept = λ k. kept_at (slice_get (changed_at h moves world.hosts) k) }) (fun_ext (uuids_same h d.view world.hosts d.view_is moves refl)) (fun_ext same)
-        ∙ ap (λ (keeps : ℕ → Option Kept). record { uuid = λ k. uuid_at (slice_get world.hosts k); run = λ k. run_at (slice_get world.hosts k) (slice_get x.hosts k); kept = keeps }) (fun_ext (kept_same h d.view world.hosts d.view_is moves refl))
+        ap₂ (λ (u : ℕ → Option (List ℕ)) (r : ℕ → Option Run).
+        record { uuid = u; run = r; kept = λ k. kept_at (slice_get (changed_at h moves world.hosts) k) })
+        (fun_ext (uuids_same h d.view world.hosts d.view_is moves refl)) (fun_ext same)
+        ∙ ap (λ (keeps : ℕ → Option Kept).
+        record { uuid = λ k. uuid_at (slice_get world.hosts k); run = λ k. run_at (slice_get world.hosts k) (slice_get x.hosts k); kept = keeps })
+        (fun_ext (kept_same h d.view world.hosts d.view_is moves refl))
       where
         same : (k : ℕ) → run_at (slice_get (changed_at h moves world.hosts) k) (slice_get x.hosts k) ≡ run_at (slice_get world.hosts k) (slice_get x.hosts k)
         same k =
             elim (cases_eq k h) [
               | inl e ↦
                   subst (λ (n : ℕ). run_at (slice_get (changed_at h moves world.hosts) n) (slice_get x.hosts n) ≡ run_at (slice_get world.hosts n) (slice_get x.hosts n)) (sym e)
-                  (ap (λ (o : Option HostView). run_at o (slice_get x.hosts h)) (changed_at_member h moves world.hosts d.view d.view_is) ∙ ap (λ (o : Option HostView). run_at o (slice_get x.hosts h)) (sym d.view_is))
+                  (ap (λ (o : Option HostView). run_at o (slice_get x.hosts h)) (changed_at_member h moves world.hosts d.view d.view_is)
+                  ∙ ap (λ (o : Option HostView). run_at o (slice_get x.hosts h)) (sym d.view_is))
               | inr ne ↦ ap (λ (o : Option HostView). run_at o (slice_get x.hosts k)) (changed_other h k moves world.hosts ne)
             ]
 
@@ -272,7 +292,8 @@ module _ (start : Image) (state : Machines) (world : WorldView) (held : Agrees s
         (λ none. absurd (let is : uuid_at (slice_get world.hosts h) ≡ Some d.view.uuid = ap uuid_at d.view_is in cc)) settled held.invariant)
 
     -- no note is added
-    pub moved_held : Agrees start (with_machine h (record { image = left; cache = with_cell line cell d.view.cache }) d.host.task state) (record { hosts = changed_at h moves world.hosts; journal = world.journal }) left
+    pub moved_held : Agrees start (with_machine h (record { image = left; cache = with_cell line cell d.view.cache }) d.host.task state)
+        (record { hosts = changed_at h moves world.hosts; journal = world.journal }) left
     moved_held = record {
       memory = refl;
       lines = length-with_line state.memory line words ∙ held.lines;
@@ -284,6 +305,7 @@ module _ (start : Image) (state : Machines) (world : WorldView) (held : Agrees s
       told = told_changed h d.view world.hosts d.view_is moves x.hosts x.hosts d.told d.told_is (λ k ne. refl)
           record { name = d.host_told.name; uuid = d.host_told.uuid; task = d.host_told.task } held.told;
       legal = held.legal;
-      halted = still_cleared (line_at state.memory) (length start) (hosts_of (changed_at h moves world.hosts) x.hosts) (shared_of left (changed_at h moves world.hosts)) x.state moved_invariant held.halted;
+      halted = still_cleared (line_at state.memory) (length start) (hosts_of (changed_at h moves world.hosts) x.hosts)
+          (shared_of left (changed_at h moves world.hosts)) x.state moved_invariant held.halted;
       invariant = over_memory (line_at state.memory) (length start) (hosts_of (changed_at h moves world.hosts) x.hosts) (shared_of left (changed_at h moves world.hosts)) x.state moved_invariant;
     }

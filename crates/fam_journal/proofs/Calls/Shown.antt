@@ -34,7 +34,8 @@ module _ (lines : ℕ) where
 
   pub refusal_shown : (state : Machines) (world : WorldView) (c : Call) → WorldStands lines state world → refusal_of c state ≡ refusal_in c world (length state.memory)
   refusal_shown state world c stands =
-      refusal_same state (shown_state world (length state.memory)) (all_shown face face_shown state.hosts world.hosts stands) (sym (length-replicate (length state.memory) [])) (all_shown dirt dirt_shown state.hosts world.hosts stands) c
+      refusal_same state (shown_state world (length state.memory)) (all_shown face face_shown state.hosts world.hosts stands)
+      (sym (length-replicate (length state.memory) [])) (all_shown dirt dirt_shown state.hosts world.hosts stands) c
 
   pub number_shown : (state : Machines) (world : WorldView) (name : List ℕ) → WorldStands lines state world → number_of name state ≡ number_of name (shown_state world 0)
   number_shown state world name stands = number_same state (shown_state world 0) (all_shown face face_shown state.hosts world.hosts stands) name

@@ -55,8 +55,12 @@ pub record Bridged (x : Past) (now : Lines) (h : ℕ) (turn : Turn) : Type 0 whe
   pub settles : settled_of (past_behind x (notes_of h (note_of turn))).state now ≡ turn_settles turn (settled_of x.state now)
   pub halted : IfHalted (past_behind x (notes_of h (note_of turn))).state now
 
-module _ (start : Image) (hosts : List HostPast) (h : ℕ) (told : HostPast) (host_is : slice_get hosts h ≡ Some told) (kept : Option Kept) (cmd : Cmd) (uuid : List ℕ) (t : Task) (words : List ℕ) (made word : ℕ) (joined : IsKept kept) (standing : StandsFor kept cmd uuid (length start) t words made) (turn : Turn) (is : turn_given t word ≡ turn) (was : TaskTold t told) (me : told.uuid ≡ t.me) (all_hosts : Hosts) (shared : SharedState) (now : Lines) where
-  keeps_command : (p : Params) (history : List File) (pending : Option File) (have : ℕ) (uuids : ℕ → Option (List ℕ)) (master : Option ℕ) (x : Turn) → turn ≡ x → KeepsCommand p history pending start hosts h told host_is t was.cmd me have uuids master x
+module _ (start : Image) (hosts : List HostPast) (h : ℕ) (told : HostPast) (host_is : slice_get hosts h ≡ Some told) (kept : Option Kept) (cmd : Cmd)
+    (uuid : List ℕ) (t : Task) (words : List ℕ) (made word : ℕ) (joined : IsKept kept)
+    (standing : StandsFor kept cmd uuid (length start) t words made) (turn : Turn) (is : turn_given t word ≡ turn) (was : TaskTold t told)
+    (me : told.uuid ≡ t.me) (all_hosts : Hosts) (shared : SharedState) (now : Lines) where
+  keeps_command : (p : Params) (history : List File) (pending : Option File) (have : ℕ) (uuids : ℕ → Option (List ℕ)) (master : Option ℕ) (x : Turn)
+      → turn ≡ x → KeepsCommand p history pending start hosts h told host_is t was.cmd me have uuids master x
   keeps_command p history pending have uuids master (Writes seq entry next) e = next_command kept cmd uuid (length start) t words made word joined standing turn is next (ap task_after e)
   keeps_command p history pending have uuids master c e = tt
 
@@ -73,14 +77,16 @@ module _ (start : Image) (hosts : List HostPast) (h : ℕ) (told : HostPast) (ho
   }
 
   -- behind a mkfs whose maker halted there is no superblock
-  cleared_bridged : (damage : Damage) (g : ℕ) → IsCleared damage now → MaySayBad turn now (line_bytes * length start) t → Bridged (record { start = start; state = Bad Halted damage g; hosts = hosts }) now h turn
+  cleared_bridged : (damage : Damage) (g : ℕ) → IsCleared damage now → MaySayBad turn now (line_bytes * length start) t
+      → Bridged (record { start = start; state = Bad Halted damage g; hosts = hosts }) now h turn
   cleared_bridged damage g cleared says = record {
     legal = cleared_legal start now (line_bytes * length start) damage g cleared hosts h told host_is t turn says;
     settles = bad_settles now start hosts h Halted damage g turn;
     halted = subst (λ (s : State). IfHalted s now) (sym (bad_stays start hosts h Halted damage g turn)) cleared;
   }
 
-  pub bridged : (state : State) → ((i : Image) (d : Damage) (g : ℕ) → state ≡ Bad (Given i) d g → IsOwnDamage (length start) i d g) → IfHalted state now → InvariantBy (settled_of state now) (length start) all_hosts shared
+  pub bridged : (state : State) → ((i : Image) (d : Damage) (g : ℕ) → state ≡ Bad (Given i) d g → IsOwnDamage (length start) i d g)
+      → IfHalted state now → InvariantBy (settled_of state now) (length start) all_hosts shared
       → TurnSays turn (protocol_run t told) (settled_of state now) (length start) all_hosts → Bridged (record { start = start; state = state; hosts = hosts }) now h turn
   bridged (Sound p history pending) first halted stage says = record {
     legal = sound_legal p history pending start hosts h told host_is t was.cmd me (line_bytes * length start) all_hosts.uuid says.master turn says.may;
@@ -88,12 +94,17 @@ module _ (start : Image) (hosts : List HostPast) (h : ℕ) (told : HostPast) (ho
     halted = known_free _ now p _ _ settled;
   }
     where
-      settled : settled_of (past_behind (record { start = start; state = Sound p history pending; hosts = hosts }) (notes_of h (note_of turn))).state now ≡ turn_settles turn (settled_of (Sound p history pending) now)
-      settled = sound_settles p history pending start hosts h told host_is t was.cmd me (line_bytes * length start) all_hosts.uuid says.master now turn says.may (keeps_command p history pending (line_bytes * length start) all_hosts.uuid says.master turn refl)
+      settled : settled_of (past_behind (record { start = start; state = Sound p history pending; hosts = hosts }) (notes_of h (note_of turn))).state
+          now ≡ turn_settles turn (settled_of (Sound p history pending) now)
+      settled = sound_settles p history pending start hosts h told host_is t was.cmd me (line_bytes * length start) all_hosts.uuid says.master now
+          turn says.may (keeps_command p history pending (line_bytes * length start) all_hosts.uuid says.master turn refl)
   bridged (Bad (Given image) (FewLines lines) g) first halted stage says = absurd says
-  bridged (Bad (Given image) (past.NoSuperblock fault) g) own halted stage says = damaged_bridged image (past.NoSuperblock fault) g (own image (past.NoSuperblock fault) g refl) stage.enough stage.still.bad says
-  bridged (Bad (Given image) (past.BadHeader fault) g) own halted stage says = damaged_bridged image (past.BadHeader fault) g (own image (past.BadHeader fault) g refl) stage.enough stage.still.bad says
-  bridged (Bad (Given image) (past.BadSlot i reason) g) own halted stage says = damaged_bridged image (past.BadSlot i reason) g (own image (past.BadSlot i reason) g refl) stage.enough stage.still.bad says
+  bridged (Bad (Given image) (past.NoSuperblock fault) g) own halted stage says = damaged_bridged image (past.NoSuperblock fault) g
+      (own image (past.NoSuperblock fault) g refl) stage.enough stage.still.bad says
+  bridged (Bad (Given image) (past.BadHeader fault) g) own halted stage says = damaged_bridged image (past.BadHeader fault) g
+      (own image (past.BadHeader fault) g refl) stage.enough stage.still.bad says
+  bridged (Bad (Given image) (past.BadSlot i reason) g) own halted stage says = damaged_bridged image (past.BadSlot i reason) g
+      (own image (past.BadSlot i reason) g refl) stage.enough stage.still.bad says
   bridged (Bad Halted (FewLines lines) g) first halted stage says = absurd says
   bridged (Bad Halted (past.NoSuperblock fault) g) own halted stage says = cleared_bridged (past.NoSuperblock fault) g halted says
   bridged (Bad Halted (past.BadHeader fault) g) own halted stage says = cleared_bridged (past.BadHeader fault) g halted says
@@ -115,7 +126,9 @@ me_of (Small image) lines hosts shared h r stage run = absurd (let none = stage.
 me_of (Damaged image) lines hosts shared h r stage run = (stage.tasks h r run).me
 me_of (Known p all settled) lines hosts shared h r stage run = (stage.tasks h r run).me
 
-module _ (start : Image) (state : Machines) (world : WorldView) (held : Agrees start state world state.memory) (h : ℕ) (view : HostView) (view_is : slice_get world.hosts h ≡ Some view) (t : Task) (runs : view.task ≡ Some t) (inside : IsInImage (op_of t) (record { image = state.memory; cache = view.cache })) where
+module _ (start : Image) (state : Machines) (world : WorldView) (held : Agrees start state world state.memory) (h : ℕ) (view : HostView)
+    (view_is : slice_get world.hosts h ≡ Some view) (t : Task) (runs : view.task ≡ Some t)
+    (inside : IsInImage (op_of t) (record { image = state.memory; cache = view.cache })) where
   abbrev m : Machine
   m = record { image = state.memory; cache = view.cache }
 
@@ -128,7 +141,9 @@ module _ (start : Image) (state : Machines) (world : WorldView) (held : Agrees s
   abbrev x : Past
   x = past_of start world.journal
 
-  module _ (told : HostPast) (told_is : slice_get x.hosts h ≡ Some told) (host_told : HostTold view told) (host : HostState) (host_is : slice_get state.hosts h ≡ Some host) (host_stands : HostStands (length start) host view) (s : TaskState) (s_is : host.task ≡ Some s) (standing : StandsAs (length start) s t) (turn : Turn) (is : turn_given t word ≡ turn) where
+  module _ (told : HostPast) (told_is : slice_get x.hosts h ≡ Some told) (host_told : HostTold view told) (host : HostState)
+      (host_is : slice_get state.hosts h ≡ Some host) (host_stands : HostStands (length start) host view) (s : TaskState) (s_is : host.task ≡ Some s)
+      (standing : StandsAs (length start) s t) (turn : Turn) (is : turn_given t word ≡ turn) where
     abbrev notes : List Note
     notes = notes_of h (note_of turn)
 
@@ -184,7 +199,8 @@ module _ (start : Image) (state : Machines) (world : WorldView) (held : Agrees s
     steps : Steps h word settled (protocol_run t told) old_hosts (hosts_of views y.hosts) (shared_of state.memory world.hosts) (shared_of after.image views)
     steps = record {
       is = run_is;
-      operates = operates_by h m (shared_of state.memory world.hosts) (shared_of (operated (op_of t) m).image (changed_at h changed world.hosts)) (op_of t) (acts_at world.hosts h view view_is changed state.memory (operated (op_of t) m) refl) held.invariant.wide inside;
+      operates = operates_by h m (shared_of state.memory world.hosts) (shared_of (operated (op_of t) m).image (changed_at h changed world.hosts))
+          (op_of t) (acts_at world.hosts h view view_is changed state.memory (operated (op_of t) m) refl) held.invariant.wide inside;
       uuids = uuid_same;
       mine =
           ap₂ run_at (changed_at_member h changed world.hosts view view_is) (told_here x h turn told told_is)
@@ -200,7 +216,8 @@ module _ (start : Image) (state : Machines) (world : WorldView) (held : Agrees s
     }
 
     step_holds : StepHolds settled (length start) word (protocol_run t told) old_hosts (hosts_of views y.hosts) (shared_of after.image views)
-    step_holds = invariant_stepped (length start) h word settled (protocol_run t told) old_hosts (hosts_of views y.hosts) (shared_of state.memory world.hosts) (shared_of after.image views) held.invariant steps
+    step_holds = invariant_stepped (length start) h word settled (protocol_run t told) old_hosts (hosts_of views y.hosts)
+        (shared_of state.memory world.hosts) (shared_of after.image views) held.invariant steps
 
     task_was : TaskTold t told
     task_was = subst (λ (o : Option Task). IfRuns o told) runs host_told.task
@@ -221,7 +238,8 @@ module _ (start : Image) (state : Machines) (world : WorldView) (held : Agrees s
     settles = bridge.settles
 
     invariant_next : Invariant (settled_of y.state now) (length start) (hosts_of views y.hosts) (shared_of after.image views)
-    invariant_next = subst (λ (z : Settled). Invariant z (length start) (hosts_of views y.hosts) (shared_of after.image views)) (ap (λ (z : Turn). turn_settles z settled) is ∙ sym settles) step_holds.invariant
+    invariant_next = subst (λ (z : Settled). Invariant z (length start) (hosts_of views y.hosts) (shared_of after.image views))
+        (ap (λ (z : Turn). turn_settles z settled) is ∙ sym settles) step_holds.invariant
 
     -- The world again.
 
@@ -244,7 +262,15 @@ module _ (start : Image) (state : Machines) (world : WorldView) (held : Agrees s
         mine =
             subst (λ (o : Option HostState). HostStandsAt (length start) o (slice_get views h)) (sym (changed_at_member h host_on state.hosts host host_is))
             (subst (λ (o : Option HostView). HostStandsAt (length start) (Some (host_on host)) o) (sym (changed_at_member h changed world.hosts view view_is))
-            record { name = host_stands.name; uuid = host_stands.uuid; cache = refl; task = task_stands state h host host_is s s_is (length start) lines_are t standing m machine_is turn is; kept = ap (kept_after turn t) host_stands.kept; joined = keeps_history })
+            record {
+              name = host_stands.name;
+              uuid = host_stands.uuid;
+              cache = refl;
+              task = task_stands state h host host_is s s_is
+                  (length start) lines_are t standing m machine_is turn is;
+              kept = ap (kept_after turn t) host_stands.kept;
+              joined = keeps_history;
+            })
 
         other : k ≢ h → HostStandsAt (length start) (slice_get next_state.hosts k) (slice_get views k)
         other ne =
@@ -286,7 +312,8 @@ module _ (start : Image) (state : Machines) (world : WorldView) (held : Agrees s
       stands = stands_on;
       told = λ k. subst (λ (z : Past). ToldAt (slice_get views k) (slice_get z.hosts k)) (sym past_is) (told_on k);
       legal = legal_both (first_past start) world.journal notes held.legal bridge.legal;
-      halted = subst (λ (z : Past). IfHalted z.state (line_at after.image)) (sym past_is) (still_cleared now (length start) (hosts_of views y.hosts) (shared_of after.image views) y.state invariant_next bridge.halted);
+      halted = subst (λ (z : Past). IfHalted z.state (line_at after.image)) (sym past_is)
+          (still_cleared now (length start) (hosts_of views y.hosts) (shared_of after.image views) y.state invariant_next bridge.halted);
       invariant = subst (λ (z : Past). Invariant (settled_of z.state (line_at after.image)) (length start) (hosts_of views z.hosts) (shared_of after.image views)) (sym past_is)
           (over_memory now (length start) (hosts_of views y.hosts) (shared_of after.image views) y.state invariant_next);
     }

@@ -16,7 +16,9 @@ use Rattle.fam_journal.specs.Machines.{Done, HostState, Machines, Passes, TaskSt
 use Rattle.fam_journal.specs.View.{StandsAs, TaskStands}
 use Rattle.fam_journal.proofs.Settled.TaskTurns.{next_stands}
 
-module _ (state : Machines) (h : ℕ) (host : HostState) (host_is : slice_get state.hosts h ≡ Some host) (s : TaskState) (s_is : host.task ≡ Some s) (lines : ℕ) (lines_are : length state.memory ≡ lines) (t : Task) (standing : StandsAs lines s t) (m : Machine) (machine_is : machine_of state host ≡ m) (turn : Turn) (is : turn_given t (unwrap_or (given (op_of t) m) 0) ≡ turn) where
+module _ (state : Machines) (h : ℕ) (host : HostState) (host_is : slice_get state.hosts h ≡ Some host) (s : TaskState) (s_is : host.task ≡ Some s)
+    (lines : ℕ) (lines_are : length state.memory ≡ lines) (t : Task) (standing : StandsAs lines s t) (m : Machine)
+    (machine_is : machine_of state host ≡ m) (turn : Turn) (is : turn_given t (unwrap_or (given (op_of t) m) 0) ≡ turn) where
   -- the host's task behind it
   abbrev pub task_next : Turn → Option TaskState
   task_next z = machine.task_behind (note_of z) (task_on s (given (op_of t) m))
@@ -49,7 +51,12 @@ module _ (state : Machines) (h : ℕ) (host : HostState) (host_is : slice_get st
   -- what the machine does, by the machine of the host and by what comes with the operation
   abbrev served_with : (z : Machine) (o : Option row.RowNote) → Option Done
   served_with z None = None
-  served_with z (Some note) = Some (record { notes = notes_of h note; left = with_parts h (operated (op_of t) z) (machine.task_behind note (task_on s (given (op_of t) z))) (host_keeps note (task_on s (given (op_of t) z)) (length state.memory) host.kept) state })
+  served_with z (Some note) = Some
+      (record {
+        notes = notes_of h note;
+        left = with_parts h (operated (op_of t) z) (machine.task_behind note (task_on s (given (op_of t) z)))
+            (host_keeps note (task_on s (given (op_of t) z)) (length state.memory) host.kept) state;
+      })
 
   served_is : (o : Option row.RowNote) → served h state host s (op_of t) o ≡ served_with (machine_of state host) o
   served_is None = refl

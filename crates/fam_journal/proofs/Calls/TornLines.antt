@@ -49,9 +49,12 @@ module _ (start : Image) (state : Machines) (world : WorldView) (held : Agrees s
     abbrev m : Machine
     m = record { image = state.memory; cache = d.view.cache }
 
-    pub cache_moved : Agrees start (with_machine h (moved move line m) d.host.task state) (record { hosts = changed_at h (λ v. record v { cache = (moved move line m).cache }) world.hosts; journal = world.journal }) (moved move line m).image
+    pub cache_moved : Agrees start (with_machine h (moved move line m) d.host.task state)
+        (record { hosts = changed_at h (λ v. record v { cache = (moved move line m).cache }) world.hosts; journal = world.journal })
+        (moved move line m).image
     cache_moved =
-        moved_held start state world held h d line within (moved_words move (line_at state.memory line) (cell_at d.view.cache line)) (moved_cell move (line_at state.memory line) (cell_at d.view.cache line))
+        moved_held start state world held h d line within (moved_words move (line_at state.memory line) (cell_at d.view.cache line))
+        (moved_cell move (line_at state.memory line) (cell_at d.view.cache line))
         (move_transfers move (line_at state.memory line) (cell_at d.view.cache line)) (move_wide move (line_at state.memory line) (cell_at d.view.cache line) refl (wide_at line))
 
   -- The media failed.
@@ -80,10 +83,12 @@ module _ (start : Image) (state : Machines) (world : WorldView) (held : Agrees s
     -- in a move of a cache: nothing but memory is other than before, and the call is refused
     pub line_torn_held : (name : List ℕ) (cause : Refusal) → Agrees start (with_memory left state) (record { hosts = world.hosts; journal = world.journal ++ Refused name cause ∷ [] }) left
     line_torn_held name cause =
-        held_with start state world state.memory held (with_memory left state) world.hosts (Refused name cause ∷ []) (line_at state.memory) line_torn_lines line_torn_normal (tt, tt) held.stands held.told held.halted line_torn_invariant
+        held_with start state world state.memory held (with_memory left state) world.hosts (Refused name cause ∷ [])
+        (line_at state.memory) line_torn_lines line_torn_normal (tt, tt) held.stands held.told held.halted line_torn_invariant
 
   -- in a task's operation: the task is gone
-  module _ (op : Op) (inside : IsInImage op (record { image = state.memory; cache = d.view.cache })) (failure : Failure) (broken : HasBroken op (record { image = state.memory; cache = d.view.cache }) failure) where
+  module _ (op : Op) (inside : IsInImage op (record { image = state.memory; cache = d.view.cache })) (failure : Failure)
+      (broken : HasBroken op (record { image = state.memory; cache = d.view.cache }) failure) where
     abbrev own : Machine
     own = record { image = state.memory; cache = d.view.cache }
 

@@ -74,7 +74,8 @@ module _ (state : Machines) (world : WorldView) (stands : WorldStands (length st
       host_is = subst (λ (n : ℕ). slice_get state.hosts n ≡ Some member.x) (let same = member.at in let e : member.k ≡ h = omega (arith, same) in e) member.is
 
       both : (o : Option HostView) → slice_get world.hosts h ≡ o → HostStandsAt lines (Some member.x) o
-      both o view_is = subst (λ (z : Option HostView). HostStandsAt lines (Some member.x) z) view_is (subst (λ (z : Option HostState). HostStandsAt lines z (slice_get world.hosts h)) host_is (stands h))
+      both o view_is = subst (λ (z : Option HostView). HostStandsAt lines (Some member.x) z) view_is
+          (subst (λ (z : Option HostState). HostStandsAt lines z (slice_get world.hosts h)) host_is (stands h))
 
       by_view : (o : Option HostView) → slice_get world.hosts h ≡ o → Placed name h
       by_view None view_is = absurd (both None view_is)
@@ -104,8 +105,11 @@ module _ (state : Machines) (world : WorldView) (stands : WorldStands (length st
   }
   acts (call.Begins name cmd) takes free = by_number (number_in name world) refl
     where
-      by_number : (o : Option ℕ) → number_in name world ≡ o → IsCallRow (call.Begins name cmd) lines state world (with_host o (λ v. record v { task = Some (mounted v.kept cmd v.uuid lines) }) (λ h. Start h cmd) world)
-      by_number None is = absurd (let e : on_host (number_of name state) (λ h. begins_refusal h (is_mount cmd) state) ≡ Some why.NoHost = ap (λ (o : Option ℕ). on_host o (λ h. begins_refusal h (is_mount cmd) state)) (number_shown lines state world name stands ∙ is) in cc)
+      by_number : (o : Option ℕ) → number_in name world ≡ o
+          → IsCallRow (call.Begins name cmd) lines state world
+          (with_host o (λ v. record v { task = Some (mounted v.kept cmd v.uuid lines) }) (λ h. Start h cmd) world)
+      by_number None is = absurd (let e : on_host (number_of name state) (λ h. begins_refusal h (is_mount cmd) state) ≡ Some why.NoHost =
+          ap (λ (o : Option ℕ). on_host o (λ h. begins_refusal h (is_mount cmd) state)) (number_shown lines state world name stands ∙ is) in cc)
       by_number (Some h) is =
           let p = placed name h is in
           record {
@@ -119,7 +123,9 @@ module _ (state : Machines) (world : WorldView) (stands : WorldStands (length st
                   uuid = p.mine.uuid;
                   cache = p.mine.cache;
                   task = subst (λ (k : Option Kept). TaskStands lines (Some (task_begun k cmd p.host.uuid)) (Some (mounted p.view.kept cmd p.view.uuid lines))) (sym p.mine.kept)
-                      (subst (λ (id : List ℕ). TaskStands lines (Some (task_begun p.view.kept cmd id)) (Some (mounted p.view.kept cmd p.view.uuid lines))) (sym p.mine.uuid) record { joined = p.mine.joined; stands = standing.starts });
+                      (subst (λ (id : List ℕ). TaskStands lines (Some (task_begun p.view.kept cmd id))
+                      (Some (mounted p.view.kept cmd p.view.uuid lines)))
+                      (sym p.mine.uuid) record { joined = p.mine.joined; stands = standing.starts });
                   kept = p.mine.kept;
                   joined = p.mine.joined;
                 };
@@ -128,7 +134,8 @@ module _ (state : Machines) (world : WorldView) (stands : WorldStands (length st
   acts (call.Stops name) takes free = by_number (number_in name world) refl
     where
       by_number : (o : Option ℕ) → number_in name world ≡ o → IsCallRow (call.Stops name) lines state world (with_host o (λ v. record v { task = None }) Stop world)
-      by_number None is = absurd (let e : on_host (number_of name state) (λ h. idle_refusal h state) ≡ Some why.NoHost = ap (λ (o : Option ℕ). on_host o (λ h. idle_refusal h state)) (number_shown lines state world name stands ∙ is) in cc)
+      by_number None is = absurd (let e : on_host (number_of name state) (λ h. idle_refusal h state) ≡ Some why.NoHost =
+          ap (λ (o : Option ℕ). on_host o (λ h. idle_refusal h state)) (number_shown lines state world name stands ∙ is) in cc)
       by_number (Some h) is =
           let p = placed name h is in
           record {
@@ -136,13 +143,22 @@ module _ (state : Machines) (world : WorldView) (stands : WorldStands (length st
             notes = Stop h ∷ [];
             row = by_none (call.Stops name) _ _ free (acts_at (call.Stops name) _ _ h p (refl, refl));
             memory = refl;
-            stands = changed h name p (λ z. record z { task = None }) (λ v. record v { task = None }) record { name = p.mine.name; uuid = p.mine.uuid; cache = p.mine.cache; task = tt; kept = p.mine.kept; joined = p.mine.joined };
+            stands = changed h name p (λ z. record z { task = None })
+                (λ v. record v { task = None }) record {
+                  name = p.mine.name;
+                  uuid = p.mine.uuid;
+                  cache = p.mine.cache;
+                  task = tt;
+                  kept = p.mine.kept;
+                  joined = p.mine.joined;
+                };
             joined = refl;
           }
   acts (call.Halts name) takes free = by_number (number_in name world) refl
     where
       by_number : (o : Option ℕ) → number_in name world ≡ o → IsCallRow (call.Halts name) lines state world (with_host o (λ v. record v { cache = finmap.empty; task = None; kept = None }) Halt world)
-      by_number None is = absurd (let e : on_host (number_of name state) (λ h. None) ≡ Some why.NoHost = ap (λ (o : Option ℕ). on_host o (λ h. None)) (number_shown lines state world name stands ∙ is) in cc)
+      by_number None is = absurd (let e : on_host (number_of name state) (λ h. None) ≡ Some why.NoHost = ap (λ (o : Option ℕ). on_host o (λ h. None))
+          (number_shown lines state world name stands ∙ is) in cc)
       by_number (Some h) is =
           let p = placed name h is in
           record {
@@ -150,13 +166,22 @@ module _ (state : Machines) (world : WorldView) (stands : WorldStands (length st
             notes = Halt h ∷ [];
             row = by_none (call.Halts name) _ _ free (acts_at (call.Halts name) _ _ h p (refl, refl));
             memory = refl;
-            stands = changed h name p (λ z. record z { cache = finmap.empty; task = None; kept = None }) (λ v. record v { cache = finmap.empty; task = None; kept = None }) record { name = p.mine.name; uuid = p.mine.uuid; cache = refl; task = tt; kept = refl; joined = tt };
+            stands = changed h name p (λ z. record z { cache = finmap.empty; task = None; kept = None })
+                (λ v. record v { cache = finmap.empty; task = None; kept = None }) record {
+                  name = p.mine.name;
+                  uuid = p.mine.uuid;
+                  cache = refl;
+                  task = tt;
+                  kept = refl;
+                  joined = tt;
+                };
             joined = refl;
           }
   acts (call.Umounts name) takes free = by_number (number_in name world) refl
     where
       by_number : (o : Option ℕ) → number_in name world ≡ o → IsCallRow (call.Umounts name) lines state world (with_host o (λ v. record v { kept = None }) Umount world)
-      by_number None is = absurd (let e : on_host (number_of name state) (λ h. umounts_refusal h state) ≡ Some why.NoHost = ap (λ (o : Option ℕ). on_host o (λ h. umounts_refusal h state)) (number_shown lines state world name stands ∙ is) in cc)
+      by_number None is = absurd (let e : on_host (number_of name state) (λ h. umounts_refusal h state) ≡ Some why.NoHost =
+          ap (λ (o : Option ℕ). on_host o (λ h. umounts_refusal h state)) (number_shown lines state world name stands ∙ is) in cc)
       by_number (Some h) is =
           let p = placed name h is in
           record {
@@ -164,7 +189,16 @@ module _ (state : Machines) (world : WorldView) (stands : WorldStands (length st
             notes = Umount h ∷ [];
             row = by_none (call.Umounts name) _ _ free (acts_at (call.Umounts name) _ _ h p (refl, refl));
             memory = refl;
-            stands = changed h name p (λ z. record z { kept = None }) (λ v. record v { kept = None }) record { name = p.mine.name; uuid = p.mine.uuid; cache = p.mine.cache; task = p.mine.task; kept = refl; joined = tt };
+            stands = changed h name p (λ z. record z { kept = None })
+                (λ v. record v { kept = None }) record {
+                  name = p.mine.name;
+                  uuid = p.mine.uuid;
+                  cache = p.mine.cache;
+                  task = p.mine.task;
+                  kept =
+                      refl;
+                  joined = tt;
+                };
             joined = refl;
           }
   acts (call.Refuses name cause) takes free = record {
@@ -188,7 +222,8 @@ module _ (state : Machines) (world : WorldView) (stands : WorldStands (length st
       by_refusal (Some cause) is = record {
         left = state;
         notes = Refused (asked_name c) cause ∷ [];
-        row = subst (λ (o : Option Refusal). ByRefusal (asked_name c) o (Refused (asked_name c) cause ∷ []) state state (Acts c state (Refused (asked_name c) cause ∷ []) state)) (sym (refusal_shown lines state world c stands ∙ is)) (refl, refl);
+        row = subst (λ (o : Option Refusal). ByRefusal (asked_name c) o (Refused (asked_name c) cause ∷ []) state state
+            (Acts c state (Refused (asked_name c) cause ∷ []) state)) (sym (refusal_shown lines state world c stands ∙ is)) (refl, refl);
         memory = refl;
         stands = stands;
         joined = refl;

@@ -54,7 +54,8 @@ module _ (start : Image) (state : Machines) (journal : List Note) (kept : Reache
     head : IsHeadSent d.host.cache
     head =
         subst IsHeadSent (sym d.stands.cache)
-        (λ l below dirty. head_sent (settled_of s (line_at state.memory)) (length start) (hosts_of kept.views (past_of start journal).hosts) (shared_of state.memory kept.views) kept.held.invariant.stage h l (omega (arith, below))
+        (λ l below dirty. head_sent (settled_of s (line_at state.memory)) (length start) (hosts_of kept.views (past_of start journal).hosts)
+        (shared_of state.memory kept.views) kept.held.invariant.stage h l (omega (arith, below))
         (subst IsDirty (sym (ap (λ (o : Option HostView). copy_at o l) d.view_is)) dirty))
 
     eight_words : HasEightWords (machine_of state d.host)
@@ -119,13 +120,15 @@ module _ (start : Image) (state : Machines) (journal : List Note) (kept : Reache
   call_cut (call.Refuses name cause) sound notes new x = no_cut (number_of name state) x.1
 
 -- of an event
-pub event_cut : (start : Image) (e : Event) → IsValidEvent e → (old new : Session) (journal notes : List Note) → Reached start old.machines journal → BreaksEvent e old notes new → CutEventReads e old (past_of start journal).state new.machines.memory
+pub event_cut : (start : Image) (e : Event) → IsValidEvent e → (old new : Session) (journal notes : List Note) → Reached start old.machines journal
+    → BreaksEvent e old notes new → CutEventReads e old (past_of start journal).state new.machines.memory
 event_cut start (event.Mkfs name fs unit log format force halt) sound old new journal notes kept x =
     call_cut start old.machines journal kept (call.Makes name (mkfs_request fs unit log format force halt)) sound notes new.machines x.0
 event_cut start e sound old new journal notes kept x = absurd x
 
 -- a refusal settles nothing
-pub refused_state : (start : Image) (journal notes : List Note) (name : List ℕ) (cause : Refusal) → notes ≡ Refused name cause ∷ [] → (past_of start (journal ++ notes)).state ≡ (past_of start journal).state
+pub refused_state : (start : Image) (journal notes : List Note) (name : List ℕ) (cause : Refusal) → notes ≡ Refused name cause ∷ []
+    → (past_of start (journal ++ notes)).state ≡ (past_of start journal).state
 refused_state start journal notes name cause is =
     ap (λ (z : List Note). (past_of start (journal ++ z)).state) is
     ∙ ap (λ (x : Past). x.state) (past_both (first_past start) journal (Refused name cause ∷ []))

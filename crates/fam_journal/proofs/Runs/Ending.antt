@@ -24,7 +24,8 @@ use Rattle.fam_journal.proofs.Calls.Members.{changed_at_member}
 use Rattle.fam_journal.proofs.Runs.Unique.{faults_both}
 
 -- wherever a command stands it comes to an answer
-stands_halt : (kept : Option Kept) (cmd : Rattle.fam_base.specs.declared.cmd.Cmd.Cmd) (me : List ℕ) (lines : ℕ) (t : Task) (words : List ℕ) (made : ℕ) → StandsFor kept cmd me lines t words made → Halts t
+stands_halt : (kept : Option Kept) (cmd : Rattle.fam_base.specs.declared.cmd.Cmd.Cmd) (me : List ℕ) (lines : ℕ) (t : Task) (words : List ℕ) (made : ℕ)
+    → StandsFor kept cmd me lines t words made → Halts t
 stands_halt kept cmd me lines t words made starts = begin_halts kept cmd me lines
 stands_halt kept cmd me lines next _ _ (goes {t = t} {words = words} {made = made} word before is) = on (stands_halt kept cmd me lines t words made before)
   where
@@ -75,8 +76,19 @@ module _ (h : ℕ) where
     does : Operation h state (notes_of h (note_of turn)) (left turn)
     does = record { outcome = Passes; is = row }
 
-    host_left : (z : Turn) → slice_get (left z).hosts h ≡ Some (record at.host { cache = (operated (op_of t) m).cache; task = machine.task_behind (note_of z) (task_on at.s (given (op_of t) m)); kept = keeps z })
-    host_left z = changed_at_member h (λ y. record y { cache = (operated (op_of t) m).cache; task = machine.task_behind (note_of z) (task_on at.s (given (op_of t) m)); kept = keeps z }) state.hosts at.host at.host_is
+    host_left : (z : Turn) → slice_get (left z).hosts h
+        ≡ Some (record at.host {
+          cache = (operated (op_of t) m).cache;
+          task = machine.task_behind (note_of z) (task_on at.s (given (op_of t) m));
+          kept = keeps z;
+        })
+    host_left z = changed_at_member h
+        (λ y. record y {
+          cache = (operated (op_of t) m).cache;
+          task = machine.task_behind (note_of z) (task_on at.s (given (op_of t) m));
+          kept =
+              keeps z;
+        }) state.hosts at.host at.host_is
 
     -- the task that goes on stands where the state's does
     stands_on : (n : Task) → task_after turn ≡ Some n → (z : Turn) → machine.task_behind (note_of z) (task_on at.s (given (op_of t) m)) ≡ Some (task_on at.s (given (op_of t) m)) → Stands (left z) n
@@ -88,7 +100,8 @@ module _ (h : ℕ) where
       standing = record {
         joined = at.standing.joined;
         stands = subst (λ (k : ℕ). StandsFor at.s.kept at.s.cmd at.s.me k n (with_given at.s.words (given (op_of t) m)) (at.s.made + 1)) (sym (operated_length (op_of t) m))
-            (subst (λ (o : Option ℕ). StandsFor at.s.kept at.s.cmd at.s.me (length state.memory) n (with_given at.s.words o) (at.s.made + 1)) (same_given (op_of t) m) (goes word at.standing.stands next));
+            (subst (λ (o : Option ℕ). StandsFor at.s.kept at.s.cmd at.s.me (length state.memory) n (with_given at.s.words o) (at.s.made + 1))
+            (same_given (op_of t) m) (goes word at.standing.stands next));
       };
     }
 
@@ -99,7 +112,15 @@ module _ (h : ℕ) where
       left = left z;
       completes = record {
         count = 1;
-        does = inr (busy, left z, notes_of h (note_of z), [], subst (λ (y : Turn). Operation h state (notes_of h (note_of y)) (left y)) is does, (refl, refl), sym (append-nil (notes_of h (note_of z))));
+        does = inr (
+          busy,
+          left z,
+          notes_of h (note_of z),
+          [],
+          subst (λ (y : Turn). Operation h state (notes_of h (note_of y)) (left y)) is does,
+          (refl, refl),
+          sym (append-nil (notes_of h (note_of z))),
+        );
         done = done;
       };
       clean = clean;
@@ -145,7 +166,8 @@ module _ (h : ℕ) where
 
       by_state : (host : HostState) → slice_get state.hosts h ≡ Some host → (o : Option TaskState) → host.task ≡ o → CanEnd h state
       by_state host is None none = absurd (let idle = sym busy ∙ ap is_busy_host is ∙ ap (λ (o : Option TaskState). is_some o) none in cc)
-      by_state host is (Some s) some = by_view host s (slice_get kept.views h) is some (subst (λ (o : Option HostState). HostStandsAt (length start) o (slice_get kept.views h)) is (kept.held.stands h))
+      by_state host is (Some s) some = by_view host s (slice_get kept.views h) is some
+          (subst (λ (o : Option HostState). HostStandsAt (length start) o (slice_get kept.views h)) is (kept.held.stands h))
 
       by_host : (o : Option HostState) → slice_get state.hosts h ≡ o → CanEnd h state
       by_host None none = absurd (let idle = sym busy ∙ ap is_busy_host none in cc)

@@ -48,10 +48,12 @@ kept_quiet start journal notes new left e f kept =
 
 -- An operation of any host.
 
-pub declared_at : (start : Image) (state : Machines) (journal : List Note) (kept : Reached start state journal) (h : ℕ) (host : HostState) → slice_get state.hosts h ≡ Some host → Declared start state (record { hosts = kept.views; journal = journal }) h
+pub declared_at : (start : Image) (state : Machines) (journal : List Note) (kept : Reached start state journal) (h : ℕ) (host : HostState)
+    → slice_get state.hosts h ≡ Some host → Declared start state (record { hosts = kept.views; journal = journal }) h
 declared_at start state journal kept h host is = declared start state (record { hosts = kept.views; journal = journal }) state.memory kept.held h host is
 
-pub operation_kept : (start : Image) (h : ℕ) (state : Machines) (journal : List Note) → Reached start state journal → (notes : List Note) (new : Machines) → Operation h state notes new → Reached start new (journal ++ notes)
+pub operation_kept : (start : Image) (h : ℕ) (state : Machines) (journal : List Note) → Reached start state journal
+    → (notes : List Note) (new : Machines) → Operation h state notes new → Reached start new (journal ++ notes)
 unfolding operation
 operation_kept start h state journal kept notes new op = by_host (slice_get state.hosts h) refl
   where
@@ -59,7 +61,8 @@ operation_kept start h state journal kept notes new op = by_host (slice_get stat
     by_host None none = absurd (let e : host_done op.outcome h state (slice_get state.hosts h) ≡ None = ap (host_done op.outcome h state) none in let f = op.is in cc)
     by_host (Some host) is = operation_at start state journal kept h (declared_at start state journal kept h host is) notes new op
 
-pub operates_kept : (start : Image) (h count : ℕ) (state : Machines) (journal : List Note) → Reached start state journal → (notes : List Note) (new : Machines) → DoesOperations h count state notes new → Reached start new (journal ++ notes)
+pub operates_kept : (start : Image) (h count : ℕ) (state : Machines) (journal : List Note) → Reached start state journal
+    → (notes : List Note) (new : Machines) → DoesOperations h count state notes new → Reached start new (journal ++ notes)
 operates_kept start h zero state journal kept notes new o = kept_quiet start journal notes new state o.0 o.1 kept
 operates_kept start h (suc count) state journal kept notes new (inl o) = kept_quiet start journal notes new state o.1 o.2 kept
 operates_kept start h (suc count) state journal kept notes new (inr o) =
@@ -70,13 +73,17 @@ operates_kept start h (suc count) state journal kept notes new (inr o) =
 
 module _ (start : Image) (state : Machines) (journal : List Note) (kept : Reached start state journal) (notes : List Note) (new : Machines) where
   -- a file system is made, or its maker halts
-  make_kept : (request : MkfsRequest) → IsSoundRequest request → (h : ℕ) (d : Declared start state (record { hosts = kept.views; journal = journal }) h) → makes_refusal request.unit request.log h state ≡ None
+  make_kept : (request : MkfsRequest) → IsSoundRequest request
+      → (h : ℕ) (d : Declared start state (record { hosts = kept.views; journal = journal }) h)
+      → makes_refusal request.unit request.log h state ≡ None
       → (halt : Option ℕ) → MakesOrHalts halt h (asked request d.host.uuid (length state.memory)) request.force d.host state notes new → Reached start new (journal ++ notes)
   make_kept request good h d may None x = kept_as start journal notes _ new _ x.notes_are x.left (made_kept start state journal kept h d request good may)
   make_kept request good h d may (Some k) x = kept_as start journal notes _ new _ x.notes_are x.left (halts_kept start state journal kept h d request good may k)
 
   -- of a declared host
-  act_kept : (c : Call) → IsSoundCall c → refusal_of c state ≡ None → (h : ℕ) → number_of (asked_name c) state ≡ Some h → (d : Declared start state (record { hosts = kept.views; journal = journal }) h) → ActsAt c h d.host state notes new → Reached start new (journal ++ notes)
+  act_kept : (c : Call) → IsSoundCall c → refusal_of c state ≡ None → (h : ℕ) → number_of (asked_name c) state ≡ Some h
+      → (d : Declared start state (record { hosts = kept.views; journal = journal }) h) → ActsAt c h d.host state notes new
+      → Reached start new (journal ++ notes)
   unfolding refusal_of
   act_kept (call.Declares name uuid) sound free h number d x = absurd x
   act_kept (call.Makes name request) sound free h number d (inl x) =
@@ -84,7 +91,9 @@ module _ (start : Image) (state : Machines) (journal : List Note) (kept : Reache
       make_kept request sound h d may request.halt x
   act_kept (call.Makes name request) sound free h number d (inr x) =
       let may : makes_refusal request.unit request.log h state ≡ None = sym (ap (λ (o : Option ℕ). on_host o (λ h. makes_refusal request.unit request.log h state)) number) ∙ free in
-      kept_as start journal notes _ new _ x.notes_are x.left (met_kept start state journal kept h d name (why.HasSuper x.other.fs) (enough_to_make start state journal kept h d request.unit request.log may))
+      kept_as start journal notes _ new _ x.notes_are x.left
+      (met_kept start state journal kept h d name (why.HasSuper x.other.fs)
+      (enough_to_make start state journal kept h d request.unit request.log may))
   act_kept (call.Begins name cmd) sound free h number d x =
       let may : begins_refusal h (is_mount cmd) state ≡ None = sym (ap (λ (o : Option ℕ). on_host o (λ h. begins_refusal h (is_mount cmd) state)) number) ∙ free in
       kept_as start journal notes _ new _ x.0 x.1 (begins_kept start state journal kept h d cmd sound may)
@@ -101,17 +110,21 @@ module _ (start : Image) (state : Machines) (journal : List Note) (kept : Reache
       kept_as start journal notes _ new _ x.0 x.1 (umounts_kept start state journal kept h d may)
   act_kept (call.Moves name line move) sound free h number d (inl x) =
       let may : line_refusal line state ≡ None = sym (ap (λ (o : Option ℕ). on_host o (λ h. line_refusal line state)) number) ∙ free in
-      kept_quiet start journal notes new _ x.notes_are x.left (moved_kept start state journal kept h d move line (below_of (length state.memory) line (no_when _ (why.NoLine line (length state.memory)) may)))
+      kept_quiet start journal notes new _ x.notes_are x.left
+      (moved_kept start state journal kept h d move line
+      (below_of (length state.memory) line (no_when _ (why.NoLine line (length state.memory)) may)))
   act_kept (call.Moves name line move) sound free h number d (inr x) =
       let may : line_refusal line state ≡ None = sym (ap (λ (o : Option ℕ). on_host o (λ h. line_refusal line state)) number) ∙ free in
       kept_as start journal notes _ new _ x.notes_are x.left
-      (move_failed_kept start state journal kept h d move line x.through x.image name (why.MediaFault (record { 0 = line })) (below_of (length state.memory) line (no_when _ (why.NoLine line (length state.memory)) may)) x.fails)
+      (move_failed_kept start state journal kept h d move line x.through x.image name (why.MediaFault (record { 0 = line }))
+      (below_of (length state.memory) line (no_when _ (why.NoLine line (length state.memory)) may)) x.fails)
   act_kept (call.Refuses name cause) sound free h number d x = absurd x
 
   acts_of_kept : (c : Call) → IsSoundCall c → refusal_of c state ≡ None → ActsOf c state notes new → Reached start new (journal ++ notes)
   acts_of_kept c sound free x = by_number (number_of (asked_name c) state) refl x
     where
-      by_host : (h : ℕ) → number_of (asked_name c) state ≡ Some h → (o : Option HostState) → slice_get state.hosts h ≡ o → OnHost o (λ host. ActsAt c h host state notes new) → Reached start new (journal ++ notes)
+      by_host : (h : ℕ) → number_of (asked_name c) state ≡ Some h → (o : Option HostState) → slice_get state.hosts h ≡ o
+          → OnHost o (λ host. ActsAt c h host state notes new) → Reached start new (journal ++ notes)
       by_host h number None is x = absurd x
       by_host h number (Some host) is x =
           let d = declared_at start state journal kept h host is in
@@ -137,17 +150,22 @@ module _ (start : Image) (state : Machines) (journal : List Note) (kept : Reache
 -- Events.
 
 module _ (start : Image) (files : Files) where
-  pub begun_kept : (name : List ℕ) (what : Ask) (old new : Session) (journal notes : List Note) → Reached start old.machines journal → CommandBegins files name what old notes new → Reached start new.machines (journal ++ notes)
+  pub begun_kept : (name : List ℕ) (what : Ask) (old new : Session) (journal notes : List Note) → Reached start old.machines journal
+      → CommandBegins files name what old notes new → Reached start new.machines (journal ++ notes)
   begun_kept name what old new journal notes kept x =
       does_kept start old.machines journal kept notes new.machines (call.Begins name x.cmd) x.fits x.does
 
-  refused_event_kept : (name : List ℕ) (what : Ask) (old new : Session) (journal notes : List Note) → Reached start old.machines journal → RefusesEvent files name what old notes new → Reached start new.machines (journal ++ notes)
+  refused_event_kept : (name : List ℕ) (what : Ask) (old new : Session) (journal notes : List Note) → Reached start old.machines journal
+      → RefusesEvent files name what old notes new → Reached start new.machines (journal ++ notes)
   refused_event_kept name what old new journal notes kept (inl x) =
       kept_as start journal notes _ new.machines _ x.notes_are (ap (λ (s : Session). s.machines) x.same) (refused_kept start old.machines journal kept name x.cause)
   refused_event_kept name what old new journal notes kept (inr x) = does_kept start old.machines journal kept notes new.machines (call.Refuses name x.cause) tt x.does
 
-  goes_kept : (P : ℕ → Machines → List Note → Machines → Type 0) → ((h : ℕ) (state : Machines) (journal : List Note) → Reached start state journal → (notes : List Note) (new : Machines) → P h state notes new → Reached start new (journal ++ notes))
-      → (name : List ℕ) (what : Ask) (old new : Session) (journal notes : List Note) → Reached start old.machines journal → Continues P files name what old notes new → Reached start new.machines (journal ++ notes)
+  goes_kept : (P : ℕ → Machines → List Note → Machines → Type 0)
+      → ((h : ℕ) (state : Machines) (journal : List Note) → Reached start state journal → (notes : List Note) (new : Machines) → P h state notes new
+      → Reached start new (journal ++ notes))
+      → (name : List ℕ) (what : Ask) (old new : Session) (journal notes : List Note) → Reached start old.machines journal
+      → Continues P files name what old notes new → Reached start new.machines (journal ++ notes)
   goes_kept P keeps name what old new journal notes kept x =
       kept_both start new.machines journal x.first x.rest notes x.joined
       (keeps x.host x.mid.machines (journal ++ x.first) (begun_kept name what old x.mid journal x.first kept x.begun) x.rest new.machines x.does)
@@ -156,15 +174,19 @@ module _ (start : Image) (files : Files) where
   not_step_kept name old new journal notes kept x =
       kept_as start journal notes _ new.machines _ x.notes_are (ap (λ (s : Session). s.machines) x.same) (refused_kept start old.machines journal kept name x.cause)
 
-  completes_kept : (h : ℕ) (state : Machines) (journal : List Note) → Reached start state journal → (notes : List Note) (new : Machines) → Completes h state notes new → Reached start new (journal ++ notes)
+  completes_kept : (h : ℕ) (state : Machines) (journal : List Note) → Reached start state journal → (notes : List Note) (new : Machines)
+      → Completes h state notes new → Reached start new (journal ++ notes)
   completes_kept h state journal kept notes new x = operates_kept start h x.count state journal kept notes new x.does
 
-  unfinished_kept : (h : ℕ) (state : Machines) (journal : List Note) → Reached start state journal → (notes : List Note) (new : Machines) → Unfinished h state notes new → Reached start new (journal ++ notes)
+  unfinished_kept : (h : ℕ) (state : Machines) (journal : List Note) → Reached start state journal → (notes : List Note) (new : Machines)
+      → Unfinished h state notes new → Reached start new (journal ++ notes)
   unfinished_kept h state journal kept notes new x = operates_kept start h x.count state journal kept notes new x.does
 
-  pub event_kept : (e : Event) → IsValidEvent e → (old new : Session) (journal notes : List Note) → Reached start old.machines journal → DoesEvent files e old notes new → Reached start new.machines (journal ++ notes)
+  pub event_kept : (e : Event) → IsValidEvent e → (old new : Session) (journal notes : List Note) → Reached start old.machines journal
+      → DoesEvent files e old notes new → Reached start new.machines (journal ++ notes)
   event_kept (event.Host name uuid) sound old new journal notes kept x = does_kept start old.machines journal kept notes new.machines (call.Declares name uuid) sound x.0
-  event_kept (event.Mkfs name fs unit log format force halt) sound old new journal notes kept x = does_kept start old.machines journal kept notes new.machines (call.Makes name (mkfs_request fs unit log format force halt)) sound x.0
+  event_kept (event.Mkfs name fs unit log format force halt) sound old new journal notes kept x =
+      does_kept start old.machines journal kept notes new.machines (call.Makes name (mkfs_request fs unit log format force halt)) sound x.0
   event_kept (event.Begin name what) sound old new journal notes kept (inl x) = begun_kept name what old new journal notes kept x
   event_kept (event.Begin name what) sound old new journal notes kept (inr x) = refused_event_kept name what old new journal notes kept x
   event_kept (event.Run name what) sound old new journal notes kept (inl x) = goes_kept Completes completes_kept name what old new journal notes kept x
@@ -173,13 +195,15 @@ module _ (start : Image) (files : Files) where
   event_kept (event.Step name count) sound old new journal notes kept (inr x) = not_step_kept name old new journal notes kept x
   event_kept e sound old new journal notes kept x = does_kept start old.machines journal kept notes new.machines _ tt x.0
 
-  part_kept : (e : Event) → IsValidEvent e → (old new : Session) (journal notes : List Note) → Reached start old.machines journal → PartOf files e old notes new → Reached start new.machines (journal ++ notes)
+  part_kept : (e : Event) → IsValidEvent e → (old new : Session) (journal notes : List Note) → Reached start old.machines journal
+      → PartOf files e old notes new → Reached start new.machines (journal ++ notes)
   part_kept (event.Run name what) sound old new journal notes kept x = goes_kept Unfinished unfinished_kept name what old new journal notes kept x
   part_kept (event.Step name count) sound old new journal notes kept x = unfinished_kept x.host old.machines journal kept notes new.machines x.does.does
   part_kept (event.Finish name) sound old new journal notes kept x = unfinished_kept x.host old.machines journal kept notes new.machines x.does
   part_kept e sound old new journal notes kept x = absurd x
 
-  pub follows_kept : (events : List Event) → AreSound events → (old new : Session) (journal notes : List Note) → Reached start old.machines journal → Follows files events old notes new → Reached start new.machines (journal ++ notes)
+  pub follows_kept : (events : List Event) → AreSound events → (old new : Session) (journal notes : List Note) → Reached start old.machines journal
+      → Follows files events old notes new → Reached start new.machines (journal ++ notes)
   follows_kept [] sound old new journal notes kept x = kept_quiet start journal notes new.machines old.machines x.0 (ap (λ (s : Session). s.machines) x.1) kept
   follows_kept (e ∷ events) sound old new journal notes kept x =
       kept_both start new.machines journal x.1 x.2 notes x.5
@@ -225,7 +249,8 @@ broken_notes (event.Mkfs name fs unit log format force halt) old new notes x = c
 broken_notes e old new notes x = absurd x
 
 -- so the state behind it is the one before
-pub broken_state : (start : Image) (e : Event) (old new : Session) (journal notes all : List Note) → BreaksEvent e old notes new → all ≡ journal ++ notes → (past_of start all).state ≡ (past_of start journal).state
+pub broken_state : (start : Image) (e : Event) (old new : Session) (journal notes all : List Note) → BreaksEvent e old notes new
+    → all ≡ journal ++ notes → (past_of start all).state ≡ (past_of start journal).state
 broken_state start e old new journal notes all x joined =
     let b = broken_notes e old new notes x in
     ap (λ (z : List Note). (past_of start z).state) joined ∙ refused_state start journal notes b.0 b.1 b.2
@@ -251,12 +276,14 @@ module _ (start : Image) (image : IsImage start) (files : Files) (events : List 
       subst (λ (z : List Note). Legal start z) (sym (x.joined ∙ ap (λ (z : List Note). x.whole_notes ++ z) b.2)) (legal_both (first_past start) x.whole_notes (Refused b.0 b.1 ∷ []) s.0 (tt, tt))
 
   -- and the image reads as that mkfs leaves it
-  broken_reads : (journal : List Note) (last : Session) (x : FollowsBroken files events (first_session start) journal last) → CutEventReads x.event x.mid (past_of start journal).state last.machines.memory
+  broken_reads : (journal : List Note) (last : Session) (x : FollowsBroken files events (first_session start) journal last)
+      → CutEventReads x.event x.mid (past_of start journal).state last.machines.memory
   broken_reads journal last x =
       subst (λ (s : State). CutEventReads x.event x.mid s last.machines.memory) (sym (broken_state start x.event x.mid last x.whole_notes x.part_notes journal x.part x.joined))
       (event_cut start x.event (one_sound start files events x.count x.event sound x.is) x.mid last x.whole_notes x.part_notes (whole_kept x.count x.whole_notes x.mid x.whole) x.part)
 
-  pub run_settled : (ending : Ending) (journal : List Note) (last : Session) (done : EventsDone ending files events (first_session start) journal last) → IsSettled ending start files events journal last done
+  pub run_settled : (ending : Ending) (journal : List Note) (last : Session)
+      (done : EventsDone ending files events (first_session start) journal last) → IsSettled ending start files events journal last done
   run_settled AllDone journal last x =
       let s = settled last.machines journal (follows_kept start files events sound (first_session start) last [] journal first_kept x) in
       record { legal = s.0; reads = s.1 }

@@ -81,7 +81,9 @@ fence_slot : (t : Task) → Halts (record t { phase = at.FenceSlot })
 fence_slot t = halting (record t { phase = at.FenceSlot }) (λ word. store_gate t)
 
 -- words of a line, and then its sending
-module _ (store : ℕ → Phase) (send : Phase) (turns : (t : Task) (k word : ℕ) → turn_at (store k) (record t { phase = store k }) word ≡ Goes (record t { phase = if nat_lt k 7 then store (k + 1) else send })) where
+module _ (store : ℕ → Phase) (send : Phase)
+    (turns : (t : Task) (k word : ℕ) → turn_at (store k) (record t { phase = store k }) word
+    ≡ Goes (record t { phase = if nat_lt k 7 then store (k + 1) else send })) where
   words_stored : (m k : ℕ) → 7 ≤ k + m → (t : Task) → Halts (record t { phase = send }) → Halts (record t { phase = store k })
   words_stored zero k enough t sends =
       halting (record t { phase = store k }) (λ word. subst HaltsTurn (sym (turns t k word))
@@ -92,7 +94,9 @@ module _ (store : ℕ → Phase) (send : Phase) (turns : (t : Task) (k word : �
 
 send_slot : (n j : ℕ) (t : Task) → (geometry t.params).lines ≤ j + 1 + n → Halts (record t { phase = at.SendSlot j })
 send_slot zero j t enough =
-    halting (record t { phase = at.SendSlot j }) (λ word. pick_place t (nat_lt (j + 1) (geometry t.params).lines) (at.StoreSlot (j + 1) 0) at.FenceSlot (λ is. absurd (grind (arith, nat_tests, enough))) (λ is. fence_slot t))
+    halting (record t { phase = at.SendSlot j })
+    (λ word. pick_place t (nat_lt (j + 1) (geometry t.params).lines) (at.StoreSlot (j + 1) 0) at.FenceSlot
+    (λ is. absurd (grind (arith, nat_tests, enough))) (λ is. fence_slot t))
 send_slot (suc n) j t enough =
     halting (record t { phase = at.SendSlot j }) (λ word. pick_place t (nat_lt (j + 1) (geometry t.params).lines) (at.StoreSlot (j + 1) 0) at.FenceSlot
     (λ is. words_stored (at.StoreSlot (j + 1)) (at.SendSlot (j + 1)) (λ t k word. refl) 7 0 (omega arith) t (send_slot n (j + 1) t (omega (arith, enough)))) (λ is. fence_slot t))
@@ -102,7 +106,9 @@ store_slot t = words_stored (at.StoreSlot 0) (at.SendSlot 0) (λ t k word. refl)
 
 send_data : (n j : ℕ) (t : Task) → lines_of (size_of t.entry) ≤ j + 1 + n → Halts (record t { phase = at.SendData j })
 send_data zero j t enough =
-    halting (record t { phase = at.SendData j }) (λ word. pick_place t (nat_lt (j + 1) (lines_of (size_of t.entry))) (at.StoreData (j + 1) 0) (at.StoreSlot 0 0) (λ is. absurd (grind (arith, nat_tests, enough))) (λ is. store_slot t))
+    halting (record t { phase = at.SendData j })
+    (λ word. pick_place t (nat_lt (j + 1) (lines_of (size_of t.entry))) (at.StoreData (j + 1) 0) (at.StoreSlot 0 0)
+    (λ is. absurd (grind (arith, nat_tests, enough))) (λ is. store_slot t))
 send_data (suc n) j t enough =
     halting (record t { phase = at.SendData j }) (λ word. pick_place t (nat_lt (j + 1) (lines_of (size_of t.entry))) (at.StoreData (j + 1) 0) (at.StoreSlot 0 0)
     (λ is. words_stored (at.StoreData (j + 1)) (at.SendData (j + 1)) (λ t k word. refl) 7 0 (omega arith) t (send_data n (j + 1) t (omega (arith, enough)))) (λ is. store_slot t))
@@ -112,7 +118,8 @@ store_data t = words_stored (at.StoreData 0) (at.SendData 0) (λ t k word. refl)
 
 -- Reading: the words of a line, and then what its part makes of them.
 
-module _ (part : Part) (j : ℕ) (P : Task → Type 0) (stays : (t : Task) (w : List ℕ) (p : Phase) → P t → P (record t { words = w; phase = p })) (line : (t : Task) → P t → HaltsTurn (line_turn t part j)) where
+module _ (part : Part) (j : ℕ) (P : Task → Type 0) (stays : (t : Task) (w : List ℕ) (p : Phase) → P t → P (record t { words = w; phase = p }))
+    (line : (t : Task) → P t → HaltsTurn (line_turn t part j)) where
   words_read : (m k : ℕ) → 7 ≤ k + m → (t : Task) → P t → Halts (record t { phase = at.Word part j k })
   words_read zero k enough t p =
       halting (record t { phase = at.Word part j k }) (λ word. pick (nat_lt k 7) _ _ (λ is. absurd (grind (arith, nat_tests, enough)))
@@ -131,7 +138,9 @@ record AtFile (n j : ℕ) (t : Task) : Type 0 where
   reads : LooksAtFile t.cmd
   left : part_count t File ≤ j + 1 + n
 
-file_line : (j : ℕ) (t : Task) → LooksAtFile t.cmd → ((u : Task) → u.cmd ≡ t.cmd → u.entry ≡ t.entry → nat_lt (j + 1) (part_count t File) ≡ true → Halts (record u { phase = at.Drop File (j + 1) })) → HaltsTurn (line_turn t File j)
+file_line : (j : ℕ) (t : Task) → LooksAtFile t.cmd
+    → ((u : Task) → u.cmd ≡ t.cmd → u.entry ≡ t.entry → nat_lt (j + 1) (part_count t File) ≡ true → Halts (record u { phase = at.Drop File (j + 1) }))
+    → HaltsTurn (line_turn t File j)
 file_line j t reads next = by_cmd t.cmd refl reads
   where
     by_found : (against : Content) (o : Option ℕ) → HaltsTurn (compare_turn t against j o)
@@ -147,7 +156,8 @@ same_count : (t u : Task) → u.cmd ≡ t.cmd → u.entry ≡ t.entry → part_c
 same_count t u e f = rw e (rw f refl)
 
 file_read : (n j : ℕ) (t : Task) → AtFile n j t → Halts (record t { phase = at.Drop File j })
-file_read zero j = line_read File j (AtFile zero j) (λ t w p x. record { reads = x.reads; left = x.left }) (λ t x. file_line j t x.reads (λ u e f is. absurd (let left = x.left in grind (arith, nat_tests, left, is))))
+file_read zero j = line_read File j (AtFile zero j) (λ t w p x. record { reads = x.reads; left = x.left })
+    (λ t x. file_line j t x.reads (λ u e f is. absurd (let left = x.left in grind (arith, nat_tests, left, is))))
 file_read (suc n) j = line_read File j (AtFile (suc n) j) (λ t w p x. record { reads = x.reads; left = x.left }) (λ t x. file_line j t x.reads
     (λ u e f is. file_read n (j + 1) u (record { reads = subst LooksAtFile (sym e) x.reads; left = let left = x.left in let same = same_count t u e f in omega (arith, left, same) })))
 
@@ -189,9 +199,12 @@ decide_halts s = halting (record s { phase = at.Decide }) (λ word. by_cmd s.cmd
     by_cmd Mount is = tt
     by_cmd (Check listing) is = tt
     by_cmd Fsck is = tt
-    by_cmd (Verify path against) is = decides_found (record s { phase = at.Decide }) (finmap.get (replay s.entries) path) _ (λ e. decides_verify (record s { phase = at.Decide }) e against (subst LooksAtFile (sym is) tt))
+    by_cmd (Verify path against) is = decides_found (record s { phase = at.Decide }) (finmap.get (replay s.entries) path) _
+        (λ e. decides_verify (record s { phase = at.Decide }) e against (subst LooksAtFile (sym is) tt))
     by_cmd (Read path offset count) is =
-        decides_found (record s { phase = at.Decide }) (finmap.get (replay s.entries) path) _ (λ e. pick (nat_le (wanted_end s.cmd e.size) offset) _ _ (λ b. tt) (λ b. reads_entry (record s { phase = at.Decide }) e (subst LooksAtFile (sym is) tt)))
+        decides_found (record s { phase = at.Decide }) (finmap.get (replay s.entries) path) _
+        (λ e. pick (nat_le (wanted_end s.cmd e.size) offset) _ _ (λ b. tt)
+        (λ b. reads_entry (record s { phase = at.Decide }) e (subst LooksAtFile (sym is) tt)))
     by_cmd (Mkdir path attr) is = decides_wish (record s { phase = at.Decide }) _ (ap wish_of is)
     by_cmd (Creat path size attr stripe fill) is = decides_wish (record s { phase = at.Decide }) _ (ap wish_of is)
     by_cmd (Cp path attr stripe bytes) is = decides_wish (record s { phase = at.Decide }) _ (ap wish_of is)
@@ -227,7 +240,9 @@ slot_read : (n i : ℕ) → SlotsHalt n → (m j : ℕ) (t : Task) → AtSlot n 
 slot_read n i next zero j = line_read (Slot i) j (AtSlot n i zero j) (λ t w p x. record { slots = x.slots; left = x.left })
     (λ t x. pick (nat_lt (j + 1) (geometry t.params).lines) _ _ (λ is. absurd (let left = x.left in grind (arith, nat_tests, left, is))) (λ is. check_halts n i t next x.slots))
 slot_read n i next (suc m) j = line_read (Slot i) j (AtSlot n i (suc m) j) (λ t w p x. record { slots = x.slots; left = x.left })
-    (λ t x. pick (nat_lt (j + 1) (geometry t.params).lines) _ _ (λ is. slot_read n i next m (j + 1) t (record { slots = x.slots; left = let left = x.left in omega (arith, left) })) (λ is. check_halts n i t next x.slots))
+    (λ t x. pick (nat_lt (j + 1) (geometry t.params).lines) _ _
+    (λ is. slot_read n i next m (j + 1) t (record { slots = x.slots; left = let left = x.left in omega (arith, left) }))
+    (λ is. check_halts n i t next x.slots))
 
 slots_halt : (n : ℕ) → SlotsHalt n
 unfolding SlotsHalt
@@ -244,7 +259,8 @@ gate_halts t = halting (record t { phase = at.Gate }) (λ word. by_fault word (g
   where
     by_wish : (word : ℕ) (o : Option Wish) → HaltsTurn (finds_or_goes o word (gate_loaded (record t { phase = at.Gate }) word))
     by_wish word None = slots_halt (slots_read (record t { gate = word })) (first_slot t.kept t.cmd t.params word) (record t { gate = word; entries = used t.kept t.cmd t.params word }) (omega arith)
-    by_wish word (Some w) = slots_halt (slots_read (record t { gate = word })) (first_slot t.kept t.cmd t.params word) (record t { gate = word; entries = used t.kept t.cmd t.params word }) (omega arith)
+    by_wish word (Some w) = slots_halt (slots_read (record t { gate = word })) (first_slot t.kept t.cmd t.params word)
+        (record t { gate = word; entries = used t.kept t.cmd t.params word }) (omega arith)
 
     by_fault : (word : ℕ) (o : Option LogFault) → HaltsTurn (gate_turn (record t { phase = at.Gate }) word o)
     by_fault word (Some fault) = tt

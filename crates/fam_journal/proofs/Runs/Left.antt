@@ -87,7 +87,8 @@ module _ (start : Image) (state : Machines) (world : WorldView) (image : Image) 
   same_as_own : (own : Image) → own ≡ start → ((l : ℕ) → line_at image l ≡ line_at own l) → image ≡ own
   same_as_own own e lines = same_as_first (λ l. lines l ∙ ap (λ (x : Image). line_at x l) e) ∙ sym e
 
-  by_state : (s : State) (hosts : Hosts) → ((own : Image) (d : Damage) (g : ℕ) → s ≡ Bad (Given own) d g → own ≡ start) → IfHalted s (line_at image) → Invariant (settled_of s (line_at image)) (length start) hosts (shared_of image world.hosts) → ReadsAs s image
+  by_state : (s : State) (hosts : Hosts) → ((own : Image) (d : Damage) (g : ℕ) → s ≡ Bad (Given own) d g → own ≡ start) → IfHalted s (line_at image)
+      → Invariant (settled_of s (line_at image)) (length start) hosts (shared_of image world.hosts) → ReadsAs s image
   by_state (Bad (Given own) (FewLines lines) g) hosts first halted invariant = same_as_own own (first own (FewLines lines) g refl) invariant.stage.memory
   by_state (Bad (Given own) (past.NoSuperblock fault) g) hosts first halted invariant = same_as_own own (first own (past.NoSuperblock fault) g refl) invariant.stage.still.memory
   by_state (Bad (Given own) (past.BadHeader fault) g) hosts first halted invariant = same_as_own own (first own (past.BadHeader fault) g refl) invariant.stage.still.memory

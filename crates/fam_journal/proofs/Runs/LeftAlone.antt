@@ -47,15 +47,19 @@ module _ (start : Image) (files : Files) (origin : Origin) (damage : Damage) (ga
   operations_stay : (h count : ℕ) (state new : Machines) (journal notes : List Note) → IsBadAt state journal → DoesOperations h count state notes new → new.memory ≡ state.memory
   operations_stay h count state new journal notes old x = operates_stay start h count state journal old.kept origin damage gate old.is notes new x
 
-  begun_stays : (name : List ℕ) (what : Ask) (old new : Session) (journal notes : List Note) → IsBadAt old.machines journal → NoneEnds notes → CommandBegins files name what old notes new → new.machines.memory ≡ old.machines.memory
+  begun_stays : (name : List ℕ) (what : Ask) (old new : Session) (journal notes : List Note) → IsBadAt old.machines journal → NoneEnds notes
+      → CommandBegins files name what old notes new → new.machines.memory ≡ old.machines.memory
   begun_stays name what old new journal notes bad none x = call_stays (call.Begins name x.cmd) old.machines new.machines journal notes bad none x.does
 
-  refused_event_stays : (name : List ℕ) (what : Ask) (old new : Session) (journal notes : List Note) → IsBadAt old.machines journal → NoneEnds notes → RefusesEvent files name what old notes new → new.machines.memory ≡ old.machines.memory
+  refused_event_stays : (name : List ℕ) (what : Ask) (old new : Session) (journal notes : List Note) → IsBadAt old.machines journal → NoneEnds notes
+      → RefusesEvent files name what old notes new → new.machines.memory ≡ old.machines.memory
   refused_event_stays name what old new journal notes bad none (inl x) = ap memory_of x.same
   refused_event_stays name what old new journal notes bad none (inr x) = call_stays (call.Refuses name x.cause) old.machines new.machines journal notes bad none x.does
 
-  goes_stay : (P : ℕ → Machines → List Note → Machines → Type 0) → ((h : ℕ) (state new : Machines) (journal notes : List Note) → IsBadAt state journal → P h state notes new → new.memory ≡ state.memory)
-      → (name : List ℕ) (what : Ask) (old new : Session) (journal notes : List Note) → IsBadAt old.machines journal → NoneEnds notes → Continues P files name what old notes new → new.machines.memory ≡ old.machines.memory
+  goes_stay : (P : ℕ → Machines → List Note → Machines → Type 0)
+      → ((h : ℕ) (state new : Machines) (journal notes : List Note) → IsBadAt state journal → P h state notes new → new.memory ≡ state.memory)
+      → (name : List ℕ) (what : Ask) (old new : Session) (journal notes : List Note) → IsBadAt old.machines journal → NoneEnds notes
+      → Continues P files name what old notes new → new.machines.memory ≡ old.machines.memory
   goes_stay P stay name what old new journal notes bad none x =
       let parts = none_in x.first x.rest notes x.joined none in
       let kept = begun_kept start files name what old x.mid journal x.first bad.kept x.begun in
@@ -69,7 +73,8 @@ module _ (start : Image) (files : Files) (origin : Origin) (damage : Damage) (ga
   unfinished_stays h state new journal notes bad x = operations_stay h x.count state new journal notes bad x.does
 
   -- one event, done whole
-  event_stays : (e : Event) (old new : Session) (journal notes : List Note) → IsBadAt old.machines journal → NoneEnds notes → DoesEvent files e old notes new → new.machines.memory ≡ old.machines.memory
+  event_stays : (e : Event) (old new : Session) (journal notes : List Note) → IsBadAt old.machines journal → NoneEnds notes
+      → DoesEvent files e old notes new → new.machines.memory ≡ old.machines.memory
   event_stays (event.Mkfs name fs unit log format force halt) old new journal notes bad none x =
       call_stays (call.Makes name (mkfs_request fs unit log format force halt)) old.machines new.machines journal notes bad none x.0
   event_stays (event.Begin name what) old new journal notes bad none (inl x) = begun_stays name what old new journal notes bad none x
@@ -89,7 +94,8 @@ module _ (start : Image) (files : Files) (origin : Origin) (damage : Damage) (ga
 
   -- Runs.
 
-  follows_stay : (events : List Event) → AreSound events → (old new : Session) (journal notes : List Note) → IsBadAt old.machines journal → NoneEnds notes → Follows files events old notes new → new.machines.memory ≡ old.machines.memory
+  follows_stay : (events : List Event) → AreSound events → (old new : Session) (journal notes : List Note) → IsBadAt old.machines journal
+      → NoneEnds notes → Follows files events old notes new → new.machines.memory ≡ old.machines.memory
   follows_stay [] sound old new journal notes bad none x = ap memory_of x.1
   follows_stay (e ∷ events) sound old new journal notes bad none x =
       let parts = none_in x.1 x.2 notes x.5 none in
@@ -98,8 +104,11 @@ module _ (start : Image) (files : Files) (origin : Origin) (damage : Damage) (ga
       ∙ event_stays e old x.0 journal x.1 bad parts.0 x.3
 
   -- events, and then something of one
-  up_to_stays : (P : Event → Session → List Note → Session → Type 0) → ((e : Event) (old new : Session) (journal notes : List Note) → IsBadAt old.machines journal → NoneEnds notes → P e old notes new → new.machines.memory ≡ old.machines.memory)
-      → (events : List Event) → AreSound events → (old new : Session) (journal notes : List Note) → IsBadAt old.machines journal → NoneEnds notes → FollowsUpTo P files events old notes new → new.machines.memory ≡ old.machines.memory
+  up_to_stays : (P : Event → Session → List Note → Session → Type 0)
+      → ((e : Event) (old new : Session) (journal notes : List Note) → IsBadAt old.machines journal → NoneEnds notes → P e old notes new
+      → new.machines.memory ≡ old.machines.memory)
+      → (events : List Event) → AreSound events → (old new : Session) (journal notes : List Note) → IsBadAt old.machines journal → NoneEnds notes
+      → FollowsUpTo P files events old notes new → new.machines.memory ≡ old.machines.memory
   up_to_stays P stay events sound old new journal notes bad none x =
       let parts = none_in x.whole_notes x.part_notes notes x.joined none in
       let first = prefix_sound start files x.count events sound in
@@ -107,16 +116,20 @@ module _ (start : Image) (files : Files) (origin : Origin) (damage : Damage) (ga
       stay x.event x.mid new (journal ++ x.whole_notes) x.part_notes (bad_at old.machines journal x.whole_notes x.mid.machines bad parts.0 kept) parts.1 x.part
       ∙ follows_stay (take x.count events) first old x.mid journal x.whole_notes bad parts.0 x.whole
 
-  run_stays : (ending : Ending) → IsUncut ending → (events : List Event) → AreSound events → (old new : Session) (journal notes : List Note) → IsBadAt old.machines journal → NoneEnds notes → EventsDone ending files events old notes new → new.machines.memory ≡ old.machines.memory
+  run_stays : (ending : Ending) → IsUncut ending → (events : List Event) → AreSound events → (old new : Session) (journal notes : List Note)
+      → IsBadAt old.machines journal → NoneEnds notes → EventsDone ending files events old notes new → new.machines.memory ≡ old.machines.memory
   run_stays AllDone uncut events sound old new journal notes bad none x = follows_stay events sound old new journal notes bad none x
   run_stays MkfsFails uncut events sound old new journal notes bad none x = absurd uncut
-  run_stays (SourceFails end) uncut events sound old new journal notes bad none x = follows_stay (take x.count events) (prefix_sound start files x.count events sound) old new journal notes bad none x.follows
-  run_stays EndsOutOfMemory uncut events sound old new journal notes bad none (inl x) = follows_stay (take x.count events) (prefix_sound start files x.count events sound) old new journal notes bad none x.follows
+  run_stays (SourceFails end) uncut events sound old new journal notes bad none x =
+      follows_stay (take x.count events) (prefix_sound start files x.count events sound) old new journal notes bad none x.follows
+  run_stays EndsOutOfMemory uncut events sound old new journal notes bad none (inl x) =
+      follows_stay (take x.count events) (prefix_sound start files x.count events sound) old new journal notes bad none x.follows
   run_stays EndsOutOfMemory uncut events sound old new journal notes bad none (inr x) = up_to_stays (PartOf files) part_stays events sound old new journal notes bad none x
   run_stays EndsOutOfMemoryBroken uncut events sound old new journal notes bad none x = absurd uncut
   run_stays SinkFails uncut events sound old new journal notes bad none x = up_to_stays (DoesEvent files) event_stays events sound old new journal notes bad none x
 
   -- from what a run has come to
-  pub left_alone : (ending : Ending) → IsUncut ending → (events : List Event) → AreSound events → (old new : Session) (journal notes : List Note) → Reached start old.machines journal → (past_of start journal).state ≡ Bad origin damage gate
+  pub left_alone : (ending : Ending) → IsUncut ending → (events : List Event) → AreSound events → (old new : Session) (journal notes : List Note)
+      → Reached start old.machines journal → (past_of start journal).state ≡ Bad origin damage gate
       → NoneEnds notes → EventsDone ending files events old notes new → new.machines.memory ≡ old.machines.memory
   left_alone ending uncut events sound old new journal notes kept is none x = run_stays ending uncut events sound old new journal notes (record { kept = kept; is = is }) none x

@@ -14,18 +14,21 @@ one_lines [] n before (Err x) (Ok y) p q = absurd p
 one_lines [] n before (Err x) (Err y) p q = absurd p
 one_lines (line ∷ lines) n before (Ok x) (Ok y) p q =
     let same : p.0 ≡ q.0 = printed_once p.0 q.0 p.2.listed q.2.listed (sym p.2.printed ∙ q.2.printed) in
-    let rest : ◌≡◌ {A = Result (List Entry) ℕ} (Ok p.1) (Ok q.1) = one_lines lines (n + 1) (Some q.0.path) (Ok p.1) (Ok q.1) (subst (λ (e : Entry). LinesSay (n + 1) (Some e.path) lines (Ok p.1)) same p.3) q.3 in
+    let rest : ◌≡◌ {A = Result (List Entry) ℕ} (Ok p.1) (Ok q.1) = one_lines lines (n + 1) (Some q.0.path) (Ok p.1) (Ok q.1)
+    (subst (λ (e : Entry). LinesSay (n + 1) (Some e.path) lines (Ok p.1)) same p.3) q.3 in
     let more : p.1 ≡ q.1 = cc in
     ap Ok (p.4 ∙ ap₂ (λ (e : Entry) (es : List Entry). e ∷ es) same more ∙ sym q.4)
 one_lines (line ∷ lines) n before (Ok x) (Err y) p (inl q) = absurd (q.1 p.0 p.2)
 one_lines (line ∷ lines) n before (Ok x) (Err y) p (inr q) =
     let same : p.0 ≡ q.0 = printed_once p.0 q.0 p.2.listed q.1.listed (sym p.2.printed ∙ q.1.printed) in
-    let rest : ◌≡◌ {A = Result (List Entry) ℕ} (Ok p.1) (Err y) = one_lines lines (n + 1) (Some q.0.path) (Ok p.1) (Err y) (subst (λ (e : Entry). LinesSay (n + 1) (Some e.path) lines (Ok p.1)) same p.3) q.2 in
+    let rest : ◌≡◌ {A = Result (List Entry) ℕ} (Ok p.1) (Err y) = one_lines lines (n + 1) (Some q.0.path) (Ok p.1) (Err y)
+    (subst (λ (e : Entry). LinesSay (n + 1) (Some e.path) lines (Ok p.1)) same p.3) q.2 in
     absurd cc
 one_lines (line ∷ lines) n before (Err x) (Ok y) (inl p) q = absurd (p.1 q.0 q.2)
 one_lines (line ∷ lines) n before (Err x) (Ok y) (inr p) q =
     let same : p.0 ≡ q.0 = printed_once p.0 q.0 p.1.listed q.2.listed (sym p.1.printed ∙ q.2.printed) in
-    let rest : ◌≡◌ {A = Result (List Entry) ℕ} (Err x) (Ok q.1) = one_lines lines (n + 1) (Some q.0.path) (Err x) (Ok q.1) (subst (λ (e : Entry). LinesSay (n + 1) (Some e.path) lines (Err x)) same p.2) q.3 in
+    let rest : ◌≡◌ {A = Result (List Entry) ℕ} (Err x) (Ok q.1) = one_lines lines (n + 1) (Some q.0.path) (Err x) (Ok q.1)
+    (subst (λ (e : Entry). LinesSay (n + 1) (Some e.path) lines (Err x)) same p.2) q.3 in
     absurd cc
 one_lines (line ∷ lines) n before (Err x) (Err y) (inl p) (inl q) = ap Err (p.0 ∙ sym q.0)
 one_lines (line ∷ lines) n before (Err x) (Err y) (inl p) (inr q) = absurd (p.1 q.0 q.1)

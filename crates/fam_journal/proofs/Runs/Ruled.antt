@@ -93,7 +93,8 @@ late_fits at.FenceGate t word late wish = wish
 late_fits e t word late wish = absurd (late tt)
 
 -- a task that stores is of a command that appends
-late_wish : (kept : Option Kept) (cmd : Cmd) (me : List ℕ) (lines : ℕ) (t : Task) (words : List ℕ) (made : ℕ) → IsKept kept → StandsFor kept cmd me lines t words made → (IsBeforeWrites t.phase → ⊥) → HasWish cmd
+late_wish : (kept : Option Kept) (cmd : Cmd) (me : List ℕ) (lines : ℕ) (t : Task) (words : List ℕ) (made : ℕ) → IsKept kept
+    → StandsFor kept cmd me lines t words made → (IsBeforeWrites t.phase → ⊥) → HasWish cmd
 late_wish kept cmd me lines t words made joined starts late = absurd (late tt)
 late_wish kept cmd me lines next _ _ joined (goes {t = t} {words = words} {made = made} word before is) late = elim (before_or t.phase) [
   | inr stores ↦ late_wish kept cmd me lines t words made joined before stores
@@ -107,7 +108,8 @@ late_wish kept cmd me lines next _ _ joined (goes {t = t} {words = words} {made 
     by_turn (Writes seq e n) says goes_is = subst HasWish (standing_tied kept cmd me lines t words made joined before).cmd_is says.wish
     by_turn (Ends given) says goes_is = absurd cc
 
-pub turn_fits : (kept : Option Kept) (cmd : Cmd) (me : List ℕ) (lines : ℕ) (t : Task) (words : List ℕ) (made word : ℕ) → IsKept kept → StandsFor kept cmd me lines t words made → FitsTurn cmd (turn_given t word)
+pub turn_fits : (kept : Option Kept) (cmd : Cmd) (me : List ℕ) (lines : ℕ) (t : Task) (words : List ℕ) (made word : ℕ) → IsKept kept
+    → StandsFor kept cmd me lines t words made → FitsTurn cmd (turn_given t word)
 turn_fits kept cmd me lines t words made word joined standing =
     let cmds : t.cmd ≡ cmd = (standing_tied kept cmd me lines t words made joined standing).cmd_is in
     subst (λ (c : Cmd). FitsTurn c (turn_given t word)) cmds
@@ -200,7 +202,8 @@ module _ (origin : Origin) (damage : Damage) (host : HostPast) where
   own_fault : (own : Damage) (given : Reply) → own ≡ damage → IsFaultAnswer own given → IsFaultAnswer damage given
   own_fault own given e is = subst (λ (d : Damage). IsFaultAnswer d given) e is
 
-  damaged_ruled : (gate : ℕ) (cmd : Cmd) (given : Reply) → Fits cmd given → OwnsFault cmd host (Bad origin damage gate) given → ReplyAllowed given host (Bad origin damage gate) → IsDamagedAnswer origin damage host cmd given
+  damaged_ruled : (gate : ℕ) (cmd : Cmd) (given : Reply) → Fits cmd given → OwnsFault cmd host (Bad origin damage gate) given
+      → ReplyAllowed given host (Bad origin damage gate) → IsDamagedAnswer origin damage host cmd given
   damaged_ruled gate cmd (reply.NotAppended (cause.NotMaster me master)) fits owns says =
       refused_case cmd _ fits (inl record {
         master = master;
@@ -221,7 +224,8 @@ module _ (origin : Origin) (damage : Damage) (host : HostPast) where
   damaged_ruled gate cmd (reply.BadSlot i reason) fits owns says = fault_case cmd _ fits (own_fault (past.BadSlot i reason) (reply.BadSlot i reason) says refl) (owns.slot i reason refl)
   damaged_ruled gate cmd e fits owns says = absurd says
 
-pub ruled : (state : State) (host : HostPast) (cmd : Cmd) (given : Reply) → host.cmd ≡ Some cmd → Fits cmd given → OwnsFault cmd host state given → ReplyAllowed given host state → IsRuled state host cmd given
+pub ruled : (state : State) (host : HostPast) (cmd : Cmd) (given : Reply) → host.cmd ≡ Some cmd → Fits cmd given → OwnsFault cmd host state given
+    → ReplyAllowed given host state → IsRuled state host cmd given
 ruled (Sound p history pending) host cmd given told fits owns says = sound_ruled p history pending host cmd given told fits says
 ruled (Bad origin damage gate) host cmd given told fits owns says = damaged_ruled origin damage host gate cmd given fits owns says
 
@@ -231,7 +235,9 @@ ruled_both x [] b first rest = rest
 ruled_both x (note ∷ a) b first rest = (first.0, ruled_both (past_after x note) a b first.1 rest)
 
 -- the notes of a turn
-pub turn_ruled : (x : Past) (h : ℕ) (turn : Turn) (told : HostPast) (cmd : Cmd) → slice_get x.hosts h ≡ Some told → told.cmd ≡ Some cmd → FitsTurn cmd turn → ((given : Reply) → turn ≡ Ends given → OwnsFault cmd told x.state given) → LegalBehind x (notes_of h (note_of turn)) → AreRuled x (notes_of h (note_of turn))
+pub turn_ruled : (x : Past) (h : ℕ) (turn : Turn) (told : HostPast) (cmd : Cmd) → slice_get x.hosts h ≡ Some told → told.cmd ≡ Some cmd
+    → FitsTurn cmd turn → ((given : Reply) → turn ≡ Ends given → OwnsFault cmd told x.state given) → LegalBehind x (notes_of h (note_of turn))
+    → AreRuled x (notes_of h (note_of turn))
 turn_ruled x h (Goes t) told cmd is cmd_is fits owns legal = tt
 turn_ruled x h (Marks t) told cmd is cmd_is fits owns legal = (tt, tt)
 turn_ruled x h (Finds n t) told cmd is cmd_is fits owns legal = (tt, tt)

@@ -44,7 +44,8 @@ bad_clean now (past.NoSuperblock fault) lines hosts s stage h l dirty = stage.st
 bad_clean now (past.BadHeader fault) lines hosts s stage h l dirty = stage.still.clean h l dirty
 bad_clean now (past.BadSlot i reason) lines hosts s stage h l dirty = stage.still.clean h l dirty
 
-module _ (start : Image) (state : Machines) (journal : List Note) (kept : Reached start state journal) (origin : Origin) (damage : Damage) (gate : ℕ) (is : (past_of start journal).state ≡ Bad origin damage gate) (h : ℕ) (host : HostState) (host_is : slice_get state.hosts h ≡ Some host) where
+module _ (start : Image) (state : Machines) (journal : List Note) (kept : Reached start state journal) (origin : Origin) (damage : Damage) (gate : ℕ)
+    (is : (past_of start journal).state ≡ Bad origin damage gate) (h : ℕ) (host : HostState) (host_is : slice_get state.hosts h ≡ Some host) where
   d : Declared start state (record { hosts = kept.views; journal = journal }) h
   d = declared_at start state journal kept h host host_is
 
@@ -54,7 +55,8 @@ module _ (start : Image) (state : Machines) (journal : List Note) (kept : Reache
   pub nothing_sent : (l : ℕ) → IsDirty (cell_at host.cache l) → ⊥
   nothing_sent l dirty =
       bad_clean (origin_lines origin (line_at state.memory)) damage (length start) (hosts_of kept.views (past_of start journal).hosts) (shared_of state.memory kept.views)
-      (subst (λ (s : State). InvariantBy (settled_of s (line_at state.memory)) (length start) (hosts_of kept.views (past_of start journal).hosts) (shared_of state.memory kept.views)) is kept.held.invariant.stage) h l
+      (subst (λ (s : State). InvariantBy (settled_of s (line_at state.memory)) (length start) (hosts_of kept.views (past_of start journal).hosts)
+      (shared_of state.memory kept.views)) is kept.held.invariant.stage) h l
       (subst IsDirty (sym (ap (λ (o : Option HostView). copy_at o l) d.view_is))
       (subst (λ (c : Cache). IsDirty (cell_at c l)) (ap (λ (z : HostState). z.cache) own ∙ d.stands.cache) dirty))
 
@@ -65,7 +67,8 @@ module _ (start : Image) (state : Machines) (journal : List Note) (kept : Reache
 
 -- One operation.
 
-served_memory : (h : ℕ) (m : Machines) (host : HostState) (t : TaskState) (op : Op) (o : Option row.RowNote) (x : Done) → served h m host t op o ≡ Some x → x.left.memory ≡ (operated op (machine_of m host)).image
+served_memory : (h : ℕ) (m : Machines) (host : HostState) (t : TaskState) (op : Op) (o : Option row.RowNote) (x : Done)
+    → served h m host t op o ≡ Some x → x.left.memory ≡ (operated op (machine_of m host)).image
 served_memory h m host t op None x is = absurd cc
 served_memory h m host t op (Some note) x is = sym (ap (λ (z : Done). z.left.memory) (same_Some _ x is))
 
@@ -106,23 +109,27 @@ module _ (h : ℕ) (m : Machines) (normal : map eight m.memory ≡ m.memory) whe
   task_stays outcome host clean None x is = absurd cc
   task_stays outcome host clean (Some t) x is = op_stays outcome host clean t _ x is
 
-  host_stays : (outcome : Outcome) (o : Option HostState) → ((host : HostState) → o ≡ Some host → (l : ℕ) → IsDirty (cell_at host.cache l) → ⊥) → (x : Done) → host_done outcome h m o ≡ Some x → Stays m x
+  host_stays : (outcome : Outcome) (o : Option HostState) → ((host : HostState) → o ≡ Some host → (l : ℕ) → IsDirty (cell_at host.cache l) → ⊥)
+      → (x : Done) → host_done outcome h m o ≡ Some x → Stays m x
   host_stays outcome None clean x is = absurd cc
   host_stays outcome (Some host) clean x is = task_stays outcome host (clean host refl) host.task x is
 
 module _ (start : Image) where
-  operation_stays : (h : ℕ) (state : Machines) (journal : List Note) (kept : Reached start state journal) (origin : Origin) (damage : Damage) (gate : ℕ) → (past_of start journal).state ≡ Bad origin damage gate
+  operation_stays : (h : ℕ) (state : Machines) (journal : List Note) (kept : Reached start state journal) (origin : Origin) (damage : Damage)
+      (gate : ℕ) → (past_of start journal).state ≡ Bad origin damage gate
       → (notes : List Note) (new : Machines) → Operation h state notes new → Stays state (record { notes = notes; left = new })
   unfolding operation
   operation_stays h state journal kept origin damage gate is notes new op =
       host_stays h state kept.held.normal op.outcome (slice_get state.hosts h) (λ host at. nothing_sent start state journal kept origin damage gate is h host at) _ op.is
 
   -- behind notes that end no history the state is as bad
-  pub bad_behind : (journal notes : List Note) (origin : Origin) (damage : Damage) (gate : ℕ) → NoneEnds notes → (past_of start journal).state ≡ Bad origin damage gate → (past_of start (journal ++ notes)).state ≡ Bad origin damage gate
+  pub bad_behind : (journal notes : List Note) (origin : Origin) (damage : Damage) (gate : ℕ) → NoneEnds notes
+      → (past_of start journal).state ≡ Bad origin damage gate → (past_of start (journal ++ notes)).state ≡ Bad origin damage gate
   bad_behind journal notes origin damage gate none is =
       ap (λ (x : Past). x.state) (past_both (first_past start) journal notes) ∙ notes_bad notes (past_of start journal) origin damage gate none is
 
-  pub operates_stay : (h count : ℕ) (state : Machines) (journal : List Note) → Reached start state journal → (origin : Origin) (damage : Damage) (gate : ℕ) → (past_of start journal).state ≡ Bad origin damage gate
+  pub operates_stay : (h count : ℕ) (state : Machines) (journal : List Note) → Reached start state journal
+      → (origin : Origin) (damage : Damage) (gate : ℕ) → (past_of start journal).state ≡ Bad origin damage gate
       → (notes : List Note) (new : Machines) → DoesOperations h count state notes new → new.memory ≡ state.memory
   operates_stay h zero state journal kept origin damage gate is notes new o = ap (λ (m : Machines). m.memory) o.1
   operates_stay h (suc count) state journal kept origin damage gate is notes new (inl o) = ap (λ (m : Machines). m.memory) o.2
@@ -141,11 +148,13 @@ halts_early k none = go (nat_lt k first_sent) refl none
     go true is none = grind (arith, nat_tests, is)
     go false is none = absurd cc
 
-module _ (start : Image) (state : Machines) (journal : List Note) (kept : Reached start state journal) (origin : Origin) (damage : Damage) (gate : ℕ) (is : (past_of start journal).state ≡ Bad origin damage gate) (notes : List Note) (new : Machines) (none : NoneEnds notes) where
+module _ (start : Image) (state : Machines) (journal : List Note) (kept : Reached start state journal) (origin : Origin) (damage : Damage) (gate : ℕ)
+    (is : (past_of start journal).state ≡ Bad origin damage gate) (notes : List Note) (new : Machines) (none : NoneEnds notes) where
   abbrev memory_in : Machines → Image
   memory_in m = m.memory
 
-  make_stays : (h : ℕ) (host : HostState) → slice_get state.hosts h ≡ Some host → (halt : Option ℕ) (p : Params) (force : Bool) → MakesOrHalts halt h p force host state notes new → new.memory ≡ state.memory
+  make_stays : (h : ℕ) (host : HostState) → slice_get state.hosts h ≡ Some host → (halt : Option ℕ) (p : Params) (force : Bool)
+      → MakesOrHalts halt h p force host state notes new → new.memory ≡ state.memory
   make_stays h host at None p force x = absurd (let made = (subst NoneEnds x.notes_are none).0 in cc)
   make_stays h host at (Some k) p force x =
       let clean = nothing_sent start state journal kept origin damage gate is h host at in

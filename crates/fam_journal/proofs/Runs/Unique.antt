@@ -96,7 +96,8 @@ module _ (h : ℕ) where
       record { notes_are = p.6 ∙ ap₂ (λ (x y : List Note). x ++ y) first.notes_are rest.notes_are ∙ sym q.6; machines_are = rest.machines_are }
 
   -- up to the answer, whatever the counts
-  one_finish : (i j : ℕ) (old : Machines) (a b : List Note) (m n : Machines) → DoesOperations h i old a m → DoesOperations h j old b n → busy_at h m ≡ false → busy_at h n ≡ false → IsFaultless a → IsFaultless b → Same a b m n
+  one_finish : (i j : ℕ) (old : Machines) (a b : List Note) (m n : Machines) → DoesOperations h i old a m → DoesOperations h j old b n
+      → busy_at h m ≡ false → busy_at h n ≡ false → IsFaultless a → IsFaultless b → Same a b m n
   one_finish zero zero old a b m n p q done other clean_a clean_b = same_by p.0 p.1 q.0 q.1
   one_finish zero (suc j) old a b m n p (inl q) done other clean_a clean_b = same_by p.0 p.1 q.1 q.2
   one_finish zero (suc j) old a b m n p (inr q) done other clean_a clean_b = absurd (let x = ap (busy_at h) (sym p.1) ∙ done in let y = q.0 in cc)
@@ -121,7 +122,8 @@ met_or_made false (Ok p) other free unforced stands = absurd cc
 met_or_made false (Err fault) other free unforced stands = absurd cc
 
 -- a mkfs that goes on meets nothing, whether or not its maker is to halt
-pub goes_free : (old new : Machines) (notes : List Note) (halt : Option ℕ) (h : ℕ) (p : Params) (force : Bool) (host : HostState) → MakesOrHalts halt h p force host old notes new → goes_on force (superblock_found p (machine_of old host)) ≡ true
+pub goes_free : (old new : Machines) (notes : List Note) (halt : Option ℕ) (h : ℕ) (p : Params) (force : Bool) (host : HostState)
+    → MakesOrHalts halt h p force host old notes new → goes_on force (superblock_found p (machine_of old host)) ≡ true
 goes_free old new notes None h p force host x = x.free
 goes_free old new notes (Some k) h p force host x = x.free
 
@@ -130,7 +132,8 @@ module _ (old : Machines) (a b : List Note) (m n : Machines) (clean_a : IsFaultl
   one_meeting h p force name host x y =
       let e : x.other ≡ y.other = same_ok (sym x.stands ∙ y.stands) in
       record {
-        notes_are = x.notes_are ∙ ap (λ (q : Params). Rattle.fam_journal.specs.Notes.Refused name (Rattle.fam_journal.specs.declared.refusal.Refusal.TheVariants.HasSuper q.fs) ∷ []) e ∙ sym y.notes_are;
+        notes_are = x.notes_are ∙ ap (λ (q : Params). Rattle.fam_journal.specs.Notes.Refused name
+            (Rattle.fam_journal.specs.declared.refusal.Refusal.TheVariants.HasSuper q.fs) ∷ []) e ∙ sym y.notes_are;
         machines_are = x.left ∙ sym y.left;
       }
     where
@@ -197,11 +200,15 @@ module _ (one_listing : OneListing) where
       let same : p.0 ≡ q.0 = cc in
       p.2 ∙ ap (λ (k : ℕ). Unfit (Rattle.fam_journal.specs.declared.refusal.Refusal.TheVariants.BadListing k) copied) same ∙ sym q.2
 
-  one_within : (t : Bool) (bytes : List ℕ) (copied : ℕ) (reads : List ℕ → ℕ → Sourced → Type 0) → ((bytes : List ℕ) (copied : ℕ) (x y : Sourced) → reads bytes copied x → reads bytes copied y → x ≡ y) → (x y : Sourced) → WithinSays t bytes copied reads x → WithinSays t bytes copied reads y → x ≡ y
+  one_within : (t : Bool) (bytes : List ℕ) (copied : ℕ) (reads : List ℕ → ℕ → Sourced → Type 0)
+      → ((bytes : List ℕ) (copied : ℕ) (x y : Sourced) → reads bytes copied x → reads bytes copied y → x ≡ y) → (x y : Sourced)
+      → WithinSays t bytes copied reads x → WithinSays t bytes copied reads y → x ≡ y
   one_within true bytes copied reads one x y p q = one bytes (copied + length bytes) x y p q
   one_within false bytes copied reads one x y p q = p ∙ sym q
 
-  one_bytes : (name : List ℕ) (o : Option (List ℕ)) (copied : ℕ) (reads : List ℕ → ℕ → Sourced → Type 0) → ((bytes : List ℕ) (copied : ℕ) (x y : Sourced) → reads bytes copied x → reads bytes copied y → x ≡ y) → (x y : Sourced) → BytesSay name o copied reads x → BytesSay name o copied reads y → x ≡ y
+  one_bytes : (name : List ℕ) (o : Option (List ℕ)) (copied : ℕ) (reads : List ℕ → ℕ → Sourced → Type 0)
+      → ((bytes : List ℕ) (copied : ℕ) (x y : Sourced) → reads bytes copied x → reads bytes copied y → x ≡ y) → (x y : Sourced)
+      → BytesSay name o copied reads x → BytesSay name o copied reads y → x ≡ y
   one_bytes name None copied reads one x y p q = p ∙ sym q
   one_bytes name (Some bytes) copied reads one x y p q = one_within (nat_le (copied + length bytes) copy_limit) bytes copied reads one x y p q
 
@@ -210,7 +217,9 @@ module _ (one_listing : OneListing) where
   one_source files copied (ask.Cp source path attr stripe) x y p q =
       one_bytes source (map.get files source) copied (λ bytes copied said. said ≡ Ready (cmd.Cp path attr stripe bytes) copied) (λ bytes copied x y p q. p ∙ sym q) x y p q
   one_source files copied (ask.VerifySource path source) x y p q =
-      one_bytes source (map.get files source) copied (λ bytes copied said. said ≡ Ready (cmd.Verify path (Rattle.fam_base.specs.declared.cmd.Content.TheVariants.Bytes bytes)) copied) (λ bytes copied x y p q. p ∙ sym q) x y p q
+      one_bytes source (map.get files source) copied
+      (λ bytes copied said. said ≡ Ready (cmd.Verify path (Rattle.fam_base.specs.declared.cmd.Content.TheVariants.Bytes bytes)) copied)
+      (λ bytes copied x y p q. p ∙ sym q) x y p q
   one_source files copied (ask.Check source) x y p q = one_bytes source (map.get files source) copied ListingIs one_list x y p q
 
   -- Events.
@@ -237,7 +246,8 @@ module _ (one_listing : OneListing) where
         let causes : x.cause ≡ y.cause = cc in
         let copied : x.copied ≡ y.copied = cc in
         same_session
-        (one_call old.machines a b m.machines n.machines clean_a clean_b (call.Refuses name y.cause) (subst (λ (c : Refusal). Does (call.Refuses name c) old.machines a m.machines) causes x.does) y.does)
+        (one_call old.machines a b m.machines n.machines clean_a clean_b (call.Refuses name y.cause)
+        (subst (λ (c : Refusal). Does (call.Refuses name c) old.machines a m.machines) causes x.does) y.does)
         (x.copied_is ∙ copied ∙ sym y.copied_is)
 
     one_may_not : (name : List ℕ) (what : Ask) → MayNot name what old a m → MayNot name what old b n → AreSame a b m n
@@ -257,7 +267,8 @@ module _ (one_listing : OneListing) where
   begun_or_refused files name what old a b m n x (inr y) =
       absurd (let e : Ready x.cmd x.copied ≡ Unfit y.cause y.copied = one_source files old.copied what (Ready x.cmd x.copied) (Unfit y.cause y.copied) x.says y.says in cc)
 
-  one_through : (files : Files) (name : List ℕ) (what : Ask) (old : Session) (a b : List Note) (m n : Session) → IsFaultless a → IsFaultless b → Continues Completes files name what old a m → Continues Completes files name what old b n → AreSame a b m n
+  one_through : (files : Files) (name : List ℕ) (what : Ask) (old : Session) (a b : List Note) (m n : Session) → IsFaultless a → IsFaultless b
+      → Continues Completes files name what old a m → Continues Completes files name what old b n → AreSame a b m n
   one_through files name what old a b m n clean_a clean_b x y =
       let first = one_begun files old x.first y.first x.mid y.mid (clean_prefix x.first x.rest a x.joined clean_a) (clean_prefix y.first y.rest b y.joined clean_b) name what x.begun y.begun in
       let hosts : x.host ≡ y.host = same_Some x.host y.host (sym x.number ∙ ap (λ (s : Session). number_of name s.machines) first.states_are ∙ y.number) in
@@ -270,7 +281,8 @@ module _ (one_listing : OneListing) where
         states_are = ap₂ (λ (s : Machines) (k : ℕ). record { machines = s; copied = k }) rest.machines_are (x.copied ∙ ap (λ (s : Session). s.copied) first.states_are ∙ sym y.copied);
       }
 
-  one_steps : (count : ℕ) (name : List ℕ) (old : Session) (a b : List Note) (m n : Session) → IsFaultless a → IsFaultless b → StepsBy (λ h. DoesOperations h count) name old a m → StepsBy (λ h. DoesOperations h count) name old b n → AreSame a b m n
+  one_steps : (count : ℕ) (name : List ℕ) (old : Session) (a b : List Note) (m n : Session) → IsFaultless a → IsFaultless b
+      → StepsBy (λ h. DoesOperations h count) name old a m → StepsBy (λ h. DoesOperations h count) name old b n → AreSame a b m n
   one_steps count name old a b m n clean_a clean_b x y =
       let hosts : x.host ≡ y.host = same_Some x.host y.host (sym x.number ∙ y.number) in
       let run = one_run y.host count old.machines a b m.machines n.machines (subst (λ (k : ℕ). DoesOperations k count old.machines a m.machines) hosts x.does) y.does clean_a clean_b in
@@ -278,7 +290,8 @@ module _ (one_listing : OneListing) where
 
   steps_or_not : (count : ℕ) (name : List ℕ) (old : Session) (a b : List Note) (m n : Session) → StepsBy (λ h. DoesOperations h count) name old a m → MayNotStep name old b n → ⊥
   steps_or_not count name old a b m n x y =
-      absurd (let e : call.on_host (number_of name old.machines) (λ h. call.idle_refusal h old.machines) ≡ None = ap (λ (o : Option ℕ). call.on_host o (λ h. call.idle_refusal h old.machines)) x.number ∙ x.busy in let q = y.first in cc)
+      absurd (let e : call.on_host (number_of name old.machines) (λ h. call.idle_refusal h old.machines) ≡ None =
+      ap (λ (o : Option ℕ). call.on_host o (λ h. call.idle_refusal h old.machines)) x.number ∙ x.busy in let q = y.first in cc)
 
   one_not_step : (name : List ℕ) (old : Session) (a b : List Note) (m n : Session) → MayNotStep name old a m → MayNotStep name old b n → AreSame a b m n
   one_not_step name old a b m n x y =
@@ -301,9 +314,11 @@ module _ (one_listing : OneListing) where
   one_event files e old a b m n clean_a clean_b x y = one_plain files old a b m n clean_a clean_b _ x y
 
   -- all events
-  pub one_journal : (files : Files) (events : List Event) (old : Session) (a b : List Note) (m n : Session) → IsFaultless a → IsFaultless b → Follows files events old a m → Follows files events old b n → AreSame a b m n
+  pub one_journal : (files : Files) (events : List Event) (old : Session) (a b : List Note) (m n : Session) → IsFaultless a → IsFaultless b
+      → Follows files events old a m → Follows files events old b n → AreSame a b m n
   one_journal files [] old a b m n clean_a clean_b x y = record { notes_are = x.0 ∙ sym y.0; states_are = x.1 ∙ sym y.1 }
   one_journal files (e ∷ events) old a b m n clean_a clean_b x y =
       let first = one_event files e old x.1 y.1 x.0 y.0 (clean_prefix x.1 x.2 a x.5 clean_a) (clean_prefix y.1 y.2 b y.5 clean_b) x.3 y.3 in
-      let rest = one_journal files events y.0 x.2 y.2 m n (clean_rest x.1 x.2 a x.5 clean_a) (clean_rest y.1 y.2 b y.5 clean_b) (subst (λ (s : Session). Follows files events s x.2 m) first.states_are x.4) y.4 in
+      let rest = one_journal files events y.0 x.2 y.2 m n (clean_rest x.1 x.2 a x.5 clean_a) (clean_rest y.1 y.2 b y.5 clean_b)
+      (subst (λ (s : Session). Follows files events s x.2 m) first.states_are x.4) y.4 in
       record { notes_are = x.5 ∙ ap₂ (λ (u v : List Note). u ++ v) first.notes_are rest.notes_are ∙ sym y.5; states_are = rest.states_are }

@@ -124,7 +124,8 @@ module _ (line : Lines) (p : Params) (fault : SuperFault) where
   by_join i (Some reason) rest never e = absurd cc
   by_join i None rest never e = never e
 
-  by_slot : (i : ℕ) (list : List Entry) (r : Result Entry Reason) (rest : Entry → Reading) → ((entry : Entry) → rest entry ≡ read.NoSuperblock fault → ⊥) → slot_or p list i r rest ≡ read.NoSuperblock fault → ⊥
+  by_slot : (i : ℕ) (list : List Entry) (r : Result Entry Reason) (rest : Entry → Reading)
+      → ((entry : Entry) → rest entry ≡ read.NoSuperblock fault → ⊥) → slot_or p list i r rest ≡ read.NoSuperblock fault → ⊥
   by_slot i list (Ok entry) rest never e = by_join i (join_fault p list entry) (rest entry) (never entry) e
   by_slot i list (Err reason) rest never e = absurd cc
 

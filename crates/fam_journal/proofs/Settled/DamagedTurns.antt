@@ -38,7 +38,8 @@ turn_keeps_bad : (image : Lines) (turn : Turn) (d : Damage) → turn_settles tur
 turn_keeps_bad image turn (FewLines lines) = refl
 turn_keeps_bad image turn e = refl
 
-pub bad_stays : (start : Image) (hosts : List HostPast) (h : ℕ) (i : Origin) (d : Damage) (g : ℕ) (turn : Turn) → (past_behind (record { start = start; state = Bad i d g; hosts = hosts }) (notes_of h (note_of turn))).state ≡ Bad i d g
+pub bad_stays : (start : Image) (hosts : List HostPast) (h : ℕ) (i : Origin) (d : Damage) (g : ℕ) (turn : Turn)
+    → (past_behind (record { start = start; state = Bad i d g; hosts = hosts }) (notes_of h (note_of turn))).state ≡ Bad i d g
 bad_stays start hosts h i d g (Ends given) = replied_bad i d g given
 bad_stays start hosts h i d g e = refl
 
@@ -48,7 +49,10 @@ bad_settles now start hosts h i d g turn = ap (λ (s : State). settled_of s now)
 
 -- What is legal of an image that was handed in.
 
-module _ (first start : Image) (state : State) (hosts : List HostPast) (h : ℕ) (told : HostPast) (host_is : slice_get hosts h ≡ Some told) (t : Task) (cmd_is : told.cmd ≡ Some t.cmd) (me : told.uuid ≡ t.me) (state_is : state ≡ state_read start (reading_of (line_at start) (line_bytes * length start))) (bad : (p : Params) (entries : List Entry) → reading_of (line_at start) (line_bytes * length start) ≢ read.Sound p entries) where
+module _ (first start : Image) (state : State) (hosts : List HostPast) (h : ℕ) (told : HostPast) (host_is : slice_get hosts h ≡ Some told) (t : Task)
+    (cmd_is : told.cmd ≡ Some t.cmd) (me : told.uuid ≡ t.me)
+    (state_is : state ≡ state_read start (reading_of (line_at start) (line_bytes * length start)))
+    (bad : (p : Params) (entries : List Entry) → reading_of (line_at start) (line_bytes * length start) ≢ read.Sound p entries) where
   abbrev have : ℕ
   have = line_bytes * length start
 
@@ -80,7 +84,8 @@ module _ (first start : Image) (state : State) (hosts : List HostPast) (h : ℕ)
   super_by p (read.BadSlot i reason) super is = super
   super_by p (read.Sound q entries) super is = absurd (bad q entries is)
 
-  report_by : (given : Rattle.fam_rules.specs.declared.answers.Report.Report) (r : Reading) → reading_of (line_at start) have ≡ r → given ≡ Rattle.fam_rules.specs.Reports.report_of (line_at start) have → ReportAllowed given told (state_read start r)
+  report_by : (given : Rattle.fam_rules.specs.declared.answers.Report.Report) (r : Reading) → reading_of (line_at start) have ≡ r
+      → given ≡ Rattle.fam_rules.specs.Reports.report_of (line_at start) have → ReportAllowed given told (state_read start r)
   report_by given (read.NoSuperblock fault) is same = same
   report_by given (read.BadHeader fault) is same = same
   report_by given (read.BadSlot i reason) is same = same
@@ -119,7 +124,8 @@ pub report_cleared : (now : Lines) (have : ℕ) → slice_index (now 0) 0 ≡ 0 
 unfolding report_of super_of
 report_cleared now have word = ap (λ (w : ℕ). report_super now (super_of w (now 1 ++ now 2) have)) word
 
-module _ (first : Image) (now : Lines) (have : ℕ) (damage : Damage) (gate : ℕ) (cleared : IsCleared damage now) (hosts : List HostPast) (h : ℕ) (told : HostPast) (host_is : slice_get hosts h ≡ Some told) (t : Task) where
+module _ (first : Image) (now : Lines) (have : ℕ) (damage : Damage) (gate : ℕ) (cleared : IsCleared damage now) (hosts : List HostPast) (h : ℕ)
+    (told : HostPast) (host_is : slice_get hosts h ≡ Some told) (t : Task) where
   -- there is no superblock
   none : reading_of now have ≡ read.NoSuperblock (super.NoSuper 0)
   none = none_read now have cleared.word

@@ -105,31 +105,37 @@ module _ (lines : ℕ) (hosts : Hosts) (shared : SharedState) (h : ℕ) (r : Run
   super_known : (image : Image) → length image ≡ lines → IsDamaged (line_at image) lines hosts shared → super_in (line_at image) (line_bytes * length image) ≡ Ok r.task.params
   super_known image same stage = ap (λ (n : ℕ). super_in (line_at image) (line_bytes * n)) same ∙ (known image stage).super
 
-  by_super : (image : Image) → length image ≡ lines → IsDamaged (line_at image) lines hosts shared → HasWish r.task.cmd → (master : List ℕ) → master_read (super_in (line_at image) (line_bytes * length image)) ≡ Some master → r.task.me ≡ master
+  by_super : (image : Image) → length image ≡ lines → IsDamaged (line_at image) lines hosts shared → HasWish r.task.cmd → (master : List ℕ)
+      → master_read (super_in (line_at image) (line_bytes * length image)) ≡ Some master → r.task.me ≡ master
   by_super image same stage wish master is =
       (known image stage).master wish.0 wish.1 ∙ same_Some r.task.params.master master (sym (ap master_read (super_known image same stage)) ∙ is)
 
-  owned : (image : Image) (damage : Damage) → length image ≡ lines → InvariantBy (settled_bad (line_at image) damage) lines hosts shared → HasWish r.task.cmd → (master : List ℕ) → given_master image damage ≡ Some master → r.task.me ≡ master
+  owned : (image : Image) (damage : Damage) → length image ≡ lines → InvariantBy (settled_bad (line_at image) damage) lines hosts shared
+      → HasWish r.task.cmd → (master : List ℕ) → given_master image damage ≡ Some master → r.task.me ≡ master
   owned image (FewLines n) same stage wish master is = absurd cc
   owned image (past.NoSuperblock fault) same stage wish master is = absurd cc
   owned image (past.BadHeader fault) same stage wish master is = by_super image same stage wish master is
   owned image (past.BadSlot i reason) same stage wish master is = by_super image same stage wish master is
 
-  module _ {kept : Option Kept} {cmd : Cmd} {me : List ℕ} {words : List ℕ} {made : ℕ} (tied : Tied cmd me lines kept r.task words made) (told : HostPast) (cmd_is : told.cmd ≡ Some cmd) (uuid_is : told.uuid ≡ r.task.me) where
-    short_by : (image : Image) → length image ≡ lines → IsDamaged (line_at image) lines hosts shared → (p : Params) (limit : ℕ) → super_in (line_at image) (line_bytes * length image) ≡ Ok p → NamesLong p told limit → ⊥
+  module _ {kept : Option Kept} {cmd : Cmd} {me : List ℕ} {words : List ℕ} {made : ℕ} (tied : Tied cmd me lines kept r.task words made)
+      (told : HostPast) (cmd_is : told.cmd ≡ Some cmd) (uuid_is : told.uuid ≡ r.task.me) where
+    short_by : (image : Image) → length image ≡ lines → IsDamaged (line_at image) lines hosts shared → (p : Params) (limit : ℕ)
+        → super_in (line_at image) (line_bytes * length image) ≡ Ok p → NamesLong p told limit → ⊥
     short_by image same stage p limit super names =
         let read : Ok r.task.params ≡ Ok p = sym (super_known image same stage) ∙ super in
         let params : r.task.params ≡ p = cc in
         none_long p r.task.cmd r.task.me told limit (cmd_is ∙ ap Some (sym tied.cmd_is))
         (subst (λ (q : Params). host_refusal (wish_of r.task.cmd) q r.task.me ≡ None) params (behind_free r.task.phase r.task words made behind tied.tie)) names
 
-    short : (image : Image) (damage : Damage) → length image ≡ lines → InvariantBy (settled_bad (line_at image) damage) lines hosts shared → (p : Params) (limit : ℕ) → GivenSuper p image damage → NamesLong p told limit → ⊥
+    short : (image : Image) (damage : Damage) → length image ≡ lines → InvariantBy (settled_bad (line_at image) damage) lines hosts shared
+        → (p : Params) (limit : ℕ) → GivenSuper p image damage → NamesLong p told limit → ⊥
     short image (FewLines n) same stage p limit super names = super
     short image (past.NoSuperblock fault) same stage p limit super names = super
     short image (past.BadHeader fault) same stage p limit super names = short_by image same stage p limit super names
     short image (past.BadSlot i reason) same stage p limit super names = short_by image same stage p limit super names
 
-    owns : (state : State) → ((i : Image) (d : Damage) (g : ℕ) → state ≡ Bad (Given i) d g → IsOwnDamage lines i d g) → (now : Lines) → InvariantBy (settled_of state now) lines hosts shared → Owns cmd told state
+    owns : (state : State) → ((i : Image) (d : Damage) (g : ℕ) → state ≡ Bad (Given i) d g → IsOwnDamage lines i d g) → (now : Lines)
+        → InvariantBy (settled_of state now) lines hosts shared → Owns cmd told state
     owns (Sound p history pending) own now stage = tt
     owns (Bad Halted damage gate) own now stage = record { own = λ wish master is. absurd cc; fits = λ p limit super names. super }
     owns (Bad (Given image) damage gate) own now stage =

@@ -50,17 +50,20 @@ module _ (m : ℕ) where
   shows_keeps : (n : ℕ) (s : State) → m ≤ length (history_at s) → Keeps m s (shows n s)
   shows_keeps n (Bad origin damage gate) within = keeps_same m (Bad origin damage gate) within
   shows_keeps n (Sound p history pending) within =
-      keeps_either (n == length history + 1) m (Sound p history pending) (Sound p (with_pending history pending) None) (Sound p history pending) (keeps_joined m p history pending None within) (keeps_same m (Sound p history pending) within)
+      keeps_either (n == length history + 1) m (Sound p history pending) (Sound p (with_pending history pending) None) (Sound p history pending)
+      (keeps_joined m p history pending None within) (keeps_same m (Sound p history pending) within)
 
   finds_keeps : (n : ℕ) (s : State) → m ≤ length (history_at s) → Keeps m s (finds n s)
   finds_keeps n (Bad origin damage gate) within = keeps_same m (Bad origin damage gate) within
   finds_keeps n (Sound p history pending) within =
-      keeps_either (n == length history) m (Sound p history pending) (Sound p history None) (shows n (Sound p history pending)) (record { within = within; same = refl }) (shows_keeps n (Sound p history pending) within)
+      keeps_either (n == length history) m (Sound p history pending) (Sound p history None) (shows n (Sound p history pending))
+      (record { within = within; same = refl }) (shows_keeps n (Sound p history pending) within)
 
   acknowledges_keeps : (seq : ℕ) (s : State) → m ≤ length (history_at s) → Keeps m s (acknowledges seq s)
   acknowledges_keeps seq (Bad origin damage gate) within = keeps_same m (Bad origin damage gate) within
   acknowledges_keeps seq (Sound p history pending) within =
-      keeps_either (seq == length history) m (Sound p history pending) (Sound p (with_pending history pending) None) (Sound p history pending) (keeps_joined m p history pending None within) (keeps_same m (Sound p history pending) within)
+      keeps_either (seq == length history) m (Sound p history pending) (Sound p (with_pending history pending) None) (Sound p history pending)
+      (keeps_joined m p history pending None within) (keeps_same m (Sound p history pending) within)
 
   pends_keeps : (f : File) (s : State) → m ≤ length (history_at s) → Keeps m s (pends f s)
   pends_keeps f (Bad origin damage gate) within = keeps_same m (Bad origin damage gate) within
@@ -203,7 +206,8 @@ module _ (start : Image) (two : TwoAnswers start) where
       let bad : y.state ≡ Bad i d g = notes_bad two.between (past_after x note) i d g two.none (note_bad x i d g note refl is) in
       take_nothing two.m ∙ sym (ap (λ (s : State). take two.m (answerable_entries s)) bad ∙ take_nothing two.m)
   at_state (Sound p history pending) is =
-      let legal = by_host (slice_get x.hosts two.first_host) (Sound p history pending) (subst (λ (s : State). OfHost (slice_get x.hosts two.first_host) (λ host. ReplyAllowed two.first host s)) is first_legal) in
+      let legal = by_host (slice_get x.hosts two.first_host) (Sound p history pending)
+      (subst (λ (s : State). OfHost (slice_get x.hosts two.first_host) (λ host. ReplyAllowed two.first host s)) is first_legal) in
       let high : two.m ≤ length (with_pending history pending) = bound p history pending legal.0 two.first two.m legal.1 two.first_count in
       let after : (past_after x note).state ≡ shows two.m (Sound p history pending) = counted two.first two.m x.state two.first_count ∙ ap (shows two.m) is in
       let settled : Settled p history pending two.m (past_after x note).state = subst (Settled p history pending two.m) (sym after) (shown p history pending two.m high) in

@@ -30,7 +30,9 @@ use Rattle.fam_journal.specs.Past.{State, Sound, HostPast, Past, cmd_of, filled_
 use Rattle.fam_journal.proofs.Settled.LongPaths.{names_long}
 use Rattle.fam_journal.proofs.Settled.Settles.{acknowledged, acknowledges_settles, finds_settles, shows_settles, length-pending}
 
-module _ (p : Params) (history : List File) (pending : Option File) (start : Image) (hosts : List HostPast) (h : ℕ) (told : HostPast) (host_is : slice_get hosts h ≡ Some told) (t : Task) (cmd_is : told.cmd ≡ Some t.cmd) (me : told.uuid ≡ t.me) (have : ℕ) (uuid : ℕ → Option (List ℕ)) (master : Option ℕ) where
+module _ (p : Params) (history : List File) (pending : Option File) (start : Image) (hosts : List HostPast) (h : ℕ) (told : HostPast)
+    (host_is : slice_get hosts h ≡ Some told) (t : Task) (cmd_is : told.cmd ≡ Some t.cmd) (me : told.uuid ≡ t.me) (have : ℕ)
+    (uuid : ℕ → Option (List ℕ)) (master : Option ℕ) where
   abbrev sys : System
   sys = record { params = p; have = have; uuid = uuid; master = master }
 
@@ -73,7 +75,8 @@ module _ (p : Params) (history : List File) (pending : Option File) (start : Ima
   none_pending (Some f) same = absurd (omega (arith, same, length-pending history f))
 
   named_settles : (e : Entry) (next : Task) (o : Option File) → o ≡ None → next.cmd ≡ t.cmd
-      → Known p (with_pending history (Some (record { entry = e; bytes = filled_bytes (cmd_of (slice_get hosts h)) e.size }))) (length history) ≡ Known p (with_pending history o ++ new_file next e ∷ []) (length history)
+      → Known p (with_pending history (Some (record { entry = e; bytes = filled_bytes (cmd_of (slice_get hosts h)) e.size }))) (length history)
+      ≡ Known p (with_pending history o ++ new_file next e ∷ []) (length history)
   named_settles e next o none same =
       ap (λ (bytes : List ℕ). Known p (history ++ record { entry = e; bytes = bytes } ∷ []) (length history)) (bytes_same next.cmd e.size same)
       ∙ ap (λ (o : Option File). Known p (with_pending history o ++ new_file next e ∷ []) (length history)) (sym none)

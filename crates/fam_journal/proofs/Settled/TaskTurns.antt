@@ -40,7 +40,8 @@ told_uuid (Writes seq e next) n told = refl
 told_uuid (Ends given) n told = refl
 
 module _ (x : Past) (h : ℕ) where
-  pub told_here : (turn : Turn) (told : HostPast) → slice_get x.hosts h ≡ Some told → slice_get (past_behind x (notes_of h (note_of turn))).hosts h ≡ Some (told_after turn (settled_length x.state) told)
+  pub told_here : (turn : Turn) (told : HostPast) → slice_get x.hosts h ≡ Some told → slice_get (past_behind x (notes_of h (note_of turn))).hosts h
+      ≡ Some (told_after turn (settled_length x.state) told)
   told_here (Goes next) told is = is
   told_here (Marks next) told is = changed_at_member h (λ (y : HostPast). record y { floor = Some (settled_length x.state) }) x.hosts told is
   told_here (Finds n next) told is = is
@@ -70,14 +71,16 @@ settled_same (Bad origin (past.NoSuperblock fault) gate) now = refl
 settled_same (Bad origin (past.BadHeader fault) gate) now = refl
 settled_same (Bad origin (past.BadSlot i reason) gate) now = refl
 
-module _ (kept : Option Kept) (cmd : Cmd) (me : List ℕ) (lines : ℕ) (t : Task) (words : List ℕ) (made word : ℕ) (joined : IsKept kept) (standing : StandsFor kept cmd me lines t words made) (turn : Turn) (is : turn_given t word ≡ turn) where
+module _ (kept : Option Kept) (cmd : Cmd) (me : List ℕ) (lines : ℕ) (t : Task) (words : List ℕ) (made word : ℕ) (joined : IsKept kept)
+    (standing : StandsFor kept cmd me lines t words made) (turn : Turn) (is : turn_given t word ≡ turn) where
   -- the task that goes on stands for the command too
   pub next_stands : (next : Task) → task_after turn ≡ Some next → StandsFor kept cmd me lines next (with_given words (given_by (op_of t) word)) (made + 1)
   next_stands next goes = stands.goes word standing (ap task_after is ∙ goes)
 
   pub next_command : (next : Task) → task_after turn ≡ Some next → next.cmd ≡ t.cmd
   next_command next goes =
-      (standing_tied kept cmd me lines next (with_given words (given_by (op_of t) word)) (made + 1) joined (next_stands next goes)).cmd_is ∙ sym (standing_tied kept cmd me lines t words made joined standing).cmd_is
+      (standing_tied kept cmd me lines next (with_given words (given_by (op_of t) word)) (made + 1) joined (next_stands next goes)).cmd_is
+      ∙ sym (standing_tied kept cmd me lines t words made joined standing).cmd_is
 
   -- the journal has of the task what it should
   pub task_told : (told : HostPast) → TaskTold t told → (x : Turn) (n : ℕ) → turn ≡ x → IfRuns (task_after x) (told_after x n told)

@@ -53,9 +53,12 @@ unfit_listing source cause after bytes copied (inr x) = unfit_as (ask.Check sour
 
 source_unfit : (files : Files) (copied : ℕ) (what : Ask) (cause : Refusal) (after : ℕ) → SourceSays files copied what (Unfit cause after) → UnfitShape what cause
 source_unfit files copied (ask.Plain c) cause after says = absurd cc
-source_unfit files copied (ask.Cp source path attr stripe) cause after says = unfit_bytes (ask.Cp source path attr stripe) source refl (finmap.get files source) copied _ cause after (λ bytes copied says. absurd cc) says
-source_unfit files copied (ask.VerifySource path source) cause after says = unfit_bytes (ask.VerifySource path source) source refl (finmap.get files source) copied _ cause after (λ bytes copied says. absurd cc) says
-source_unfit files copied (ask.Check source) cause after says = unfit_bytes (ask.Check source) source refl (finmap.get files source) copied ListingIs cause after (unfit_listing source cause after) says
+source_unfit files copied (ask.Cp source path attr stripe) cause after says = unfit_bytes (ask.Cp source path attr stripe) source refl
+    (finmap.get files source) copied _ cause after (λ bytes copied says. absurd cc) says
+source_unfit files copied (ask.VerifySource path source) cause after says = unfit_bytes (ask.VerifySource path source) source refl
+    (finmap.get files source) copied _ cause after (λ bytes copied says. absurd cc) says
+source_unfit files copied (ask.Check source) cause after says = unfit_bytes (ask.Check source) source refl (finmap.get files source) copied ListingIs
+    cause after (unfit_listing source cause after) says
 
 -- the command of a source that is read is one of the ask's
 ready_as : (what : Ask) (mine c : Cmd) (copied after : ℕ) → AskShape what mine → Ready c after ≡ Ready mine copied → AskShape what c
@@ -81,7 +84,8 @@ ready_listing source c after bytes copied (inr x) = absurd (let e = x.2 in cc)
 source_ready : (files : Files) (copied : ℕ) (what : Ask) (c : Cmd) (after : ℕ) → SourceSays files copied what (Ready c after) → AskShape what c
 source_ready files copied (ask.Plain own) c after says = ready_as (ask.Plain own) own c copied after refl says
 source_ready files copied (ask.Cp source path attr stripe) c after says =
-    ready_bytes (ask.Cp source path attr stripe) source (finmap.get files source) copied _ c after (λ bytes copied says. ready_as (ask.Cp source path attr stripe) _ c copied after (bytes, refl) says) says
+    ready_bytes (ask.Cp source path attr stripe) source (finmap.get files source) copied _ c after
+    (λ bytes copied says. ready_as (ask.Cp source path attr stripe) _ c copied after (bytes, refl) says) says
 source_ready files copied (ask.VerifySource path source) c after says =
     ready_bytes (ask.VerifySource path source) source (finmap.get files source) copied _ c after (λ bytes copied says. ready_as (ask.VerifySource path source) _ c copied after (bytes, refl) says) says
 source_ready files copied (ask.Check source) c after says = ready_bytes (ask.Check source) source (finmap.get files source) copied ListingIs c after (ready_listing source c after) says
@@ -94,19 +98,22 @@ mounts_asked (ask.VerifySource path source) c is = ap is_mount (sym is.1)
 mounts_asked (ask.Check source) c is = ap is_mount (sym is.1)
 
 -- the host of a command that begins may begin it
-pub begun_free : (files : Files) (name : List ℕ) (what : Ask) (old new : Session) (notes : List Note) → (x : CommandBegins files name what old notes new) → may_begin name (is_mount x.cmd) old.machines ≡ None
+pub begun_free : (files : Files) (name : List ℕ) (what : Ask) (old new : Session) (notes : List Note)
+    → (x : CommandBegins files name what old notes new) → may_begin name (is_mount x.cmd) old.machines ≡ None
 begun_free files name what old new notes x =
     sym (ap (λ (mount : Bool). may_begin name mount old.machines) (mounts_asked what x.cmd (source_ready files old.copied what x.cmd x.copied x.says))) ∙ x.free
 
 -- Events.
 
 -- a host that begins a command keeps its name
-names_started : (name : List ℕ) (h : ℕ) (cmd : Cmd) (hosts : List HostShape) (i : ℕ) → index_from i (has_name name) (map shown_shape (shapes_after hosts (Start h cmd))) ≡ index_from i (has_name name) (map shown_shape hosts)
+names_started : (name : List ℕ) (h : ℕ) (cmd : Cmd) (hosts : List HostShape) (i : ℕ)
+    → index_from i (has_name name) (map shown_shape (shapes_after hosts (Start h cmd))) ≡ index_from i (has_name name) (map shown_shape hosts)
 names_started name h cmd [] i = refl
 names_started name zero cmd (x ∷ hosts) i = refl
 names_started name (suc h) cmd (x ∷ hosts) i = ap (λ (o : Option ℕ). if has_name name (shown_shape x) then Some i else o) (names_started name h cmd hosts (i + 1))
 
-number_started : (lines : ℕ) (hosts : List HostShape) (h : ℕ) (cmd : Cmd) (name : List ℕ) → number_of name (shown_shapes lines (shapes_after hosts (Start h cmd))) ≡ number_of name (shown_shapes lines hosts)
+number_started : (lines : ℕ) (hosts : List HostShape) (h : ℕ) (cmd : Cmd) (name : List ℕ)
+    → number_of name (shown_shapes lines (shapes_after hosts (Start h cmd))) ≡ number_of name (shown_shapes lines hosts)
 number_started lines hosts h cmd name = names_started name h cmd hosts 0
 
 module _ (lines : ℕ) (files : Files) (old : Session) (hosts : List HostShape) (shaped : AreShaped lines old.machines hosts) where
@@ -137,24 +144,34 @@ module _ (lines : ℕ) (files : Files) (old : Session) (hosts : List HostShape) 
     unfolding call.refusal_of
     begun new notes x =
         let r = row (call.Begins name x.cmd) notes new.machines x.does in
-        by_number (number_of name told) refl r.next (subst (λ (o : Option Refusal). ShapeByRefusal name o notes (Rattle.fam_journal.specs.Shapes.FreeShape (call.Begins name x.cmd) lines hosts notes)) (sym (may name (is_mount x.cmd)) ∙ begun_free files name what old new notes x) r.shape)
+        by_number (number_of name told) refl r.next
+        (subst (λ (o : Option Refusal).
+        ShapeByRefusal name o notes (Rattle.fam_journal.specs.Shapes.FreeShape (call.Begins name x.cmd) lines hosts notes))
+        (sym (may name (is_mount x.cmd)) ∙ begun_free files name what old new notes x) r.shape)
       where
-        at_host : (h : ℕ) → number_of name told ≡ Some h → AreShaped lines new.machines (shapes_behind hosts notes) → (o : Option HostShape) → Rattle.fam_journal.specs.Shapes.OfHostShape o (λ f. notes ≡ Start h x.cmd ∷ []) → Began name what notes new.machines
+        at_host : (h : ℕ) → number_of name told ≡ Some h → AreShaped lines new.machines (shapes_behind hosts notes) → (o : Option HostShape)
+            → Rattle.fam_journal.specs.Shapes.OfHostShape o (λ f. notes ≡ Start h x.cmd ∷ []) → Began name what notes new.machines
         at_host h n next None y = absurd y
         at_host h n next (Some f) y = record { host = h; number = n; cmd = x.cmd; asked = source_ready files old.copied what x.cmd x.copied x.says; notes_are = y; next = next }
 
-        by_number : (o : Option ℕ) → number_of name told ≡ o → AreShaped lines new.machines (shapes_behind hosts notes) → Rattle.fam_journal.specs.Shapes.AtShape o hosts (λ h f. notes ≡ Start h x.cmd ∷ []) → Began name what notes new.machines
+        by_number : (o : Option ℕ) → number_of name told ≡ o → AreShaped lines new.machines (shapes_behind hosts notes)
+            → Rattle.fam_journal.specs.Shapes.AtShape o hosts (λ h f. notes ≡ Start h x.cmd ∷ []) → Began name what notes new.machines
         by_number None n next y = absurd y
         by_number (Some h) n next y = at_host h n next (slice_get hosts h) y
 
     -- nothing may begin, or the free shape
-    freed : (Q : ℕ → List HostShape → List Note → Type 0) (notes : List Note) → may_begin name (mounts what) m ≡ None → UnfitNotes name what notes ⊎ StartShape Q name what lines hosts notes → BeginForm Q name what lines hosts notes
-    freed Q notes free x = subst (λ (o : Option Refusal). ShapeByRefusal name o notes (UnfitNotes name what notes ⊎ StartShape Q name what lines hosts notes)) (sym (sym (may name (mounts what)) ∙ free)) x
+    freed : (Q : ℕ → List HostShape → List Note → Type 0) (notes : List Note) → may_begin name (mounts what) m ≡ None
+        → UnfitNotes name what notes ⊎ StartShape Q name what lines hosts notes → BeginForm Q name what lines hosts notes
+    freed Q notes free x = subst (λ (o : Option Refusal).
+        ShapeByRefusal name o notes (UnfitNotes name what notes ⊎ StartShape Q name what lines hosts notes))
+        (sym (sym (may name (mounts what)) ∙ free)) x
 
-    refused : (Q : ℕ → List HostShape → List Note → Type 0) (new : Session) (notes : List Note) → RefusesEvent files name what old notes new → Shaped (BeginForm Q name what lines hosts) lines hosts notes new.machines
+    refused : (Q : ℕ → List HostShape → List Note → Type 0) (new : Session) (notes : List Note) → RefusesEvent files name what old notes new
+        → Shaped (BeginForm Q name what lines hosts) lines hosts notes new.machines
     unfolding call.refusal_of
     refused Q new notes (inl x) = record {
-      shape = subst (λ (o : Option Refusal). ShapeByRefusal name o notes (UnfitNotes name what notes ⊎ StartShape Q name what lines hosts notes)) (sym (sym (may name (mounts what)) ∙ x.first)) x.notes_are;
+      shape = subst (λ (o : Option Refusal). ShapeByRefusal name o notes (UnfitNotes name what notes ⊎ StartShape Q name what lines hosts notes))
+          (sym (sym (may name (mounts what)) ∙ x.first)) x.notes_are;
       next = subst (λ (z : List Note). AreShaped lines new.machines (shapes_behind hosts z)) (sym x.notes_are) (subst (λ (z : Session). AreShaped lines z.machines hosts) (sym x.same) shaped);
     }
     refused Q new notes (inr x) = record {
@@ -177,7 +194,9 @@ module _ (lines : ℕ) (files : Files) (old : Session) (hosts : List HostShape) 
     goes P Q each new notes x =
         let b = begun x.mid x.first x.begun in
         let behind : AreShaped lines x.mid.machines (shapes_after hosts (Start b.host b.cmd)) = subst (λ (z : List Note). AreShaped lines x.mid.machines (shapes_behind hosts z)) b.notes_are b.next in
-        let same : x.host ≡ b.host = same_Some x.host b.host (sym x.number ∙ number_told lines x.mid.machines (shapes_after hosts (Start b.host b.cmd)) behind name ∙ number_started lines hosts b.host b.cmd name ∙ b.number) in
+        let same : x.host ≡ b.host = same_Some x.host b.host
+        (sym x.number ∙ number_told lines x.mid.machines (shapes_after hosts (Start b.host b.cmd)) behind name
+        ∙ number_started lines hosts b.host b.cmd name ∙ b.number) in
         let r = each b.host x.mid.machines (shapes_after hosts (Start b.host b.cmd)) behind x.rest new.machines (subst (λ (h : ℕ). P h x.mid.machines x.rest new.machines) same x.does) in
         let all : notes ≡ Start b.host b.cmd ∷ x.rest = x.joined ∙ ap (λ (z : List Note). z ++ x.rest) b.notes_are in
         record {
@@ -186,12 +205,14 @@ module _ (lines : ℕ) (files : Files) (old : Session) (hosts : List HostShape) 
         }
 
   -- operations of a host that has a task
-  steps : (name : List ℕ) (count : ℕ) (notes : List Note) (new : Machines) (h : ℕ) → number_of name m ≡ Some h → DoesOperations h count m notes new → Shaped (StepsShape count name lines hosts) lines hosts notes new
+  steps : (name : List ℕ) (count : ℕ) (notes : List Note) (new : Machines) (h : ℕ) → number_of name m ≡ Some h → DoesOperations h count m notes new
+      → Shaped (StepsShape count name lines hosts) lines hosts notes new
   steps name count notes new h n x =
       let o = operates_shape lines h count m hosts shaped notes new x in
       record { shape = record { host = h; number = sym (number_told lines m hosts shaped name) ∙ n; operations = o.shape; within = o.within }; next = o.next }
 
-  step_freed : (name : List ℕ) (count h : ℕ) (notes : List Note) → number_of name m ≡ Some h → idle_refusal h m ≡ None → StepsShape count name lines hosts notes → StepShape count name lines hosts notes
+  step_freed : (name : List ℕ) (count h : ℕ) (notes : List Note) → number_of name m ≡ Some h → idle_refusal h m ≡ None
+      → StepsShape count name lines hosts notes → StepShape count name lines hosts notes
   step_freed name count h notes n idle x =
       subst (λ (o : Option Refusal). ShapeByRefusal name o notes (StepsShape count name lines hosts notes))
       (sym (sym (step_told lines m hosts shaped name) ∙ ap (λ (o : Option ℕ). on_host o (λ h. idle_refusal h m)) n ∙ idle)) x
@@ -202,7 +223,8 @@ module _ (lines : ℕ) (files : Files) (old : Session) (hosts : List HostShape) 
     next = subst (λ (z : List Note). AreShaped lines new.machines (shapes_behind hosts z)) (sym x.notes_are) (subst (λ (z : Session). AreShaped lines z.machines hosts) (sym x.same) shaped);
   }
 
-  completes : (h : ℕ) (m : Machines) (hosts : List HostShape) → AreShaped lines m hosts → (notes : List Note) (new : Machines) → Completes h m notes new → Shaped (CompletesShape h hosts) lines hosts notes new
+  completes : (h : ℕ) (m : Machines) (hosts : List HostShape) → AreShaped lines m hosts → (notes : List Note) (new : Machines)
+      → Completes h m notes new → Shaped (CompletesShape h hosts) lines hosts notes new
   completes h m hosts shaped notes new x =
       let o = operates_shape lines h x.count m hosts shaped notes new x.does in
       record {
@@ -214,7 +236,8 @@ module _ (lines : ℕ) (files : Files) (old : Session) (hosts : List HostShape) 
   unfinished : (name : List ℕ) (h : ℕ) (notes : List Note) (new : Machines) → number_of name m ≡ Some h → Unfinished h m notes new → SomeShape name lines hosts notes
   unfinished name h notes new n x = record { host = h; number = sym (number_told lines m hosts shaped name) ∙ n; part = (unfinished_shape lines m hosts shaped h notes new x).shape }
 
-  begin_free : (name : List ℕ) (what : Ask) (new : Session) (notes : List Note) → Continues Completes files name what old notes new → Shaped (BeginForm CompletesShape name what lines hosts) lines hosts notes new.machines
+  begin_free : (name : List ℕ) (what : Ask) (new : Session) (notes : List Note) → Continues Completes files name what old notes new
+      → Shaped (BeginForm CompletesShape name what lines hosts) lines hosts notes new.machines
   begin_free name what new notes x =
       let r = goes name what Completes CompletesShape completes new notes x in
       record { shape = freed name what CompletesShape notes x.begun.free (inr r.shape); next = r.next }
@@ -246,7 +269,9 @@ module _ (lines : ℕ) (files : Files) (old : Session) (hosts : List HostShape) 
 -- Runs.
 
 module _ (lines : ℕ) (files : Files) where
-  pub follows_shape : (events : List Event) (old : Session) (hosts : List HostShape) → AreShaped lines old.machines hosts → (journal : List Note) (new : Session) → Follows files events old journal new → Shaped (FollowsShape lines events hosts) lines hosts journal new.machines
+  pub follows_shape : (events : List Event) (old : Session) (hosts : List HostShape) → AreShaped lines old.machines hosts
+      → (journal : List Note) (new : Session) → Follows files events old journal new
+      → Shaped (FollowsShape lines events hosts) lines hosts journal new.machines
   follows_shape [] old hosts shaped journal new x =
       shaped_as (λ z. z ≡ []) lines hosts journal [] new.machines old.machines x.0 (ap (λ (s : Session). s.machines) x.1) record { shape = refl; next = shaped }
   follows_shape (e ∷ events) old hosts shaped journal new x =

@@ -60,7 +60,8 @@ pub failed_length : (through : Breaking) (op : Op) (m : Machine) (x : Failure) �
 failed_length through (Load l k) m x is = brought_length l m (cell_at m.cache l.0) x is
 failed_length through (Store l k value) m x is = brought_length l m (cell_at m.cache l.0) x is
 failed_length through (WriteBack l) m x is = absurd cc
-failed_length through Fence m x is = fence_length through.mask (drop through.sent (asked_lines m.cache)) (send_lines (take through.sent (asked_lines m.cache)) m) x is ∙ send_lines_length (take through.sent (asked_lines m.cache)) m
+failed_length through Fence m x is = fence_length through.mask (drop through.sent (asked_lines m.cache))
+    (send_lines (take through.sent (asked_lines m.cache)) m) x is ∙ send_lines_length (take through.sent (asked_lines m.cache)) m
 failed_length through (Invalidate l) m x is = torn_length l m (failed_send through.mask (line_at m.image l.0) (cell_at m.cache l.0)) x is
 failed_length through Digest m x is = absurd cc
 
@@ -134,21 +135,26 @@ pub record Operated (lines h count : ℕ) (hosts : List HostShape) (notes : List
   pub within : length notes ≤ count
   pub next : AreShaped lines new (shapes_behind hosts notes)
 
-module _ (lines : ℕ) (m : Machines) (hosts : List HostShape) (shaped : AreShaped lines m hosts) (h : ℕ) (host : HostState) (host_is : slice_get m.hosts h ≡ Some host) (f : HostShape) (f_is : slice_get hosts h ≡ Some f) (is : StateShaped lines host f) where
+module _ (lines : ℕ) (m : Machines) (hosts : List HostShape) (shaped : AreShaped lines m hosts) (h : ℕ) (host : HostState)
+    (host_is : slice_get m.hosts h ≡ Some host) (f : HostShape) (f_is : slice_get hosts h ≡ Some f) (is : StateShaped lines host f) where
   -- one host changes
-  pub shape_changed : (x : Machine) (task : Option TaskState) (kept : Option Kept) (k : HostShape → HostShape) → length x.image ≡ length m.memory → StateShaped lines (record host { cache = x.cache; task = task; kept = kept }) (k f) → AreShaped lines (with_parts h x task kept m) (changed_at h k hosts)
+  pub shape_changed : (x : Machine) (task : Option TaskState) (kept : Option Kept) (k : HostShape → HostShape) → length x.image ≡ length m.memory
+      → StateShaped lines (record host { cache = x.cache; task = task; kept = kept }) (k f)
+      → AreShaped lines (with_parts h x task kept m) (changed_at h k hosts)
   shape_changed x task kept k same here = record {
     lines_are = same ∙ shaped.lines_are;
     shaped = pairs_changed (StateShaped lines) m.hosts hosts h host f (λ z. record z { cache = x.cache; task = task; kept = kept }) k shaped.shaped host_is f_is here;
   }
 
-  pub shape_went : (x : Machine) (task : Option TaskState) (kept : Option Kept) → length x.image ≡ length m.memory → StateShaped lines (record host { cache = x.cache; task = task; kept = kept }) f → AreShaped lines (with_parts h x task kept m) hosts
+  pub shape_went : (x : Machine) (task : Option TaskState) (kept : Option Kept) → length x.image ≡ length m.memory
+      → StateShaped lines (record host { cache = x.cache; task = task; kept = kept }) f → AreShaped lines (with_parts h x task kept m) hosts
   shape_went x task kept same here = record {
     lines_are = same ∙ shaped.lines_are;
     shaped = pairs_moved (StateShaped lines) m.hosts hosts h host f (λ z. record z { cache = x.cache; task = task; kept = kept }) shaped.shaped host_is f_is here;
   }
 
-  pub shape_moved : (x : Machine) (task : Option TaskState) → length x.image ≡ length m.memory → StateShaped lines (record host { cache = x.cache; task = task }) f → AreShaped lines (with_machine h x task m) hosts
+  pub shape_moved : (x : Machine) (task : Option TaskState) → length x.image ≡ length m.memory
+      → StateShaped lines (record host { cache = x.cache; task = task }) f → AreShaped lines (with_machine h x task m) hosts
   shape_moved x task same here = record {
     lines_are = same ∙ shaped.lines_are;
     shaped = pairs_moved (StateShaped lines) m.hosts hosts h host f (λ z. record z { cache = x.cache; task = task }) shaped.shaped host_is f_is here;
@@ -191,7 +197,8 @@ module _ (lines : ℕ) (m : Machines) (hosts : List HostShape) (shaped : AreShap
       keeps_joined : (z : Turn) → turn_given t word ≡ z → IsKept (keeps z)
       keeps_joined z e = subst (λ (y : Turn). IsKept (keeps y)) e (kept_joins s.kept s.cmd s.me lines t s.words s.made stands.joined stands.stands word host.kept is.joined)
 
-      goes_on : (z : Turn) (n : Task) (stage : CommandStage) → turn_given t word ≡ z → task_after z ≡ Some n → IsNext t.me t.cmd stage n → IsStateTask lines host.uuid (task_on s got) (record { cmd = g.cmd; stage = stage })
+      goes_on : (z : Turn) (n : Task) (stage : CommandStage) → turn_given t word ≡ z → task_after z ≡ Some n → IsNext t.me t.cmd stage n
+          → IsStateTask lines host.uuid (task_on s got) (record { cmd = g.cmd; stage = stage })
       goes_on z n stage e goes next = record {
         task = n;
         stands = record {
@@ -202,18 +209,21 @@ module _ (lines : ℕ) (m : Machines) (hosts : List HostShape) (shaped : AreShap
         is = record { cmd = where_it_is.cmd ∙ sym next.cmd_is; me_is = next.me_is ∙ where_it_is.me_is; stage = sym next.stage_is };
       }
 
-      staged : (z : Turn) (n : Task) (stage : CommandStage) → turn_given t word ≡ z → task_after z ≡ Some n → IsNext t.me t.cmd stage n → f.keeps ≡ is_some (keeps z) → AreShaped lines (with_parts h x (Some (task_on s got)) (keeps z) m) (changed_at h (with_stage stage) hosts)
+      staged : (z : Turn) (n : Task) (stage : CommandStage) → turn_given t word ≡ z → task_after z ≡ Some n → IsNext t.me t.cmd stage n
+          → f.keeps ≡ is_some (keeps z) → AreShaped lines (with_parts h x (Some (task_on s got)) (keeps z) m) (changed_at h (with_stage stage) hosts)
       staged z n stage e goes next told =
           shape_changed x (Some (task_on s got)) (keeps z) (with_stage stage) same
           record {
             name = is.name;
             uuid = is.uuid;
-            task = subst (λ (o : Option TaskShape). StateTaskShaped lines host.uuid (Some (task_on s got)) (option_map (λ (y : TaskShape). record y { stage = stage }) o)) (sym g_is) (goes_on z n stage e goes next);
+            task = subst (λ (o : Option TaskShape). StateTaskShaped lines host.uuid (Some (task_on s got))
+                (option_map (λ (y : TaskShape). record y { stage = stage }) o)) (sym g_is) (goes_on z n stage e goes next);
             keeps = told;
             joined = keeps_joined z e;
           }
 
-      turned : (z : Turn) → turn_given t word ≡ z → TurnShape t.me t.cmd (stage_of t) z → Operated lines h 1 hosts (notes_of h (note_of z)) (with_parts h x (machine.task_behind (note_of z) (task_on s got)) (keeps z) m)
+      turned : (z : Turn) → turn_given t word ≡ z → TurnShape t.me t.cmd (stage_of t) z
+          → Operated lines h 1 hosts (notes_of h (note_of z)) (with_parts h x (machine.task_behind (note_of z) (task_on s got)) (keeps z) m)
       turned (Goes n) e next = record {
         shape = tt;
         within = omega arith;
@@ -221,7 +231,9 @@ module _ (lines : ℕ) (m : Machines) (hosts : List HostShape) (shaped : AreShap
             record {
               name = is.name;
               uuid = is.uuid;
-              task = subst (λ (o : Option TaskShape). StateTaskShaped lines host.uuid (Some (task_on s got)) o) (sym (g_is ∙ ap (λ (at : CommandStage). Some (record { cmd = g.cmd; stage = at })) where_it_is.stage)) (goes_on (Goes n) n (stage_of t) e refl next);
+              task = subst (λ (o : Option TaskShape). StateTaskShaped lines host.uuid (Some (task_on s got)) o)
+                  (sym (g_is ∙ ap (λ (at : CommandStage). Some (record { cmd = g.cmd; stage = at })) where_it_is.stage))
+                  (goes_on (Goes n) n (stage_of t) e refl next);
               keeps = keeps_told (Goes n);
               joined = keeps_joined (Goes n) e;
             };
@@ -244,7 +256,8 @@ module _ (lines : ℕ) (m : Machines) (hosts : List HostShape) (shaped : AreShap
       turned (Ends given) e next = record {
         shape = (running (note.Answered h (note.Replied given)) (refl, reply_shape given next), tt);
         within = omega arith;
-        next = shape_changed x None (keeps (Ends given)) (λ z. record z { task = None; keeps = keeps_behind (note.Replied given) z.keeps }) same record { name = is.name; uuid = is.uuid; task = tt; keeps = keeps_told (Ends given); joined = keeps_joined (Ends given) e };
+        next = shape_changed x None (keeps (Ends given)) (λ z. record z { task = None; keeps = keeps_behind (note.Replied given) z.keeps }) same
+            record { name = is.name; uuid = is.uuid; task = tt; keeps = keeps_told (Ends given); joined = keeps_joined (Ends given) e };
       }
 
     abbrev own : Machine
@@ -272,7 +285,11 @@ module _ (lines : ℕ) (m : Machines) (hosts : List HostShape) (shaped : AreShap
     served_shape : (d : Done) → served h m host s (op_of t) (Some (note_of (turn_given t word))) ≡ Some d → Operated lines h 1 hosts d.notes d.left
     served_shape d done =
         subst (λ (z : Done). Operated lines h 1 hosts z.notes z.left)
-        (ap (λ (k : Option Kept). record { notes = notes_of h (note_of (turn_given t word)); left = with_parts h (operated (op_of t) own) (machine.task_behind (note_of (turn_given t word)) (task_on s (given (op_of t) own))) k m }) (sym keeps_is) ∙ same_Some _ d done)
+        (ap (λ (k : Option Kept). record {
+          notes = notes_of h (note_of (turn_given t word));
+          left = with_parts h (operated (op_of t) own)
+              (machine.task_behind (note_of (turn_given t word)) (task_on s (given (op_of t) own))) k m;
+        }) (sym keeps_is) ∙ same_Some _ d done)
         (turned word (given (op_of t) own) (same_given (op_of t) own) (operated (op_of t) own) (operated_length (op_of t) own) (turn_given t word) refl (turn_shape t word))
 
     cut_shape : (o : Option Failure) → ((x : Failure) → o ≡ Some x → length x.left.image ≡ length m.memory) → (d : Done) → cut_task h m o ≡ Some d → Operated lines h 1 hosts d.notes d.left
@@ -293,13 +310,15 @@ module _ (lines : ℕ) (m : Machines) (hosts : List HostShape) (shaped : AreShap
     task_shape outcome d done = op_shape outcome d (subst (λ (o : Option Op). op_done outcome h m host s o ≡ Some d) op_is done)
 
   -- by the host's task
-  by_task : (outcome : Outcome) (d : Done) (o : Option TaskState) → host.task ≡ o → (p : Option TaskShape) → f.task ≡ p → StateTaskShaped lines host.uuid o p → task_done outcome h m host o ≡ Some d → Operated lines h 1 hosts d.notes d.left
+  by_task : (outcome : Outcome) (d : Done) (o : Option TaskState) → host.task ≡ o → (p : Option TaskShape) → f.task ≡ p
+      → StateTaskShaped lines host.uuid o p → task_done outcome h m host o ≡ Some d → Operated lines h 1 hosts d.notes d.left
   by_task outcome d None e p e2 at done = absurd cc
   by_task outcome d (Some s) e None e2 at done = absurd at
   by_task outcome d (Some s) e (Some g) e2 at done = task_shape s e g e2 at.task at.stands at.is outcome d done
 
 -- notes of operations behind others
-pub operations_both : (h : ℕ) (hosts : List HostShape) (notes more : List Note) → OperationsShape h hosts notes → OperationsShape h (shapes_behind hosts notes) more → OperationsShape h hosts (notes ++ more)
+pub operations_both : (h : ℕ) (hosts : List HostShape) (notes more : List Note) → OperationsShape h hosts notes
+    → OperationsShape h (shapes_behind hosts notes) more → OperationsShape h hosts (notes ++ more)
 operations_both h hosts [] more first rest = rest
 operations_both h hosts (note ∷ notes) more first rest = (first.0, operations_both h (shapes_after hosts note) notes more first.1 rest)
 
@@ -319,7 +338,8 @@ module _ (lines h : ℕ) where
       subst (λ (z : List Note). Operated lines h count hosts z new) (sym e)
       record { shape = tt; within = omega arith; next = subst (λ (z : Machines). AreShaped lines z hosts) (sym same) shaped }
 
-  pub operates_shape : (count : ℕ) (m : Machines) (hosts : List HostShape) → AreShaped lines m hosts → (notes : List Note) (new : Machines) → DoesOperations h count m notes new → Operated lines h count hosts notes new
+  pub operates_shape : (count : ℕ) (m : Machines) (hosts : List HostShape) → AreShaped lines m hosts → (notes : List Note) (new : Machines)
+      → DoesOperations h count m notes new → Operated lines h count hosts notes new
   operates_shape zero m hosts shaped notes new o = quiet_shape m hosts 0 shaped notes new o.0 o.1
   operates_shape (suc count) m hosts shaped notes new (inl o) = quiet_shape m hosts (suc count) shaped notes new o.1 o.2
   operates_shape (suc count) m hosts shaped notes new (inr o) =

@@ -32,7 +32,8 @@ module _ {A B : Type 0} (P : A → B → Type 0) where
   pairs_at (a ∷ xs) (b ∷ ys) (suc h) x all is = pairs_at xs ys h x all.1 is
 
   -- both change there
-  pub pairs_changed : (xs : List A) (ys : List B) (h : ℕ) (x : A) (y : B) (g : A → A) (k : B → B) → Pairs P xs ys → slice_get xs h ≡ Some x → slice_get ys h ≡ Some y → P (g x) (k y) → Pairs P (changed_at h g xs) (changed_at h k ys)
+  pub pairs_changed : (xs : List A) (ys : List B) (h : ℕ) (x : A) (y : B) (g : A → A) (k : B → B) → Pairs P xs ys → slice_get xs h ≡ Some x
+      → slice_get ys h ≡ Some y → P (g x) (k y) → Pairs P (changed_at h g xs) (changed_at h k ys)
   pairs_changed [] [] h x y g k all x_is y_is here = absurd cc
   pairs_changed [] (b ∷ ys) h x y g k all x_is y_is here = absurd all
   pairs_changed (a ∷ xs) [] h x y g k all x_is y_is here = absurd all
@@ -59,7 +60,8 @@ dirty_other maker i (x ∷ xs) k is = by_test (i == maker) refl (nat_lt 0 (dirty
     further : (k ≢ maker) × (k < (i + 1) + length xs) → (k ≢ maker) × (k < i + length (x ∷ xs))
     further rest = let below = rest.1 in (rest.0, omega (arith, below))
 
-    by_test : (b : Bool) → (i == maker) ≡ b → (d : Bool) → (dirty_from maker (i + 1) xs ≡ Some k → (k ≢ maker) × (k < (i + 1) + length xs)) → (if not b && d then Some i else dirty_from maker (i + 1) xs) ≡ Some k → (k ≢ maker) × (k < i + length (x ∷ xs))
+    by_test : (b : Bool) → (i == maker) ≡ b → (d : Bool) → (dirty_from maker (i + 1) xs ≡ Some k → (k ≢ maker) × (k < (i + 1) + length xs))
+        → (if not b && d then Some i else dirty_from maker (i + 1) xs) ≡ Some k → (k ≢ maker) × (k < i + length (x ∷ xs))
     by_test true e d rest is = further (rest is)
     by_test false e false rest is = further (rest is)
     by_test false e true rest is =

@@ -35,7 +35,8 @@ pub record Shaped (P : List Note → Type 0) (lines : ℕ) (hosts : List HostSha
   pub shape : P notes
   pub next : AreShaped lines new (shapes_behind hosts notes)
 
-pub shaped_as : (P : List Note → Type 0) (lines : ℕ) (hosts : List HostShape) (notes told : List Note) (new left : Machines) → notes ≡ told → new ≡ left → Shaped P lines hosts told left → Shaped P lines hosts notes new
+pub shaped_as : (P : List Note → Type 0) (lines : ℕ) (hosts : List HostShape) (notes told : List Note) (new left : Machines) → notes ≡ told
+    → new ≡ left → Shaped P lines hosts told left → Shaped P lines hosts notes new
 shaped_as P lines hosts notes told new left e f is =
     subst (λ (z : Machines). Shaped P lines hosts notes z) (sym f) (subst (λ (z : List Note). Shaped P lines hosts z left) (sym e) is)
 
@@ -113,7 +114,12 @@ module _ (lines : ℕ) (m : Machines) (hosts : List HostShape) (shaped : AreShap
                 record {
                   name = is.name;
                   uuid = is.uuid;
-                  task = record { task = mounted host.kept cmd host.uuid lines; stands = record { joined = is.joined; stands = standing.starts }; is = record { cmd = refl; me_is = refl; stage = refl } };
+                  task = record {
+                    task = mounted host.kept cmd host.uuid lines;
+                    stands = record { joined = is.joined; stands = standing.starts };
+                    is =
+                        record { cmd = refl; me_is = refl; stage = refl };
+                  };
                   keeps = is.keeps;
                   joined = is.joined;
                 };
@@ -191,14 +197,19 @@ module _ (lines : ℕ) (m : Machines) (hosts : List HostShape) (shaped : AreShap
         shaped_as (FreeShape (call.Declares name uuid) lines hosts) lines hosts notes _ new _ x.0 x.1
         record {
           shape = refl;
-          next = record { lines_are = shaped.lines_are; shaped = pairs_last (StateShaped lines) m.hosts hosts _ _ shaped.shaped record { name = refl; uuid = refl; task = tt; keeps = refl; joined = tt } };
+          next = record {
+            lines_are = shaped.lines_are;
+            shaped =
+                pairs_last (StateShaped lines) m.hosts hosts _ _ shaped.shaped record { name = refl; uuid = refl; task = tt; keeps = refl; joined = tt };
+          };
         }
     acts_shape (call.Refuses name cause) x = noted (FreeShape (call.Refuses name cause) lines hosts) name cause (refl, may_refuse name cause x.2) x.0 x.1
     acts_shape (call.Makes name request) x = let a = acts_of (call.Makes name request) x in record { shape = inl a.shape; next = a.next }
     acts_shape e x = acts_of e x
 
     -- by the first refusal, which is the same
-    by_same : (P : List Note → Type 0) (name : List ℕ) (A : Type 0) (o r : Option Refusal) → o ≡ r → (A → Shaped P lines hosts notes new) → ByRefusal name o notes m new A → Shaped (λ z. ShapeByRefusal name r z (P z)) lines hosts notes new
+    by_same : (P : List Note → Type 0) (name : List ℕ) (A : Type 0) (o r : Option Refusal) → o ≡ r → (A → Shaped P lines hosts notes new)
+        → ByRefusal name o notes m new A → Shaped (λ z. ShapeByRefusal name r z (P z)) lines hosts notes new
     by_same P name A None None e acts x = let a = acts x in record { shape = a.shape; next = a.next }
     by_same P name A None (Some cause) e acts x = absurd cc
     by_same P name A (Some cause) None e acts x = absurd cc
@@ -229,12 +240,14 @@ module _ (lines : ℕ) (m : Machines) (hosts : List HostShape) (shaped : AreShap
       abbrev A : Type 0
       A = Acts makes m notes new
 
-      dirty_case : (h : ℕ) → number_of name told ≡ Some h → (o : Option ℕ) → dirty_from h 0 m.hosts ≡ o → refusal_of makes m ≡ dirty_refusal o → refusal_told makes lines hosts ≡ None → Does makes m notes new → Shaped Shape lines hosts notes new
+      dirty_case : (h : ℕ) → number_of name told ≡ Some h → (o : Option ℕ) → dirty_from h 0 m.hosts ≡ o → refusal_of makes m ≡ dirty_refusal o
+          → refusal_told makes lines hosts ≡ None → Does makes m notes new → Shaped Shape lines hosts notes new
       dirty_case h n None e is free x = does_by makes (is ∙ sym free) x
       dirty_case h n (Some k) e is free x =
           let y : ByRefusal name (Some (why.Dirty (record { 0 = k }))) notes m new A = subst (λ (o : Option Refusal). ByRefusal name o notes m new A) is x in
           noted Shape name (why.Dirty (record { 0 = k }))
-          (subst (λ (o : Option Refusal). ShapeByRefusal name o (Refused name (why.Dirty (record { 0 = k })) ∷ []) (FreeShape makes lines hosts (Refused name (why.Dirty (record { 0 = k })) ∷ []))) (sym free)
+          (subst (λ (o : Option Refusal). ShapeByRefusal name o (Refused name (why.Dirty (record { 0 = k })) ∷ [])
+          (FreeShape makes lines hosts (Refused name (why.Dirty (record { 0 = k })) ∷ []))) (sym free)
           (inr dirty_shape))
           y.0 y.1
         where
@@ -244,7 +257,8 @@ module _ (lines : ℕ) (m : Machines) (hosts : List HostShape) (shaped : AreShap
               let below = other.1 in
               record { maker = h; number = n; dirty = k; declared = omega (arith, below, pairs_length (StateShaped lines) m.hosts hosts shaped.shaped); other = other.0; notes_are = refl }
 
-      by_told : (h : ℕ) → number_of name told ≡ Some h → (r : Option Refusal) → refusal_told makes lines hosts ≡ r → refusal_of makes m ≡ or_else r (dirty_refusal (dirty_from h 0 m.hosts)) → Does makes m notes new → Shaped Shape lines hosts notes new
+      by_told : (h : ℕ) → number_of name told ≡ Some h → (r : Option Refusal) → refusal_told makes lines hosts ≡ r
+          → refusal_of makes m ≡ or_else r (dirty_refusal (dirty_from h 0 m.hosts)) → Does makes m notes new → Shaped Shape lines hosts notes new
       by_told h n (Some cause) e first x = does_by makes (first ∙ sym e) x
       by_told h n None e first x = dirty_case h n (dirty_from h 0 m.hosts) refl first e x
 

@@ -71,7 +71,8 @@ unfolding refusal_of
 finish_as_step name world lines = refl
 
 -- on the machine
-pub busy_is : (start : Image) (state : Machines) (world : WorldView) → Held start state world state.memory → IsShaped world → (h : ℕ) → busy_at h state ≡ runs_shape (slice_get (shapes_of world.journal) h)
+pub busy_is : (start : Image) (state : Machines) (world : WorldView) → Held start state world state.memory → IsShaped world → (h : ℕ)
+    → busy_at h state ≡ runs_shape (slice_get (shapes_of world.journal) h)
 busy_is start state world held shaped h =
     let stands : WorldStands (length state.memory) state world = subst (λ (n : ℕ). WorldStands n state world) (sym held.kept.held.lines) held.stands in
     let f = state_shaped state world stands shaped in
@@ -90,7 +91,8 @@ staged_runs h hosts stage = ap runs_shape (changed_here h (with_stage stage) hos
     by_host None = refl
     by_host (Some f) = by_task f.task
 
-over_runs : (answer : Answer) (h : ℕ) (hosts : List HostShape) → runs_shape (slice_get (changed_at h (λ (f : HostShape). record f { task = None; keeps = keeps_behind answer f.keeps }) hosts) h) ≡ false
+over_runs : (answer : Answer) (h : ℕ) (hosts : List HostShape)
+    → runs_shape (slice_get (changed_at h (λ (f : HostShape). record f { task = None; keeps = keeps_behind answer f.keeps }) hosts) h) ≡ false
 over_runs answer h hosts = ap runs_shape (changed_here h (λ (f : HostShape). record f { task = None; keeps = keeps_behind answer f.keeps }) hosts) ∙ by_host (slice_get hosts h)
   where
     by_host : (o : Option HostShape) → runs_shape (option_map (λ (f : HostShape). record f { task = None; keeps = keeps_behind answer f.keeps }) o) ≡ false
@@ -126,12 +128,14 @@ staged_on host h hosts stage same runs =
     ap (λ (k : ℕ). runs_shape (slice_get (changed_at k (with_stage stage) hosts) h)) same ∙ staged_runs h hosts stage ∙ runs
 
 -- it runs on behind a note that is no answer
-pub note_runs : (h : ℕ) (hosts : List HostShape) (note : Note) → OfRunning (slice_get hosts h) (λ me t. TaskNote h me t note) → runs_shape (slice_get hosts h) ≡ true → runs_shape (slice_get (shapes_after hosts note) h) ≡ not (is_answer_note note)
+pub note_runs : (h : ℕ) (hosts : List HostShape) (note : Note) → OfRunning (slice_get hosts h) (λ me t. TaskNote h me t note)
+    → runs_shape (slice_get hosts h) ≡ true → runs_shape (slice_get (shapes_after hosts note) h) ≡ not (is_answer_note note)
 note_runs h hosts (Mark host) x runs = staged_on host h hosts Marked (of_answer (slice_get hosts h) (λ me t. t.stage ≡ Begun) host h x) runs
 note_runs h hosts (Found host n) x runs = staged_on host h hosts (Met n) (of_three (slice_get hosts h) (λ t. HasWish t.cmd) (λ t. t.stage ≡ Marked) host h x) runs
 note_runs h hosts (Writes host seq entry) x runs = staged_on host h hosts (Named seq) (of_three (slice_get hosts h) (λ t. EntryShape t.cmd entry) (λ t. t.stage ≡ Met seq) host h x) runs
 note_runs h hosts (Answered host answer) x runs =
-    ap (λ (k : ℕ). runs_shape (slice_get (changed_at k (λ (f : HostShape). record f { task = None; keeps = keeps_behind answer f.keeps }) hosts) h)) (of_answer (slice_get hosts h) (λ me t. AnswerShape me t.cmd t.stage answer) host h x) ∙ over_runs answer h hosts
+    ap (λ (k : ℕ). runs_shape (slice_get (changed_at k (λ (f : HostShape). record f { task = None; keeps = keeps_behind answer f.keeps }) hosts) h))
+    (of_answer (slice_get hosts h) (λ me t. AnswerShape me t.cmd t.stage answer) host h x) ∙ over_runs answer h hosts
 note_runs h hosts other x runs = absurd (of_none (slice_get hosts h) x)
 
 or_false : (t : Bool) → Rattle.std.specs.Prelude.◌||◌ t false ≡ t
@@ -139,7 +143,8 @@ or_false true = refl
 or_false false = refl
 
 -- the task runs on unless it answered
-pub step_runs : (h : ℕ) (hosts : List HostShape) (notes : List Note) → OperationsShape h hosts notes → length notes ≤ 1 → runs_shape (slice_get hosts h) ≡ true → runs_shape (slice_get (shapes_behind hosts notes) h) ≡ not (list_any is_answer_note notes)
+pub step_runs : (h : ℕ) (hosts : List HostShape) (notes : List Note) → OperationsShape h hosts notes → length notes ≤ 1
+    → runs_shape (slice_get hosts h) ≡ true → runs_shape (slice_get (shapes_behind hosts notes) h) ≡ not (list_any is_answer_note notes)
 step_runs h hosts [] x short runs = runs
 step_runs h hosts (note ∷ []) x short runs = note_runs h hosts note x.0 runs ∙ ap not (sym (or_false (is_answer_note note)))
 step_runs h hosts (note ∷ next ∷ notes) x short runs = absurd (omega (arith, short))

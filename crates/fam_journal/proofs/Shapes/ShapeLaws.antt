@@ -23,7 +23,8 @@ use Rattle.fam_journal.proofs.Shapes.Rows.{breaks_shape, does_shape, number_told
 
 -- A state that a world stands for, whose hosts are what its journal tells.
 
-task_shaped : (lines : ℕ) (mine own : List ℕ) → mine ≡ own → (s : Option TaskState) (t : Option Task) (f : Option TaskShape) → TaskStands lines s t → TaskShaped own t f → StateTaskShaped lines mine s f
+task_shaped : (lines : ℕ) (mine own : List ℕ) → mine ≡ own → (s : Option TaskState) (t : Option Task) (f : Option TaskShape) → TaskStands lines s t
+    → TaskShaped own t f → StateTaskShaped lines mine s f
 task_shaped lines mine own e None None None stands is = tt
 task_shaped lines mine own e None None (Some f) stands is = absurd is
 task_shaped lines mine own e None (Some t) f stands is = absurd stands
@@ -40,7 +41,9 @@ host_shaped lines state view shape stands is = record {
   joined = subst IsKept (sym stands.kept) stands.joined;
 }
 
-all_shaped : (lines : ℕ) (states : List HostState) (views : List HostView) (shapes : List HostShape) → ((h : ℕ) → HostStandsAt lines (slice_get states h) (slice_get views h)) → Pairs HostShaped views shapes → Pairs (StateShaped lines) states shapes
+all_shaped : (lines : ℕ) (states : List HostState) (views : List HostView) (shapes : List HostShape)
+    → ((h : ℕ) → HostStandsAt lines (slice_get states h) (slice_get views h)) → Pairs HostShaped views shapes
+    → Pairs (StateShaped lines) states shapes
 all_shaped lines [] [] [] stands all = tt
 all_shaped lines [] [] (f ∷ shapes) stands all = absurd all
 all_shaped lines [] (v ∷ views) shapes stands all = absurd (stands 0)

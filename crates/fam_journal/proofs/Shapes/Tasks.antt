@@ -236,7 +236,8 @@ module _ (t : Task) where
 
   wished_shape : (p : Params) (o : Option Wish) → wish_of t.cmd ≡ o → TurnShape t.me t.cmd Begun (host_turn t p (host_refusal o p t.me))
   wished_shape p None is = record { cmd_is = refl; me_is = refl; stage_is = refl }
-  wished_shape p (Some w) is = host_shape p (early_refusal p t.me w.path) (begun_first t.me (master_refusal p t.me) (length_refusal p w.path) (begun_master t.me p) (begun_length t.me p w.path)) (w, is)
+  wished_shape p (Some w) is = host_shape p (early_refusal p t.me w.path)
+      (begun_first t.me (master_refusal p t.me) (length_refusal p w.path) (begun_master t.me p) (begun_length t.me p w.path)) (w, is)
 
   super_shape : (r : Result Params SuperFault) → TurnShape t.me t.cmd Begun (super_turn t r)
   super_shape (Err fault) = super_ends t.me t.cmd Begun refl fault
@@ -334,7 +335,8 @@ module _ (t : Task) where
     kind_shape mine at kind.Directory turn says = (mine, at)
     kind_shape mine at kind.File turn says = says
 
-    found_shape : IsVerify t.cmd ⊎ IsRead t.cmd → reads ≡ Marked → (o : Option Entry) (turn : Entry → Turn) → ((e : Entry) → TurnShape t.me t.cmd reads (turn e)) → TurnShape t.me t.cmd reads (found_turn t o turn)
+    found_shape : IsVerify t.cmd ⊎ IsRead t.cmd → reads ≡ Marked → (o : Option Entry) (turn : Entry → Turn)
+        → ((e : Entry) → TurnShape t.me t.cmd reads (turn e)) → TurnShape t.me t.cmd reads (found_turn t o turn)
     found_shape mine at None turn says = (mine, at)
     found_shape mine at (Some e) turn says = kind_shape mine at e.kind (turn e) (says e)
 
@@ -362,11 +364,14 @@ module _ (t : Task) where
 
 -- Lines that were loaded.
 
-line_or_shape : (t : Task) (stage : CommandStage) (part : Part) (j : ℕ) (turn : Turn) → stage_at (at.Drop part (j + 1)) (record t { phase = at.Drop part (j + 1) }) ≡ stage → TurnShape t.me t.cmd stage turn → TurnShape t.me t.cmd stage (line_or t part j turn)
+line_or_shape : (t : Task) (stage : CommandStage) (part : Part) (j : ℕ) (turn : Turn)
+    → stage_at (at.Drop part (j + 1)) (record t { phase = at.Drop part (j + 1) }) ≡ stage → TurnShape t.me t.cmd stage turn
+    → TurnShape t.me t.cmd stage (line_or t part j turn)
 line_or_shape t stage part j turn next says =
     either t.me t.cmd stage (nat_lt (j + 1) (part_count t part)) _ _ record { cmd_is = refl; me_is = refl; stage_is = next } says
 
-compare_shape : (t : Task) (against : Content) (j : ℕ) (o : Option ℕ) → IsVerify t.cmd → reading_stage (wish_of t.cmd) t.gate ≡ Marked → TurnShape t.me t.cmd (reading_stage (wish_of t.cmd) t.gate) (compare_turn t against j o)
+compare_shape : (t : Task) (against : Content) (j : ℕ) (o : Option ℕ) → IsVerify t.cmd → reading_stage (wish_of t.cmd) t.gate ≡ Marked
+    → TurnShape t.me t.cmd (reading_stage (wish_of t.cmd) t.gate) (compare_turn t against j o)
 compare_shape t against j (Some b) mine at = (mine, at)
 compare_shape t against j None mine at = line_or_shape (record t { words = [] }) (reading_stage (wish_of t.cmd) t.gate) File j _ refl (mine, at)
 
@@ -426,7 +431,13 @@ shape_at at.Gate t word phase = gate_shape t word (gate_fault word t.params)
 shape_at (at.Check i) t word phase = check_shape t i
 shape_at at.Decide t word phase = decide_shape t phase t.cmd refl
 shape_at (at.StoreData j k) t word phase = record { cmd_is = refl; me_is = refl; stage_is = named_either _ (nat_lt k 7) (at.StoreData j (k + 1)) (at.SendData j) refl refl }
-shape_at (at.SendData j) t word phase = record { cmd_is = refl; me_is = refl; stage_is = named_either _ (nat_lt (j + 1) (lines_of (size_of t.entry))) (at.StoreData (j + 1) 0) (at.StoreSlot 0 0) refl refl }
+shape_at (at.SendData j) t word phase =
+    record {
+      cmd_is = refl;
+      me_is = refl;
+      stage_is = named_either _ (nat_lt (j + 1) (lines_of (size_of t.entry))) (at.StoreData (j + 1) 0)
+          (at.StoreSlot 0 0) refl refl;
+    }
 shape_at (at.StoreSlot j k) t word phase = record { cmd_is = refl; me_is = refl; stage_is = named_either _ (nat_lt k 7) (at.StoreSlot j (k + 1)) (at.SendSlot j) refl refl }
 shape_at (at.SendSlot j) t word phase = record { cmd_is = refl; me_is = refl; stage_is = named_either _ (nat_lt (j + 1) (geometry t.params).lines) (at.StoreSlot (j + 1) 0) at.FenceSlot refl refl }
 shape_at at.FenceGate t word phase = refl

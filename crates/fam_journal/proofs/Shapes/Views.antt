@@ -78,7 +78,9 @@ module _ (world : WorldView) (is : IsShaped world) (h : ℕ) (view : HostView) (
     goes_on : (n : Task) (stage : CommandStage) → IsNext t.me t.cmd stage n → IsTaskShape view.uuid n (record { cmd = g.cmd; stage = stage })
     goes_on n stage next = record { cmd = at.cmd ∙ sym next.cmd_is; me_is = next.me_is ∙ at.me_is; stage = sym next.stage_is }
 
-    staged : (z : Turn) (n : Task) (stage : CommandStage) → task_after z ≡ Some n → IsNext t.me t.cmd stage n → f.keeps ≡ is_some (kept_after z t view.kept) → Pairs HostShaped (changed_at h (after z) world.hosts) (changed_at h (with_stage stage) shapes)
+    staged : (z : Turn) (n : Task) (stage : CommandStage) → task_after z ≡ Some n → IsNext t.me t.cmd stage n
+        → f.keeps ≡ is_some (kept_after z t view.kept)
+        → Pairs HostShaped (changed_at h (after z) world.hosts) (changed_at h (with_stage stage) shapes)
     staged z n stage goes next told =
         pairs_changed HostShaped world.hosts shapes h view f (after z) (with_stage stage) is view_is f_is
         record {
@@ -89,35 +91,43 @@ module _ (world : WorldView) (is : IsShaped world) (h : ℕ) (view : HostView) (
           keeps = told;
         }
 
-    turned : (z : Turn) → TurnShape t.me t.cmd (stage_of t) z → OperationsShape h shapes (notes_of h (note_of z)) × Pairs HostShaped (changed_at h (after z) world.hosts) (shapes_behind shapes (notes_of h (note_of z)))
+    turned : (z : Turn) → TurnShape t.me t.cmd (stage_of t) z → OperationsShape h shapes (notes_of h (note_of z))
+        × Pairs HostShaped (changed_at h (after z) world.hosts) (shapes_behind shapes (notes_of h (note_of z)))
     turned (Goes n) next = (
       tt,
       pairs_moved HostShaped world.hosts shapes h view f (after (Goes n)) is view_is f_is
           record {
             name = host.name;
             uuid = host.uuid;
-            task = subst (λ (o : Option TaskShape). TaskShaped view.uuid (Some n) o) (sym (g_is ∙ ap (λ (s : CommandStage). Some (record { cmd = g.cmd; stage = s })) at.stage)) (goes_on n (stage_of t) next);
+            task = subst (λ (o : Option TaskShape). TaskShaped view.uuid (Some n) o)
+                (sym (g_is ∙ ap (λ (s : CommandStage). Some (record { cmd = g.cmd; stage = s })) at.stage)) (goes_on n (stage_of t) next);
             keeps = keeps_told (Goes n);
           },
     )
     turned (Marks n) next = ((running (note.Mark h) (refl, at.stage ∙ next.0), tt), staged (Marks n) n Marked refl next.1 (keeps_told (Marks n)))
     turned (Finds k n) next = ((running (note.Found h k) (refl, subst HasWish (sym at.cmd) next.0, at.stage ∙ next.1), tt), staged (Finds k n) n (Met k) refl next.2 (keeps_told (Finds k n)))
-    turned (Writes seq entry n) next =
-        ((running (note.Writes h seq entry) (refl, subst (λ (c : Cmd). EntryShape c entry) (sym at.cmd) next.0, at.stage ∙ next.1), tt), staged (Writes seq entry n) n (Named seq) refl next.2 (keeps_told (Writes seq entry n)))
+    turned (Writes seq entry n) next = (
+      (running (note.Writes h seq entry) (refl, subst (λ (c : Cmd). EntryShape c entry) (sym at.cmd) next.0, at.stage ∙ next.1), tt),
+      staged (Writes seq entry n) n (Named seq) refl next.2 (keeps_told (Writes seq entry n)),
+    )
     turned (Ends given) next = (
       (running (note.Answered h (note.Replied given)) (refl, reply_shape given next), tt),
-      pairs_changed HostShaped world.hosts shapes h view f (after (Ends given)) (λ z. record z { task = None; keeps = keeps_behind (note.Replied given) z.keeps }) is view_is f_is record { name = host.name; uuid = host.uuid; task = tt; keeps = keeps_told (Ends given) },
+      pairs_changed HostShaped world.hosts shapes h view f (after (Ends given))
+          (λ z. record z { task = None; keeps = keeps_behind (note.Replied given) z.keeps }) is view_is f_is
+          record { name = host.name; uuid = host.uuid; task = tt; keeps = keeps_told (Ends given) },
     )
 
   by_task : (f : HostShape) → slice_get shapes h ≡ Some f → HostShaped view f → (p : Option TaskShape) → f.task ≡ p → TaskShaped view.uuid (Some t) p
-      → OperationsShape h shapes (notes_of h (note_of (turn_given t word))) × Pairs HostShaped (changed_at h (after (turn_given t word)) world.hosts) (shapes_behind shapes (notes_of h (note_of (turn_given t word))))
+      → OperationsShape h shapes (notes_of h (note_of (turn_given t word))) × Pairs HostShaped (changed_at h (after (turn_given t word)) world.hosts)
+      (shapes_behind shapes (notes_of h (note_of (turn_given t word))))
   by_task f f_is host None e at = absurd at
   by_task f f_is host (Some g) e at = turned f f_is host g e at (turn_given t word) (turn_shape t word)
 
   found : (f : HostShape) × (slice_get shapes h ≡ Some f) × HostShaped view f
   found = pairs_at HostShaped world.hosts shapes h view is view_is
 
-  both : OperationsShape h shapes (notes_of h (note_of (turn_given t word))) × Pairs HostShaped (changed_at h (after (turn_given t word)) world.hosts) (shapes_behind shapes (notes_of h (note_of (turn_given t word))))
+  both : OperationsShape h shapes (notes_of h (note_of (turn_given t word))) × Pairs HostShaped (changed_at h (after (turn_given t word)) world.hosts)
+      (shapes_behind shapes (notes_of h (note_of (turn_given t word))))
   both = by_task found.0 found.1 found.2 found.0.task refl (subst (λ (o : Option Task). TaskShaped view.uuid o found.0.task) runs found.2.task)
 
   short : (n : _) → length (notes_of h (note_of n)) ≤ 1
@@ -125,12 +135,18 @@ module _ (world : WorldView) (is : IsShaped world) (h : ℕ) (view : HostView) (
   short e = omega arith
 
   -- the world again
-  pub world_shaped : IsShaped (record { hosts = changed_at h (λ v. record v { cache = cache; task = task_after (turn_given t word); kept = kept_after (turn_given t word) t v.kept }) world.hosts; journal = world.journal ++ notes_of h (note_of (turn_given t word)) })
+  pub world_shaped : IsShaped (record {
+    hosts =
+        changed_at h (λ v. record v { cache = cache; task = task_after (turn_given t word); kept = kept_after (turn_given t word) t v.kept })
+        world.hosts;
+    journal = world.journal ++ notes_of h (note_of (turn_given t word));
+  })
   world_shaped =
       subst (λ (z : List HostShape). Pairs HostShaped (changed_at h (after (turn_given t word)) world.hosts) z) (sym (shapes_both [] world.journal (notes_of h (note_of (turn_given t word))))) both.1
 
   -- the notes
-  pub step_shaped : (lines : ℕ) (name : List ℕ) → number_in name world ≡ Some h → refusal_in (call.Steps name) world lines ≡ None → DoesShape (call.Steps name) lines shapes (notes_of h (note_of (turn_given t word)))
+  pub step_shaped : (lines : ℕ) (name : List ℕ) → number_in name world ≡ Some h → refusal_in (call.Steps name) world lines ≡ None
+      → DoesShape (call.Steps name) lines shapes (notes_of h (note_of (turn_given t word)))
   step_shaped lines name number free =
       let notes = notes_of h (note_of (turn_given t word)) in
       subst (λ (o : Option Refusal). ShapeByRefusal name o notes (FreeShape (call.Steps name) lines shapes notes)) (sym (sym (refusal_shaped lines world is (call.Steps name) tt) ∙ free))

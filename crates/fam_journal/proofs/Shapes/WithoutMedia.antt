@@ -23,7 +23,8 @@ use Rattle.fam_journal.proofs.Shapes.Operations.{shapes_both}
 use Rattle.fam_journal.proofs.Shapes.Views.{number_shaped, refusal_shaped}
 
 -- all pairs may change
-pairs_any : {A B : Type 0} (P : A → B → Type 0) (g : A → A) (k : B → B) → ((x : A) (y : B) → P x y → P (g x) (k y)) → (h : ℕ) (xs : List A) (ys : List B) → Pairs P xs ys → Pairs P (changed_at h g xs) (changed_at h k ys)
+pairs_any : {A B : Type 0} (P : A → B → Type 0) (g : A → A) (k : B → B) → ((x : A) (y : B) → P x y → P (g x) (k y))
+    → (h : ℕ) (xs : List A) (ys : List B) → Pairs P xs ys → Pairs P (changed_at h g xs) (changed_at h k ys)
 pairs_any P g k each h [] [] all = tt
 pairs_any P g k each h [] (y ∷ ys) all = absurd all
 pairs_any P g k each h (x ∷ xs) [] all = absurd all
@@ -31,7 +32,8 @@ pairs_any P g k each zero (x ∷ xs) (y ∷ ys) all = (each x y all.0, all.1)
 pairs_any P g k each (suc h) (x ∷ xs) (y ∷ ys) all = (all.0, pairs_any P g k each h xs ys all.1)
 
 -- the host of a number that a name has, counted from i, is declared
-named_here : (name : List ℕ) (P : HostShape → Type 0) → ((f : HostShape) → P f) → (hosts : List HostShape) (i k : ℕ) → index_from i (has_name name) (map shown_shape hosts) ≡ Some (i + k) → OfHostShape (slice_get hosts k) P
+named_here : (name : List ℕ) (P : HostShape → Type 0) → ((f : HostShape) → P f) → (hosts : List HostShape) (i k : ℕ)
+    → index_from i (has_name name) (map shown_shape hosts) ≡ Some (i + k) → OfHostShape (slice_get hosts k) P
 named_here name P each [] i k is = absurd cc
 named_here name P each (f ∷ hosts) i zero is = each f
 named_here name P each (f ∷ hosts) i (suc k) is = by_test (has_name name (shown_shape f)) (λ rest. named_here name P each hosts (i + 1) k rest) is
@@ -39,7 +41,8 @@ named_here name P each (f ∷ hosts) i (suc k) is = by_test (has_name name (show
     shift : i + suc k ≡ (i + 1) + k
     shift = omega arith
 
-    by_test : (t : Bool) → (index_from (i + 1) (has_name name) (map shown_shape hosts) ≡ Some ((i + 1) + k) → OfHostShape (slice_get hosts k) P) → (if t then Some i else index_from (i + 1) (has_name name) (map shown_shape hosts)) ≡ Some (i + suc k) → OfHostShape (slice_get hosts k) P
+    by_test : (t : Bool) → (index_from (i + 1) (has_name name) (map shown_shape hosts) ≡ Some ((i + 1) + k) → OfHostShape (slice_get hosts k) P)
+        → (if t then Some i else index_from (i + 1) (has_name name) (map shown_shape hosts)) ≡ Some (i + suc k) → OfHostShape (slice_get hosts k) P
     by_test true rest is = absurd (let same : i ≡ i + suc k = Rattle.std.proofs.lemmas.Option.same_Some i (i + suc k) is in omega (arith, same))
     by_test false rest is = rest (is ∙ ap Some shift)
 
@@ -51,7 +54,8 @@ module _ (lines : ℕ) (world : WorldView) (is : IsShaped world) where
   added : (views : List HostView) (n : Note) → Pairs HostShaped views (shapes_after shapes n) → IsShaped (record { hosts = views; journal = world.journal ++ n ∷ [] })
   added views n all = subst (λ (z : List HostShape). Pairs HostShaped views z) (sym (shapes_both [] world.journal (n ∷ []))) all
 
-  refused : (c : Call) (o : Option Refusal) (cause : Refusal) → refusal_told c lines shapes ≡ Some cause → HasShape c lines world (record world { journal = world.journal ++ Refused (asked_name c) cause ∷ [] })
+  refused : (c : Call) (o : Option Refusal) (cause : Refusal) → refusal_told c lines shapes ≡ Some cause
+      → HasShape c lines world (record world { journal = world.journal ++ Refused (asked_name c) cause ∷ [] })
   refused c o cause told = record {
     notes = Refused (asked_name c) cause ∷ [];
     joined = refl;
@@ -73,7 +77,9 @@ module _ (lines : ℕ) (world : WorldView) (is : IsShaped world) where
       record {
         notes = n h ∷ [];
         joined = refl;
-        shape = freed c (n h ∷ []) told (free h (subst (λ (o : Option ℕ). AtShape o shapes (λ k f. ActsShape c k f lines shapes (n h ∷ []))) (sym at_number) (named_here (asked_name c) (λ f. ActsShape c h f lines shapes (n h ∷ [])) (acts h) shapes 0 h (at_number ∙ ap Some (omega arith)))));
+        shape = freed c (n h ∷ []) told
+            (free h (subst (λ (o : Option ℕ). AtShape o shapes (λ k f. ActsShape c k f lines shapes (n h ∷ []))) (sym at_number)
+            (named_here (asked_name c) (λ f. ActsShape c h f lines shapes (n h ∷ [])) (acts h) shapes 0 h (at_number ∙ ap Some (omega arith)))));
         shaped = added (changed_at h g world.hosts) (n h) (pairs h);
       }
 
@@ -94,7 +100,8 @@ module _ (lines : ℕ) (world : WorldView) (is : IsShaped world) where
     shaped = added _ (note.Host name uuid) (pairs_last HostShaped world.hosts shapes _ _ is record { name = refl; uuid = refl; task = tt; keeps = refl });
   }
   acted_shape (call.Begins name cmd) takes free =
-      hosted (call.Begins name cmd) (λ v. record v { task = Some (mounted v.kept cmd v.uuid lines) }) (λ h. note.Start h cmd) (number_in name world) refl (λ h none. no_host name _ free none) (λ h x. x) (λ h f. refl)
+      hosted (call.Begins name cmd) (λ v. record v { task = Some (mounted v.kept cmd v.uuid lines) }) (λ h. note.Start h cmd)
+      (number_in name world) refl (λ h none. no_host name _ free none) (λ h x. x) (λ h f. refl)
       (λ h. pairs_any HostShaped _ _ (λ v f at. record { name = at.name; uuid = at.uuid; task = record { cmd = refl; me_is = refl; stage = refl }; keeps = at.keeps }) h world.hosts shapes is)
       (told_of (call.Begins name cmd) tt ∙ free)
   acted_shape (call.Stops name) takes free =
@@ -116,7 +123,8 @@ module _ (lines : ℕ) (world : WorldView) (is : IsShaped world) where
     shaped = added world.hosts (Refused name cause) is;
   }
     where
-      by_takes : call.IsOfSource cause ⊎ ((cmd : Cmd) × (refusal_in (call.Begins name cmd) world lines ≡ Some cause)) → call.IsOfSource cause ⊎ ((mount : Bool) × (call.may_begin name mount (shown_shapes lines shapes) ≡ Some cause))
+      by_takes : call.IsOfSource cause ⊎ ((cmd : Cmd) × (refusal_in (call.Begins name cmd) world lines ≡ Some cause))
+          → call.IsOfSource cause ⊎ ((mount : Bool) × (call.may_begin name mount (shown_shapes lines shapes) ≡ Some cause))
       by_takes (inl x) = inl x
       by_takes (inr x) = inr (is_mount x.0, sym (refusal_shaped lines world is (call.Begins name x.0) tt) ∙ x.1)
   acted_shape e takes free = absurd takes

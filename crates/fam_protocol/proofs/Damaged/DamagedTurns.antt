@@ -106,7 +106,15 @@ module _ (image : Lines) (have : ℕ) (uuid : ℕ → Option (List ℕ)) (host :
       go (Some fault) e = record { may = says_super image have t fault (ap (λ o. stop o (super_body_of (image 1 ++ image 2) have)) e); task = tt }
       go None e = record {
         may = tt;
-        task = record { me = me; lines = lines; phase = ((none_moved image have t (at.Drop Superblock 0) [] none, e), omega arith, is_loaded image (record t { phase = at.Drop Superblock 0; words = [] }) Superblock tt 0 0 refl) };
+        task = record {
+          me = me;
+          lines = lines;
+          phase = (
+            (none_moved image have t (at.Drop Superblock 0) [] none, e),
+            omega arith,
+            is_loaded image (record t { phase = at.Drop Superblock 0; words = [] }) Superblock tt 0 0 refl,
+          );
+        };
       }
 
   -- which host appends, and with which path
@@ -127,7 +135,15 @@ module _ (image : Lines) (have : ℕ) (uuid : ℕ → Option (List ℕ)) (host :
       test w wish (may_ask same short passed) = rw passed (record { may = tt; task = goes (λ v is. same) })
       test w wish (another other refusal) = rw refusal (record { may = record { params = p; super = super; me_is = refl; master_is = refl; other = other }; task = tt })
       test w wish (too_long first same long refusal) =
-          rw refusal (record { may = record { params = p; super = super; is = record { wish = w; wished = wish; is = record { format = first; master = same; limit_is = refl; long = long } } }; task = tt })
+          rw refusal (record {
+            may = record {
+              params = p;
+              super = super;
+              is =
+                  record { wish = w; wished = wish; is = record { format = first; master = same; limit_is = refl; long = long } };
+            };
+            task = tt;
+          })
 
       go : (o : Option Wish) → wish_of t.cmd ≡ o → Turned (host_turn t p (host_refusal o p t.me))
       go None e = record { may = tt; task = goes (λ w is. absurd cc) }
@@ -157,7 +173,8 @@ module _ (image : Lines) (have : ℕ) (uuid : ℕ → Option (List ℕ)) (host :
       }
 
   -- the next slot, or the decision
-  next_slot : (before next : Task) (i : ℕ) → slots_read before ≡ slots_read next → ReadsSlots image have i next → i ≤ slots_read next → next.words ≡ [] → AtDamagedPhase (slot_or_decide before i) image have host next s
+  next_slot : (before next : Task) (i : ℕ) → slots_read before ≡ slots_read next → ReadsSlots image have i next → i ≤ slots_read next
+      → next.words ≡ [] → AtDamagedPhase (slot_or_decide before i) image have host next s
   next_slot before next i count r fits words = go (nat_lt i (slots_read before)) refl
     where
       go : (b : Bool) → nat_lt i (slots_read before) ≡ b → AtDamagedPhase (cond b (at.Drop (Slot i) 0) at.Decide) image have host next s
@@ -325,7 +342,12 @@ module _ (image : Lines) (have : ℕ) (t t' : Task) (same : t.me ≡ t'.me) (ask
   reply_moved (NotAppended (refused.LongPath limit)) a = record {
     params = a.params;
     super = a.super;
-    is = record { wish = a.is.wish; wished = ap wish_of (sym asks) ∙ a.is.wished; is = record { format = a.is.is.format; master = sym same ∙ a.is.is.master; limit_is = a.is.is.limit_is; long = a.is.is.long } };
+    is = record {
+      wish = a.is.wish;
+      wished = ap wish_of (sym asks) ∙ a.is.wished;
+      is =
+          record { format = a.is.is.format; master = sym same ∙ a.is.is.master; limit_is = a.is.is.limit_is; long = a.is.is.long };
+    };
   }
   reply_moved e a = a
 
@@ -336,7 +358,9 @@ module _ (image : Lines) (have : ℕ) (t t' : Task) (same : t.me ≡ t'.me) (ask
 module _ (image : Lines) (have : ℕ) (uuid : ℕ → Option (List ℕ)) (host : ℕ) (s : SharedState)
     (t : Task) (bare : Bare image have t.cmd) (me : uuid host ≡ Some t.me) (lines : line_bytes * t.lines ≡ have) where
   -- the next line of the part, or what comes behind its last one
-  line_or_says : (part : Part) (j : ℕ) (turn : Turn) → OnBadPart part image have t → j < part_count t part → t.words ≡ take (8 * j + 8) (part_words image t part) → (t.words ≡ part_words image t part → BadTurn turn image have uuid host t s) → BadTurn (line_or t part j turn) image have uuid host t s
+  line_or_says : (part : Part) (j : ℕ) (turn : Turn) → OnBadPart part image have t → j < part_count t part
+      → t.words ≡ take (8 * j + 8) (part_words image t part) → (t.words ≡ part_words image t part → BadTurn turn image have uuid host t s)
+      → BadTurn (line_or t part j turn) image have uuid host t s
   line_or_says part j turn on below words behind = go (nat_lt (j + 1) (part_count t part)) refl
     where
       meta : IsMeta part
@@ -350,7 +374,13 @@ module _ (image : Lines) (have : ℕ) (uuid : ℕ → Option (List ℕ)) (host :
             task = record {
               me = me;
               lines = lines;
-              phase = (part_moved image have t (at.Drop part (j + 1)) t.words part on, omega (arith, ltb-true (j + 1) (part_count t part) e, lines_moved t (at.Drop part (j + 1)) t.words part), is_loaded image (record t { phase = at.Drop part (j + 1) }) part meta (j + 1) 0 (words ∙ ap (λ n. take n (part_words image t part)) here ∙ ap (take (8 * (j + 1) + 0)) (sym (words_moved t (at.Drop part (j + 1)) t.words image part))));
+              phase = (
+                part_moved image have t (at.Drop part (j + 1)) t.words part on,
+                omega (arith, ltb-true (j + 1) (part_count t part) e, lines_moved t (at.Drop part (j + 1)) t.words part),
+                is_loaded image (record t { phase = at.Drop part (j + 1) }) part meta (j + 1) 0
+                    (words ∙ ap (λ n. take n (part_words image t part)) here ∙ ap (take (8 * (j + 1) + 0))
+                    (sym (words_moved t (at.Drop part (j + 1)) t.words image part))),
+              );
             };
           }
       go false e = behind (words ∙ all_words image t part meta (8 * j + 8) (omega (arith, ltb-false (j + 1) (part_count t part) e)))
@@ -371,7 +401,9 @@ module _ (image : Lines) (have : ℕ) (uuid : ℕ → Option (List ℕ)) (host :
 module _ (image : Lines) (have : ℕ) (uuid : ℕ → Option (List ℕ)) (host : ℕ) (s : SharedState)
     (t : Task) (bare : Bare image have t.cmd) (me : uuid host ≡ Some t.me) (lines : line_bytes * t.lines ≡ have) where
   -- a word of it is
-  pub word_says : (part : Part) (j k word : ℕ) → OnBadPart part image have t → j < part_count t part → k < 8 → Fresh (s.memory (part_line t part j)) (s.copy host (part_line t part j)) → HasLoaded image t part j k → word ≡ slice_index (image (part_line t part j)) k →
+  pub word_says : (part : Part) (j k word : ℕ) → OnBadPart part image have t → j < part_count t part → k < 8
+      → Fresh (s.memory (part_line t part j)) (s.copy host (part_line t part j)) → HasLoaded image t part j k
+      → word ≡ slice_index (image (part_line t part j)) k →
       BadTurn (word_turn (with_word t word) part j k) image have uuid host t s
   word_says part j k word on below small fresh loaded is = go (nat_lt k 7) refl
     where
@@ -392,17 +424,30 @@ module _ (image : Lines) (have : ℕ) (uuid : ℕ → Option (List ℕ)) (host :
             task = record {
               me = me;
               lines = lines;
-              phase = (part_moved image have t p (t.words ++ word ∷ []) part on, omega (arith, below, lines_moved t p (t.words ++ word ∷ []) part), omega (arith, ltb-true k 7 e), subst (λ l. Fresh (s.memory l) (s.copy host l)) (sym (line_moved t p (t.words ++ word ∷ []) part j)) fresh, is_loaded image (next p) part meta j (k + 1) (words ∙ ap (take (8 * j + (k + 1))) (sym (words_moved t p (t.words ++ word ∷ []) image part))));
+              phase = (
+                part_moved image have t p (t.words ++ word ∷ []) part on,
+                omega (arith, below, lines_moved t p (t.words ++ word ∷ []) part),
+                omega (arith, ltb-true k 7 e),
+                subst (λ l. Fresh (s.memory l) (s.copy host l)) (sym (line_moved t p (t.words ++ word ∷ []) part j))
+                    fresh,
+                is_loaded image (next p) part meta j (k + 1)
+                    (words ∙ ap (take (8 * j + (k + 1))) (sym (words_moved t p (t.words ++ word ∷ []) image part))),
+              );
             };
           }
       go false e =
           let last : 8 * j + (k + 1) ≡ 8 * j + 8 = omega (arith, ltb-false k 7 e) in
           let turn =
-          line_says image have uuid host s (with_word t word) bare me lines part j (part_moved image have t t.phase (t.words ++ word ∷ []) part on) (omega (arith, below, lines_moved t t.phase (t.words ++ word ∷ []) part)) (words ∙ ap (λ n. take n (part_words image t part)) last ∙ ap (take (8 * j + 8)) (sym (words_moved t t.phase (t.words ++ word ∷ []) image part))) in
+          line_says image have uuid host s (with_word t word) bare me lines part j (part_moved image have t t.phase (t.words ++ word ∷ []) part on)
+          (omega (arith, below, lines_moved t t.phase (t.words ++ word ∷ []) part))
+          (words ∙ ap (λ n. take n (part_words image t part)) last
+          ∙ ap (take (8 * j + 8)) (sym (words_moved t t.phase (t.words ++ word ∷ []) image part))) in
           record { may = may_moved image have (with_word t word) t refl refl (line_turn (with_word t word) part j) turn.may; task = turn.task }
 
   -- its line was dropped
-  pub drop_says : (part : Part) (j : ℕ) → OnBadPart part image have t → j < part_count t part → HasLoaded image t part j 0 → Fresh (s.memory (part_line t part j)) (s.copy host (part_line t part j)) → BadTurn (Goes (record t { phase = at.Word part j 0 })) image have uuid host t s
+  pub drop_says : (part : Part) (j : ℕ) → OnBadPart part image have t → j < part_count t part → HasLoaded image t part j 0
+      → Fresh (s.memory (part_line t part j)) (s.copy host (part_line t part j))
+      → BadTurn (Goes (record t { phase = at.Word part j 0 })) image have uuid host t s
   drop_says part j on below loaded fresh =
       let p = at.Word part j 0 in
       let meta : IsMeta part = meta_part image have t part on in
@@ -411,6 +456,13 @@ module _ (image : Lines) (have : ℕ) (uuid : ℕ → Option (List ℕ)) (host :
         task = record {
           me = me;
           lines = lines;
-          phase = (part_moved image have t p t.words part on, omega (arith, below, lines_moved t p t.words part), omega arith, subst (λ l. Fresh (s.memory l) (s.copy host l)) (sym (line_moved t p t.words part j)) fresh, is_loaded image (record t { phase = p }) part meta j 0 (loaded_is image t part meta j 0 loaded ∙ ap (take (8 * j + 0)) (sym (words_moved t p t.words image part))));
+          phase = (
+            part_moved image have t p t.words part on,
+            omega (arith, below, lines_moved t p t.words part),
+            omega arith,
+            subst (λ l. Fresh (s.memory l) (s.copy host l)) (sym (line_moved t p t.words part j)) fresh,
+            is_loaded image (record t { phase = p }) part meta j 0
+                (loaded_is image t part meta j 0 loaded ∙ ap (take (8 * j + 0)) (sym (words_moved t p t.words image part))),
+          );
         };
       }

@@ -33,7 +33,15 @@ pub record Plays (cmd : Cmd) : Type 0 where
 -- a command is a check of the whole file system, or one of the others
 pub fsck_or_plays : (cmd : Cmd) → (cmd ≡ Fsck) ⊎ Plays cmd
 fsck_or_plays Fsck = inl refl
-fsck_or_plays c = inr (record { other = λ e. absurd (cc); slots = λ t is. rw is refl; opens = λ image have i t r. r; closes = λ image have i t r. r; super = λ f. refl; log = λ f. refl; check = λ t i. refl })
+fsck_or_plays c = inr (record {
+  other = λ e. absurd (cc);
+  slots = λ t is. rw is refl;
+  opens = λ image have i t r. r;
+  closes = λ image have i t r. r;
+  super = λ f. refl;
+  log = λ f. refl;
+  check = λ t i. refl;
+})
 
 -- that check reads all slots
 pub slots_fsck : (t : Task) → t.cmd ≡ Fsck → slots_read t ≡ t.params.slots
@@ -107,7 +115,8 @@ joined_bad : (i : ℕ) (o : Option Reason) (rest : Reading) → (NotSound rest �
 joined_bad i (Some reason) rest more bad = (i, reason, refl)
 joined_bad i None rest more bad = more bad
 
-slot_bad : (p : Params) (list : List Entry) (i : ℕ) (x : Result Entry Reason) (rest : Entry → Reading) → ((e : Entry) → NotSound (rest e) → NamesSlot (rest e)) → NotSound (slot_or p list i x rest) → NamesSlot (slot_or p list i x rest)
+slot_bad : (p : Params) (list : List Entry) (i : ℕ) (x : Result Entry Reason) (rest : Entry → Reading)
+    → ((e : Entry) → NotSound (rest e) → NamesSlot (rest e)) → NotSound (slot_or p list i x rest) → NamesSlot (slot_or p list i x rest)
 slot_bad p list i (Ok e) rest more bad = joined_bad i (join_fault p list e) (rest e) (more e) bad
 slot_bad p list i (Err reason) rest more bad = (i, reason, refl)
 

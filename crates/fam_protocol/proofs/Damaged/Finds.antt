@@ -42,17 +42,26 @@ module _ (image : Lines) (lines : ℕ) (step : DamagedStep image lines) where
     where
       by_fault : (o : Option LogFault) → gate_fault (gate_in image) task.params ≡ o → o ≡ None
       by_fault None is = refl
-      by_fault (Some fault) is = absurd (let e : BadHeader fault ≡ BadSlot i reason = sym (reads_below image (line_bytes * lines) task task.params header.super.super header.header ∙ ap (read_below image task.params) is) ∙ bad in cc)
+      by_fault (Some fault) is = absurd
+          (let e : BadHeader fault ≡ BadSlot i reason =
+          sym (reads_below image (line_bytes * lines) task task.params header.super.super header.header ∙ ap (read_below image task.params) is)
+          ∙ bad in cc)
 
   -- who appends, and passed the master's test, notes it
-  pub bad_noted : (i : ℕ) (reason : Reason) (w : Wish) → reading_of image (line_bytes * lines) ≡ BadSlot i reason → wish_of task.cmd ≡ Some w → task.phase ≡ at.Gate → turn_given task step.word ≡ Finds (gate_in image) (gate_loaded task (gate_in image))
+  pub bad_noted : (i : ℕ) (reason : Reason) (w : Wish) → reading_of image (line_bytes * lines) ≡ BadSlot i reason → wish_of task.cmd ≡ Some w
+      → task.phase ≡ at.Gate → turn_given task step.word ≡ Finds (gate_in image) (gate_loaded task (gate_in image))
   bad_noted i reason w bad wish is =
-      subst (λ (q : Phase). AtDamagedPhase q image (line_bytes * lines) step.host task step.before → Operates (op_at task q) step.host step.before step.after step.word → turn_at q task (unwrap_or (given_by (op_at task q) step.word) 0) ≡ Finds (gate_in image) (gate_loaded task (gate_in image))) (sym is) at_gate
+      subst (λ (q : Phase). AtDamagedPhase q image (line_bytes * lines) step.host task step.before
+      → Operates (op_at task q) step.host step.before step.after step.word → turn_at q task (unwrap_or (given_by (op_at task q) step.word) 0)
+      ≡ Finds (gate_in image) (gate_loaded task (gate_in image))) (sym is) at_gate
       (stage.tasks step.host step.run step.steps.is).phase step.steps.operates
     where
-      at_gate : AtDamagedPhase at.Gate image (line_bytes * lines) step.host task step.before → Operates (op_at task at.Gate) step.host step.before step.after step.word → gate_turn task step.word (gate_fault step.word task.params) ≡ Finds (gate_in image) (gate_loaded task (gate_in image))
+      at_gate : AtDamagedPhase at.Gate image (line_bytes * lines) step.host task step.before
+          → Operates (op_at task at.Gate) step.host step.before step.after step.word → gate_turn task step.word (gate_fault step.word task.params)
+          ≡ Finds (gate_in image) (gate_loaded task (gate_in image))
       at_gate g done =
-          let gate : step.word ≡ gate_in image = done.1 ∙ ap (λ (w : List ℕ). slice_index w 0) (fresh_current (step.before.memory gate_line) (step.before.copy step.host gate_line) g.3 ∙ stage.still.memory gate_line) in
+          let gate : step.word ≡ gate_in image = done.1 ∙ ap (λ (w : List ℕ). slice_index w 0)
+          (fresh_current (step.before.memory gate_line) (step.before.copy step.host gate_line) g.3 ∙ stage.still.memory gate_line) in
           ap (gate_turn task step.word) (ap (λ (n : ℕ). gate_fault n task.params) gate ∙ gate_within i reason bad g.2)
           ∙ ap (λ (o : Option Wish). finds_or_goes o step.word (gate_loaded task step.word)) wish
           ∙ ap (λ (n : ℕ). Finds n (gate_loaded task n)) gate

@@ -81,7 +81,9 @@ module _ (image : Lines) (have : ℕ) (uuid : ℕ → Option (List ℕ)) (host :
   says at.Magic a done = magic_says image have uuid host s' t bare me lines word a.0 (loads 0 0 a.1 done)
   says (at.Drop part j) a done = drop_says image have uuid host s' t bare me lines part j a.0 a.1 a.2 (dropped (part_line t part j) done)
   says (at.Word part j k) a done =
-      word_says image have uuid host s' t bare me lines part j k word a.0 a.1 a.2 (fresh_stays image have host (part_line t part j) s s' (load_transfer host (part_line t part j) k s s' word done) still host (part_line t part j) a.3) a.4 (loads (part_line t part j) k a.3 done)
+      word_says image have uuid host s' t bare me lines part j k word a.0 a.1 a.2
+      (fresh_stays image have host (part_line t part j) s s' (load_transfer host (part_line t part j) k s s' word done) still host
+      (part_line t part j) a.3) a.4 (loads (part_line t part j) k a.3 done)
   says at.DropGate a done = record {
     may = tt;
     task = record { me = me; lines = lines; phase = (none_moved image have t at.Gate t.words a.0, a.1, header_moved image have t at.Gate t.words a.2, dropped gate_line done) };

@@ -50,7 +50,8 @@ module _ (image : Lines) (t : Task) (part : Part) (meta : IsMeta part) where
   prefix n fits = take-map-range_with_len nth 0 (8 * part_count t part) n fits
 
   -- the next word of a line
-  pub next_word : (j k word : ℕ) → j < part_count t part → k < 8 → word ≡ slice_index (image (part_line t part j)) k → take (8 * j + k) (part_words image t part) ++ word ∷ [] ≡ take (8 * j + (k + 1)) (part_words image t part)
+  pub next_word : (j k word : ℕ) → j < part_count t part → k < 8 → word ≡ slice_index (image (part_line t part j)) k
+      → take (8 * j + k) (part_words image t part) ++ word ∷ [] ≡ take (8 * j + (k + 1)) (part_words image t part)
   next_word j k word below small is =
       let line : (8 * j + k) / 8 ≡ j = omega arith in
       let phase : (8 * j + k) % 8 ≡ k = omega arith in

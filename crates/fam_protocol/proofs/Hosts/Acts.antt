@@ -44,7 +44,9 @@ module _ (host : ℕ) (m m' : Machine) (old new : SharedState) (acts : ActsAs ho
           ]
 
   -- a list of moves at that line
-  here_by : (line : ℕ) (w' : List ℕ) (c' : Cell) → line_at m'.image line ≡ w' → cell_at m'.cache line ≡ c' → Transfers (line_at m.image line) (cell_at m.cache line) w' c' → Transfers (old.memory line) (old.copy host line) (new.memory line) (new.copy host line)
+  here_by : (line : ℕ) (w' : List ℕ) (c' : Cell) → line_at m'.image line ≡ w' → cell_at m'.cache line ≡ c'
+      → Transfers (line_at m.image line) (cell_at m.cache line) w' c'
+      → Transfers (old.memory line) (old.copy host line) (new.memory line) (new.copy host line)
   here_by line w' c' memory copy transfers =
       subst (λ (w : List ℕ). Transfers w (old.copy host line) (new.memory line) (new.copy host line)) (sym (acts.before.memory line))
       (subst (λ (c : Cell). Transfers (line_at m.image line) c (new.memory line) (new.copy host line)) (sym (acts.before.copies line))
@@ -80,22 +82,34 @@ unfolding between
 between_other host m old h l ne = ap (λ (b : Bool). if b then cell_at m.cache l else old.copy h l) (ne_eqb h host ne)
 
 -- one line that is sent
-line_sends : (host line : ℕ) (m : Machine) (old new : SharedState) → ActsAs host m (send_line line m) old new → IsWide old → line < length m.image → LeavesAt host line old new (sent (old.memory line) (old.copy host line)) (cleaned (old.copy host line))
+line_sends : (host line : ℕ) (m : Machine) (old new : SharedState) → ActsAs host m (send_line line m) old new → IsWide old → line < length m.image
+    → LeavesAt host line old new (sent (old.memory line) (old.copy host line)) (cleaned (old.copy host line))
 line_sends host line m old new acts wide within =
     let words = sent (line_at m.image line) (cell_at m.cache line) in
-    let held : length (current (line_at m.image line) (cell_at m.cache line)) ≡ 8 = sym (ap₂ (λ (w : List ℕ) (c : Cell). length (current w c)) (acts.before.memory line) (acts.before.copies line)) ∙ wide.copies host line in
+    let held : length (current (line_at m.image line) (cell_at m.cache line)) ≡ 8 =
+    sym (ap₂ (λ (w : List ℕ) (c : Cell). length (current w c)) (acts.before.memory line) (acts.before.copies line)) ∙ wide.copies host line in
     record {
-      only = one_line host m (send_line line m) old new acts line (λ l other. line_at-with_line_other m.image line words l other) (λ l other. cell_at-with_cell_other line (cleaned (cell_at m.cache line)) m.cache l other);
-      memory_is = acts.after.memory line ∙ line_at-with_line m.image line words within ∙ eight_whole words (sent_wide (line_at m.image line) (cell_at m.cache line) refl held) ∙ ap₂ sent (sym (acts.before.memory line)) (sym (acts.before.copies line));
+      only = one_line host m (send_line line m) old new acts line (λ l other. line_at-with_line_other m.image line words l other)
+          (λ l other. cell_at-with_cell_other line (cleaned (cell_at m.cache line)) m.cache l other);
+      memory_is = acts.after.memory line ∙ line_at-with_line m.image line words within
+          ∙ eight_whole words (sent_wide (line_at m.image line) (cell_at m.cache line) refl held) ∙ ap₂ sent (sym (acts.before.memory line))
+          (sym (acts.before.copies line));
       copy_is = acts.after.copies line ∙ cell_at-with_cell_same line (cleaned (cell_at m.cache line)) m.cache ∙ ap cleaned (sym (acts.before.copies line));
     }
 
-sends_by : (host : ℕ) (lines : List ℕ) (m : Machine) (old new : SharedState) → ActsAs host m (send_lines lines m) old new → IsWide old → ((l : ℕ) → IsAmong l lines → l < length m.image) → Sends host lines old new
+sends_by : (host : ℕ) (lines : List ℕ) (m : Machine) (old new : SharedState) → ActsAs host m (send_lines lines m) old new → IsWide old
+    → ((l : ℕ) → IsAmong l lines → l < length m.image) → Sends host lines old new
 unfolding between
 sends_by host [] m old new acts wide within = subst (λ (s : SharedState). Sends host [] old s) (sym (nothing host m m old new acts refl)) all_sent
 sends_by host (line ∷ lines) m old new acts wide within =
     let next = between host (send_line line m) old in
-    let first : ActsAs host m (send_line line m) old next = record { before = acts.before; after = record { memory = λ l. refl; copies = between_here host (send_line line m) old }; others = between_other host (send_line line m) old } in
+    let first : ActsAs host m (send_line line m) old next =
+    record {
+      before = acts.before;
+      after = record { memory = λ l. refl; copies = between_here host (send_line line m) old };
+      others =
+          between_other host (send_line line m) old;
+    } in
     let left = line_sends host line m old next first wide (within line (inl refl)) in
     sends_one {next = next} left
     (sends_by host lines (send_line line m) next new
@@ -111,7 +125,8 @@ module _ (host : ℕ) (m : Machine) (old new : SharedState) where
   wide_here m' acts wide l = sym (ap₂ (λ (w : List ℕ) (c : Cell). length (current w c)) (acts.before.memory l) (acts.before.copies l)) ∙ wide.copies host l
 
   -- what a send leaves in memory
-  sent_here : (l : ℕ) → length (current (line_at m.image l) (cell_at m.cache l)) ≡ 8 → l < length m.image → line_at (operated (Invalidate (record { 0 = l })) m).image l ≡ sent (line_at m.image l) (cell_at m.cache l)
+  sent_here : (l : ℕ) → length (current (line_at m.image l) (cell_at m.cache l)) ≡ 8 → l < length m.image
+      → line_at (operated (Invalidate (record { 0 = l })) m).image l ≡ sent (line_at m.image l) (cell_at m.cache l)
   sent_here l wide within =
       line_at-with_line m.image l (sent (line_at m.image l) (cell_at m.cache l)) within
       ∙ eight_whole (sent (line_at m.image l) (cell_at m.cache l)) (sent_wide (line_at m.image l) (cell_at m.cache l) refl wide)
@@ -187,11 +202,14 @@ module _ (host : ℕ) (m : Machine) (old new : SharedState) where
         (ap (λ (i : Image). line_at i line) tears_line.is ∙ line_at-with_line m.image line tears_line.words tears_line.within ∙ eight_whole tears_line.words tears_line.wide) refl tears_line.transfers;
   }
 
-  pub failed_move_transfers : (move : Move) (line through : ℕ) (left : Image) → ActsAs host m (machine left m.cache) old new → map eight m.image ≡ m.image → line < length m.image → move_failed move line through m ≡ Some left → TransfersAt host line old new
+  pub failed_move_transfers : (move : Move) (line through : ℕ) (left : Image) → ActsAs host m (machine left m.cache) old new
+      → map eight m.image ≡ m.image → line < length m.image → move_failed move line through m ≡ Some left → TransfersAt host line old new
   failed_move_transfers move line through left acts normal within fails = tears_line_by line left acts (move_tears_line_at move line m through left normal within fails)
 
 -- An operation in which the media fails.
-pub failure_breaks : (host : ℕ) (m : Machine) (old new : SharedState) (op : Op) (through : Breaking) (failure : Failure) → ActsAs host m failure.left old new → IsWide old → map eight m.image ≡ m.image → IsInImage op m → failed through op m ≡ Some failure → Breaks host failure.line.0 old new
+pub failure_breaks : (host : ℕ) (m : Machine) (old new : SharedState) (op : Op) (through : Breaking) (failure : Failure)
+    → ActsAs host m failure.left old new → IsWide old → map eight m.image ≡ m.image → IsInImage op m → failed through op m ≡ Some failure
+    → Breaks host failure.line.0 old new
 unfolding between
 failure_breaks host m old new op through failure acts wide normal inside fails =
     let b = op_breaks op m through failure normal inside fails in

@@ -100,7 +100,9 @@ module _ (image : Image) (limit : line_bytes * length image ≤ device_limit) (h
       by_copy (Dirty a words) clean = absurd clean
 
   -- a sound reading
-  known : (p : Params) (entries : List Entry) → least_lines ≤ length image → KeepFronts (Known p (map (held_file (line_at image)) entries) (length entries)) hosts → reading_of (line_at image) (line_bytes * length image) ≡ Sound p entries
+  known : (p : Params) (entries : List Entry) → least_lines ≤ length image
+      → KeepFronts (Known p (map (held_file (line_at image)) entries) (length entries)) hosts → reading_of (line_at image) (line_bytes * length image)
+      ≡ Sound p entries
       → IsKnown p (map (held_file (line_at image)) entries) (length entries) (length image) hosts (shared_with image copy)
   known p entries enough keep h =
       let reads : ReadsSound (line_at image) (line_bytes * length image) p entries = sound_reads (line_at image) (line_bytes * length image) p entries h in
@@ -141,7 +143,8 @@ module _ (image : Image) (limit : line_bytes * length image ≤ device_limit) (h
   }
 
   -- by the reading
-  by_reading : (r : Reading) → reading_of (line_at image) (line_bytes * length image) ≡ r → least_lines ≤ length image → KeepFronts (settled_by (line_at image) r) hosts → InvariantBy (settled_by (line_at image) r) (length image) hosts (shared_with image copy)
+  by_reading : (r : Reading) → reading_of (line_at image) (line_bytes * length image) ≡ r → least_lines ≤ length image
+      → KeepFronts (settled_by (line_at image) r) hosts → InvariantBy (settled_by (line_at image) r) (length image) hosts (shared_with image copy)
   by_reading (NoSuperblock fault) is enough keep = damaged enough keep (λ p es sound. cc)
   by_reading (BadHeader fault) is enough keep = damaged enough keep (λ p es sound. cc)
   by_reading (BadSlot i reason) is enough keep = damaged enough keep (λ p es sound. cc)

@@ -21,7 +21,8 @@ use Rattle.fam_protocol.specs.Bad.{AtDamagedPhase}
 abbrev pub with_copies : SharedState → (ℕ → ℕ → Cell) → SharedState
 with_copies s copy = record { memory = s.memory; copy = copy }
 
-module _ (sys sys' : System) (host : ℕ) (floor : Option ℕ) (t : Task) (s : SharedState) (copy : ℕ → ℕ → Cell) (all : List File) (settled : ℕ) (params : sys'.params ≡ sys.params) (on : sys.master ≡ Some host → sys'.master ≡ Some host)
+module _ (sys sys' : System) (host : ℕ) (floor : Option ℕ) (t : Task) (s : SharedState) (copy : ℕ → ℕ → Cell) (all : List File) (settled : ℕ)
+    (params : sys'.params ≡ sys.params) (on : sys.master ≡ Some host → sys'.master ≡ Some host)
     (back : sys'.master ≡ Some host → sys.master ≡ Some host) (same : (l : ℕ) → copy host l ≡ s.copy host l) where
   -- the host's copy of a line
   fresh_kept : (l : ℕ) → Fresh (s.memory l) (s.copy host l) → Fresh (s.memory l) (copy host l)
@@ -125,11 +126,23 @@ module _ (sys sys' : System) (host : ℕ) (floor : Option ℕ) (t : Task) (s : S
 
   awaits_slot_kept : AwaitsSlot sys host t s all settled → AwaitsSlot sys' host t (with_copies s copy) all settled
   unfolding writing_kept
-  awaits_slot_kept h = record { writing = writing_kept h.writing; contents = all_data_kept h.contents; slot = subst (λ (p : Params). HasAskedLines (geometry p).lines host t (with_copies s copy)) (sym params) (asked_kept (geometry sys.params).lines h.slot) }
+  awaits_slot_kept h = record {
+    writing = writing_kept h.writing;
+    contents = all_data_kept h.contents;
+    slot =
+        subst (λ (p : Params). HasAskedLines (geometry p).lines host t (with_copies s copy)) (sym params)
+        (asked_kept (geometry sys.params).lines h.slot);
+  }
 
   may_publish_kept : MayPublish sys host t s all settled → MayPublish sys' host t (with_copies s copy) all settled
   unfolding writing_kept
-  may_publish_kept h = record { writing = writing_kept h.writing; contents = all_data_kept h.contents; slot = subst (λ (p : Params). HasWrittenLines (geometry p).lines host t (with_copies s copy)) (sym params) (slots_kept (geometry sys.params).lines h.slot) }
+  may_publish_kept h = record {
+    writing = writing_kept h.writing;
+    contents = all_data_kept h.contents;
+    slot =
+        subst (λ (p : Params). HasWrittenLines (geometry p).lines host t (with_copies s copy)) (sym params)
+        (slots_kept (geometry sys.params).lines h.slot);
+  }
 
   published_kept : HasPublished sys host t s all → HasPublished sys' host t (with_copies s copy) all
   published_kept h = record {

@@ -75,12 +75,14 @@ record Loosens (s : SharedState) (copy : ℕ → ℕ → Cell) : Type 0 where
   wide : IsWide s → IsWide (with_copies s copy)
   dirty : (h l : ℕ) → IsDirty (copy h l) → IsDirty (s.copy h l)
   absent : (h l : ℕ) → s.copy h l ≡ Absent → copy h l ≡ Absent
-  low : (m : Option ℕ) → gate_of (s.memory gate_line) ≤ top (s.memory gate_line) (masters_copy m s gate_line) → gate_of (s.memory gate_line) ≤ top (s.memory gate_line) (masters_copy m (with_copies s copy) gate_line)
+  low : (m : Option ℕ) → gate_of (s.memory gate_line) ≤ top (s.memory gate_line) (masters_copy m s gate_line)
+      → gate_of (s.memory gate_line) ≤ top (s.memory gate_line) (masters_copy m (with_copies s copy) gate_line)
   high : (m : Option ℕ) → gate_of (s.memory gate_line) ≤ top (s.memory gate_line) (masters_copy m s gate_line)
       → top (s.memory gate_line) (masters_copy m (with_copies s copy) gate_line) ≤ top (s.memory gate_line) (masters_copy m s gate_line)
 
 module _ (old new : Hosts) (lines : ℕ) (s : SharedState) (copy : ℕ → ℕ → Cell) (uuids : (h : ℕ) → new.uuid h ≡ old.uuid h) (idle : (h : ℕ) → old.run h ≡ None → old.uuid h ≡ None → new.run h ≡ None)
-    (runs : (h : ℕ) (r : Run) → new.run h ≡ Some r → Carried old s copy (new.kept h) h r ⊎ Begun old lines (new.kept h) h r) (keeps : (h : ℕ) → (new.kept h ≡ old.kept h) ⊎ (new.kept h ≡ None)) (loosens : Loosens s copy) where
+    (runs : (h : ℕ) (r : Run) → new.run h ≡ Some r → Carried old s copy (new.kept h) h r ⊎ Begun old lines (new.kept h) h r)
+    (keeps : (h : ℕ) → (new.kept h ≡ old.kept h) ⊎ (new.kept h ≡ None)) (loosens : Loosens s copy) where
   -- where a host kept nothing it keeps nothing
   bare_by : (h : ℕ) → old.kept h ≡ None → (new.kept h ≡ old.kept h) ⊎ (new.kept h ≡ None) → new.kept h ≡ None
   bare_by h none (inl same) = same ∙ none
@@ -106,12 +108,14 @@ module _ (old new : Hosts) (lines : ℕ) (s : SharedState) (copy : ℕ → ℕ �
   }
 
   -- a task that begins writes nothing yet
-  named_same : ((h : ℕ) (r : Run) → old.run h ≡ Some r → HasNamed r.task.phase → HoldsNamed r.task r.named) → (h : ℕ) (r : Run) → Carried old s copy (new.kept h) h r ⊎ Begun old lines (new.kept h) h r → HasNamed r.task.phase → HoldsNamed r.task r.named
+  named_same : ((h : ℕ) (r : Run) → old.run h ≡ Some r → HasNamed r.task.phase → HoldsNamed r.task r.named) → (h : ℕ) (r : Run)
+      → Carried old s copy (new.kept h) h r ⊎ Begun old lines (new.kept h) h r → HasNamed r.task.phase → HoldsNamed r.task r.named
   named_same named h r (inl carried) has = named h r carried.run has
   named_same named h r (inr begun) has = absurd (subst (λ (q : Run). HasNamed q.task.phase) begun.is has)
 
   -- nor has it a mark
-  marked_same : ((h : ℕ) (r : Run) → old.run h ≡ Some r → HasMarked r.task.phase → IsMarked r.floor) → (h : ℕ) (r : Run) → Carried old s copy (new.kept h) h r ⊎ Begun old lines (new.kept h) h r → HasMarked r.task.phase → IsMarked r.floor
+  marked_same : ((h : ℕ) (r : Run) → old.run h ≡ Some r → HasMarked r.task.phase → IsMarked r.floor) → (h : ℕ) (r : Run)
+      → Carried old s copy (new.kept h) h r ⊎ Begun old lines (new.kept h) h r → HasMarked r.task.phase → IsMarked r.floor
   marked_same marked h r (inl carried) has = marked h r carried.run has
   marked_same marked h r (inr begun) has = absurd (subst (λ (q : Run). HasMarked q.task.phase) begun.is has)
 
@@ -122,17 +126,36 @@ module _ (old new : Hosts) (lines : ℕ) (s : SharedState) (copy : ℕ → ℕ �
       elim (runs h r is) [ inl carried ↦ absurd (let was = carried.run in let gone = none h in cc) | inr begun ↦ absurd (omega (arith, begun.enough)) ]
 
   small_same : (image : Lines) → IsSmall image lines old s → IsSmall image lines new (with_copies s copy)
-  small_same image is = record { memory = is.memory; few = is.few; idle = λ h. small_by is.idle is.few h (new.run h) refl; bare = λ h. bare_by h (is.bare h) (keeps h); clean = λ h l d. is.clean h l (loosens.dirty h l d) }
+  small_same image is = record {
+    memory = is.memory;
+    few = is.few;
+    idle = λ h. small_by is.idle is.few h (new.run h) refl;
+    bare = λ h.
+        bare_by h (is.bare h) (keeps h);
+    clean = λ h l d. is.clean h l (loosens.dirty h l d);
+  }
 
   -- a damaged image
-  bad_task : (image : Lines) → ((h : ℕ) → old.kept h ≡ None) → ((h : ℕ) (r : Run) → old.run h ≡ Some r → BadTaskHolds image (line_bytes * lines) old.uuid h r.task s) → (h : ℕ) (r : Run) → Carried old s copy (new.kept h) h r ⊎ Begun old lines (new.kept h) h r
+  bad_task : (image : Lines) → ((h : ℕ) → old.kept h ≡ None)
+      → ((h : ℕ) (r : Run) → old.run h ≡ Some r → BadTaskHolds image (line_bytes * lines) old.uuid h r.task s) → (h : ℕ) (r : Run)
+      → Carried old s copy (new.kept h) h r ⊎ Begun old lines (new.kept h) h r
       → BadTaskHolds image (line_bytes * lines) new.uuid h r.task (with_copies s copy)
   bad_task image bare tasks h r (inl carried) =
       let was = tasks h r carried.run in
       record { me = uuids h ∙ was.me; lines = was.lines; phase = bad_phase_kept image (line_bytes * lines) h r.task s copy carried.same r.task.phase was.phase }
   bad_task image bare tasks h r (inr begun) =
       subst (λ (q : Run). BadTaskHolds image (line_bytes * lines) new.uuid h q.task (with_copies s copy)) (sym begun.is)
-      record { me = uuids h ∙ begun.declared; lines = refl; phase = record { entries = refl; survey = refl; unused = λ p gate. ap (λ (k : Option Kept). used k begun.cmd p gate) (bare_by h (bare h) (keeps h)) ∙ used_none begun.cmd p gate } }
+      record {
+        me = uuids h ∙ begun.declared;
+        lines = refl;
+        phase =
+            record {
+              entries = refl;
+              survey = refl;
+              unused = λ p gate. ap (λ (k : Option Kept). used k begun.cmd p gate) (bare_by h (bare h) (keeps h))
+                  ∙ used_none begun.cmd p gate;
+            };
+      }
 
   damaged_same : (image : Lines) → IsDamaged image lines old s → IsDamaged image lines new (with_copies s copy)
   damaged_same image is = record {
@@ -143,7 +166,8 @@ module _ (old new : Hosts) (lines : ℕ) (s : SharedState) (copy : ℕ → ℕ �
   }
 
   -- a sound file system
-  good_task : (sys : System) (all : List File) (settled : ℕ) → sys.uuid ≡ old.uuid → line_bytes * lines ≡ sys.have → ((h : ℕ) (r : Run) → old.run h ≡ Some r → TaskHolds sys h r.floor r.task s all settled)
+  good_task : (sys : System) (all : List File) (settled : ℕ) → sys.uuid ≡ old.uuid → line_bytes * lines ≡ sys.have
+      → ((h : ℕ) (r : Run) → old.run h ≡ Some r → TaskHolds sys h r.floor r.task s all settled)
       → (h : ℕ) (r : Run) → Carried old s copy (new.kept h) h r ⊎ Begun old lines (new.kept h) h r → TaskHolds (with_hosts sys new.uuid sys.master) h r.floor r.task (with_copies s copy) all settled
   good_task sys all settled hosts have tasks h r (inl carried) =
       let was = tasks h r carried.run in
@@ -177,7 +201,17 @@ module _ (old new : Hosts) (lines : ℕ) (s : SharedState) (copy : ℕ → ℕ �
   stage_same (Known p all settled) is = known_same p all settled is
 
   invariant_same : (settled : Settled) → Invariant settled lines old s → Invariant settled lines new (with_copies s copy)
-  invariant_same settled invariant = record { declared = hosts_same invariant.declared; marked = λ h r run. marked_same invariant.marked h r (runs h r run); named = λ h r run. named_same invariant.named h r (runs h r run); keeps = λ h r run. own_same invariant.keeps h r (runs h r run); wide = loosens.wide invariant.wide; stage = stage_same settled invariant.stage }
+  invariant_same settled invariant =
+      record {
+        declared = hosts_same invariant.declared;
+        marked = λ h r run. marked_same invariant.marked h r (runs h r run);
+        named = λ h r run.
+            named_same invariant.named h r (runs h r run);
+        keeps = λ h r run. own_same invariant.keeps h r (runs h r run);
+        wide =
+            loosens.wide invariant.wide;
+        stage = stage_same settled invariant.stage;
+      }
 
 -- nothing becomes of copies
 nothing_lost : (s : SharedState) → Loosens s s.copy
@@ -220,7 +254,8 @@ module _ (host : ℕ) (s : SharedState) (copy : ℕ → ℕ → Cell) (gone : (l
       let fallen : top (s.memory gate_line) (copy h gate_line) ≡ gate_of (s.memory gate_line) = ap (top (s.memory gate_line)) lost in
       (omega (arith, fallen), omega (arith, fallen))
 
-  low_lost : (m : Option ℕ) → gate_of (s.memory gate_line) ≤ top (s.memory gate_line) (masters_copy m s gate_line) → gate_of (s.memory gate_line) ≤ top (s.memory gate_line) (masters_copy m (with_copies s copy) gate_line)
+  low_lost : (m : Option ℕ) → gate_of (s.memory gate_line) ≤ top (s.memory gate_line) (masters_copy m s gate_line)
+      → gate_of (s.memory gate_line) ≤ top (s.memory gate_line) (masters_copy m (with_copies s copy) gate_line)
   low_lost None low = low
   low_lost (Some h) low = (top_by h (kept_or_gone h gate_line) low).0
 
@@ -242,7 +277,8 @@ module _ (host : ℕ) (s : SharedState) (copy : ℕ → ℕ → Cell) (gone : (l
 
 module _ (settled : Settled) (lines host : ℕ) (old new : Hosts) where
   -- a host's task is dropped: no other task is
-  carried_by : (s : SharedState) (copy : ℕ → ℕ → Cell) → Stops host old new → ((h l : ℕ) → h ≢ host → copy h l ≡ s.copy h l) → (h : ℕ) (r : Run) → new.run h ≡ Some r → Carried old s copy (new.kept h) h r ⊎ Begun old lines (new.kept h) h r
+  carried_by : (s : SharedState) (copy : ℕ → ℕ → Cell) → Stops host old new → ((h l : ℕ) → h ≢ host → copy h l ≡ s.copy h l) → (h : ℕ) (r : Run)
+      → new.run h ≡ Some r → Carried old s copy (new.kept h) h r ⊎ Begun old lines (new.kept h) h r
   carried_by s copy stops others h r run =
       elim (cases_eq h host) [
         | inl is ↦ absurd (let here : new.run h ≡ None = ap new.run is ∙ stops.is in cc)
@@ -265,11 +301,14 @@ module _ (settled : Settled) (lines host : ℕ) (old new : Hosts) where
 
   -- a stop
   pub invariant_stopped : (s : SharedState) → Invariant settled lines old s → Stops host old new → Invariant settled lines new s
-  invariant_stopped s invariant stops = invariant_same old new lines s s.copy stops.uuids (idle_by stops) (carried_by s s.copy stops (λ h l other. refl)) (keeps_by stops) (nothing_lost s) settled invariant
+  invariant_stopped s invariant stops = invariant_same old new lines s s.copy stops.uuids (idle_by stops)
+      (carried_by s s.copy stops (λ h l other. refl)) (keeps_by stops) (nothing_lost s) settled invariant
 
   -- a halt
-  halted_at : (s : SharedState) (copy : ℕ → ℕ → Cell) → Invariant settled lines old s → Stops host old new → ((l : ℕ) → copy host l ≡ Absent) → ((h l : ℕ) → h ≢ host → copy h l ≡ s.copy h l) → Invariant settled lines new (with_copies s copy)
-  halted_at s copy invariant stops gone others = invariant_same old new lines s copy stops.uuids (idle_by stops) (carried_by s copy stops others) (keeps_by stops) (cache_lost host s copy gone others) settled invariant
+  halted_at : (s : SharedState) (copy : ℕ → ℕ → Cell) → Invariant settled lines old s → Stops host old new → ((l : ℕ) → copy host l ≡ Absent)
+      → ((h l : ℕ) → h ≢ host → copy h l ≡ s.copy h l) → Invariant settled lines new (with_copies s copy)
+  halted_at s copy invariant stops gone others = invariant_same old new lines s copy stops.uuids (idle_by stops) (carried_by s copy stops others)
+      (keeps_by stops) (cache_lost host s copy gone others) settled invariant
 
   -- a host halts and loses its cache
   pub invariant_halted : (s s' : SharedState) → Invariant settled lines old s → Stops host old new → Loses host s s' → Invariant settled lines new s'
@@ -278,7 +317,8 @@ module _ (settled : Settled) (lines host : ℕ) (old new : Hosts) where
       (halted_at s s'.copy invariant stops loses.lost loses.hosts)
 
   -- a begin, of an image that has a gate
-  begun_by : (s : SharedState) (cmd : Cmd) → least_lines ≤ lines → Starts host cmd lines old new → (h : ℕ) (r : Run) → new.run h ≡ Some r → Carried old s s.copy (new.kept h) h r ⊎ Begun old lines (new.kept h) h r
+  begun_by : (s : SharedState) (cmd : Cmd) → least_lines ≤ lines → Starts host cmd lines old new → (h : ℕ) (r : Run) → new.run h ≡ Some r
+      → Carried old s s.copy (new.kept h) h r ⊎ Begun old lines (new.kept h) h r
   begun_by s cmd enough starts h r run =
       elim (cases_eq h host) [
         | inl is ↦ inr record {
@@ -287,7 +327,9 @@ module _ (settled : Settled) (lines host : ℕ) (old new : Hosts) where
           enough = enough;
           declared = ap old.uuid is ∙ starts.declared;
           command = starts.command;
-          is = let now : new.kept h ≡ old.kept host = ap new.kept is ∙ starts.kept host in let here : new.run h ≡ Some (record { task = mounted (new.kept h) cmd starts.me lines; floor = None; named = None }) = ap new.run is ∙ starts.is ∙ ap (λ (k : Option Kept). Some (record { task = mounted k cmd starts.me lines; floor = None; named = None })) (sym now) in cc;
+          is = let now : new.kept h ≡ old.kept host = ap new.kept is ∙ starts.kept host in let here : new.run h
+              ≡ Some (record { task = mounted (new.kept h) cmd starts.me lines; floor = None; named = None }) = ap new.run is ∙ starts.is
+              ∙ ap (λ (k : Option Kept). Some (record { task = mounted k cmd starts.me lines; floor = None; named = None })) (sym now) in cc;
         }
         | inr other ↦ inl record { run = sym (starts.runs h other) ∙ run; kept = starts.kept h; same = λ l. refl }
       ]
@@ -301,7 +343,8 @@ module _ (settled : Settled) (lines host : ℕ) (old new : Hosts) where
 
   -- a declared host begins a command
   pub invariant_begun : (s : SharedState) (cmd : Cmd) → least_lines ≤ lines → Invariant settled lines old s → Starts host cmd lines old new → Invariant settled lines new s
-  invariant_begun s cmd enough invariant starts = invariant_same old new lines s s.copy starts.uuids (idle_but cmd starts) (begun_by s cmd enough starts) (λ h. inl (starts.kept h)) (nothing_lost s) settled invariant
+  invariant_begun s cmd enough invariant starts = invariant_same old new lines s s.copy starts.uuids (idle_but cmd starts)
+      (begun_by s cmd enough starts) (λ h. inl (starts.kept h)) (nothing_lost s) settled invariant
 
 -- A new host.
 
@@ -433,6 +476,17 @@ module _ (lines host : ℕ) (id : List ℕ) (old new : Hosts) (s : SharedState) 
   stage_declared (Known p all settled) is = known_declared p all settled is
 
 -- a host is declared
-pub invariant_declared : (settled : Settled) (lines host : ℕ) (id : List ℕ) (old new : Hosts) (s : SharedState) → Invariant settled lines old s → Declares host id old new → Invariant settled lines new s
+pub invariant_declared : (settled : Settled) (lines host : ℕ) (id : List ℕ) (old new : Hosts) (s : SharedState) → Invariant settled lines old s
+    → Declares host id old new → Invariant settled lines new s
 invariant_declared settled lines host id old new s invariant declares =
-    record { declared = hosts_declared lines host id old new s declares invariant.declared; marked = λ h r run. invariant.marked h r (sym (declares.runs h) ∙ run); named = λ h r run. invariant.named h r (sym (declares.runs h) ∙ run); keeps = λ h r run. invariant.keeps h r (sym (declares.runs h) ∙ run) ∙ sym (declares.kept h); wide = invariant.wide; stage = stage_declared lines host id old new s declares invariant.declared settled invariant.stage }
+    record {
+      declared = hosts_declared lines host id old new s declares invariant.declared;
+      marked = λ h r run.
+          invariant.marked h r (sym (declares.runs h) ∙ run);
+      named = λ h r run. invariant.named h r (sym (declares.runs h) ∙ run);
+      keeps = λ h r run.
+          invariant.keeps h r (sym (declares.runs h) ∙ run) ∙ sym (declares.kept h);
+      wide = invariant.wide;
+      stage =
+          stage_declared lines host id old new s declares invariant.declared settled invariant.stage;
+    }

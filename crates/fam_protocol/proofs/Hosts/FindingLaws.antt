@@ -85,7 +85,8 @@ module _ (sys : System) (host : ℕ) (floor : Option ℕ) (t : Task) (s : Shared
   writing_last named holds w = holds_last floor named t all holds w.pending w.file w.last w.entry
 
   -- the entry that is being appended, by the place
-  named_at : (q : Phase) → HasNamed q → (named : Option Named) → HoldsNamed t named → AtPhase q sys host floor t s all settled → AppendsNamed (record { task = t; floor = floor; named = named }) all t.gate
+  named_at : (q : Phase) → HasNamed q → (named : Option Named) → HoldsNamed t named → AtPhase q sys host floor t s all settled
+      → AppendsNamed (record { task = t; floor = floor; named = named }) all t.gate
   named_at (at.StoreData j k) has named holds g = writing_last named holds g.1.writing
   named_at (at.SendData j) has named holds g = writing_last named holds g.writing
   named_at (at.StoreSlot j k) has named holds g = writing_last named holds g.1.writing
@@ -108,12 +109,14 @@ module _ (sys : System) (host : ℕ) (floor : Option ℕ) (t : Task) (s : Shared
         file = found.0;
         is = found.1;
         reads = here;
-        spelled = λ fits. same ∙ read_spelled sys.params (slot_words s.memory sys.params i) i found.0.entry (slot_long s.memory sys.params i) (λ k. slot_fits s.memory sys.params i k fits) (ap (λ (w : List ℕ). entry_of sys.params w i) (sym same) ∙ here);
+        spelled = λ fits. same ∙ read_spelled sys.params (slot_words s.memory sys.params i) i found.0.entry (slot_long s.memory sys.params i)
+            (λ k. slot_fits s.memory sys.params i k fits) (ap (λ (w : List ℕ). entry_of sys.params w i) (sym same) ∙ here);
         before = g.1.read;
       }
 
 -- a word of a file's line that memory has, where it was loaded
-module _ (sys : System) (host : ℕ) (floor : Option ℕ) (t : Task) (s : SharedState) (all : List File) (settled j k word : ℕ) (core : Core sys s all settled) (below : k < 8) (f : ReadsFile t all j) (high : t.gate ≤ gate_of (s.memory gate_line))
+module _ (sys : System) (host : ℕ) (floor : Option ℕ) (t : Task) (s : SharedState) (all : List File) (settled j k word : ℕ)
+    (core : Core sys s all settled) (below : k < 8) (f : ReadsFile t all j) (high : t.gate ≤ gate_of (s.memory gate_line))
     (is : word ≡ slice_index (s.memory (part_line t FileLines j)) k) where
   byte_loaded : (b : ℕ) → b < 8 → 64 * (first_line t.cmd + j) + (8 * k + b) < f.file.entry.size → byte_of word b ≡ slice_index f.file.bytes (64 * (first_line t.cmd + j) + (8 * k + b))
   byte_loaded b lt inside =
@@ -200,7 +203,8 @@ module _ (p : Params) (all : List File) (settled : ℕ) (at : SoundTask p all se
       (stage.tasks at.host at.run at.runs).phase
 
 -- what it knows of a slot that it loaded
-pub loaded_slot : (p : Params) (all : List File) (settled i : ℕ) (at : SoundTask p all settled) → at.run.task.phase ≡ Phase.Check i → i < at.run.task.gate → IsLoadedSlot p i at.run.task all at.shared.memory
+pub loaded_slot : (p : Params) (all : List File) (settled i : ℕ) (at : SoundTask p all settled) → at.run.task.phase ≡ Phase.Check i
+    → i < at.run.task.gate → IsLoadedSlot p i at.run.task all at.shared.memory
 loaded_slot p all settled i at is below =
     let known : IsKnown p all settled at.lines at.hosts at.shared = at.invariant.stage in
     let sys : System = record { params = p; have = line_bytes * at.lines; uuid = at.hosts.uuid; master = known.master } in
@@ -230,7 +234,8 @@ module _ (p : Params) (all : List File) (settled : ℕ) (step : SoundStep p all 
   found_count n t is = (says (Finds n t) is).may
 
   -- which entry it names
-  pub named_next : (seq : ℕ) (e : Entry) (t : Task) → turn_given step.run.task step.word ≡ Writes seq e t → (seq ≡ settled) × (seq ≡ length all) × (decide p step.run.task.me (entries_of all) step.run.task.cmd ≡ Some (Ok e))
+  pub named_next : (seq : ℕ) (e : Entry) (t : Task) → turn_given step.run.task step.word ≡ Writes seq e t
+      → (seq ≡ settled) × (seq ≡ length all) × (decide p step.run.task.me (entries_of all) step.run.task.cmd ≡ Some (Ok e))
   named_next seq e t is = (says (Writes seq e t) is).may
 
   -- the answer to a question

@@ -41,7 +41,8 @@ pub record Leaves (p : Phase) (sys : System) (host : ℕ) (floor : Option ℕ) (
 
 module _ (sys : System) (s s' : SharedState) (all : List File) (settled : ℕ) (core : Core sys s all settled) (host : ℕ) (floor : Option ℕ) (word : ℕ) (t : Task) where
   -- a drop, a load, a write-back
-  module _ (p : Phase) (line : ℕ) (m : List ℕ) (c : Cell) (left : LeavesAt host line s s' m c) (d : Transfers (s.memory line) (s.copy host line) m c) (known : AtPhase p sys host floor t s all settled) where
+  module _ (p : Phase) (line : ℕ) (m : List ℕ) (c : Cell) (left : LeavesAt host line s s' m c) (d : Transfers (s.memory line) (s.copy host line) m c)
+      (known : AtPhase p sys host floor t s all settled) where
     moves : TransfersAt host line s s'
     moves = transfers_at host line s s' m c left d
 
@@ -100,7 +101,9 @@ module _ (sys : System) (s s' : SharedState) (all : List File) (settled : ℕ) (
   slot_once w a b la lb e =
       (slots_apart sys.params t.gate t.gate a b la lb (sym (ap (λ (p : Params). slot_line p t.gate a) w.params) ∙ e ∙ ap (λ (p : Params). slot_line p t.gate b) w.params)).1
 
-  store_data : (j k : ℕ) → k < 8 → (d : StoresData j k sys host t s all settled) → LeavesAt host (line_of t.entry j) s s' (s.memory (line_of t.entry j)) (stored k (slice_index (data_words t j) k) (s.memory (line_of t.entry j)) (s.copy host (line_of t.entry j)))
+  store_data : (j k : ℕ) → k < 8 → (d : StoresData j k sys host t s all settled)
+      → LeavesAt host (line_of t.entry j) s s' (s.memory (line_of t.entry j))
+      (stored k (slice_index (data_words t j) k) (s.memory (line_of t.entry j)) (s.copy host (line_of t.entry j)))
       → Leaves (at.StoreData j k) sys host floor word t s s' all settled
   unfolding writing_stored
   store_data j k lt d left =
@@ -122,7 +125,9 @@ module _ (sys : System) (s s' : SharedState) (all : List File) (settled : ℕ) (
         others = λ h ne. store_keeps sys s s' all settled core host t d.writing line k value of left h ne;
       }
 
-  store_slot : (j k : ℕ) → k < 8 → (d : StoresSlot j k sys host t s all settled) → LeavesAt host (slot_line t.params t.gate j) s s' (s.memory (slot_line t.params t.gate j)) (stored k (slice_index t.words (8 * j + k)) (s.memory (slot_line t.params t.gate j)) (s.copy host (slot_line t.params t.gate j)))
+  store_slot : (j k : ℕ) → k < 8 → (d : StoresSlot j k sys host t s all settled)
+      → LeavesAt host (slot_line t.params t.gate j) s s' (s.memory (slot_line t.params t.gate j))
+      (stored k (slice_index t.words (8 * j + k)) (s.memory (slot_line t.params t.gate j)) (s.copy host (slot_line t.params t.gate j)))
       → Leaves (at.StoreSlot j k) sys host floor word t s s' all settled
   store_slot j k lt d left =
       let line = slot_line t.params t.gate j in
@@ -153,7 +158,9 @@ module _ (sys : System) (s s' : SharedState) (all : List File) (settled : ℕ) (
       rw (left.memory_is, left.copy_is) (sent_whole (data_words t j) _ _ refl (core.wide.memory (line_of t.entry j)) (core.wide.copies host (line_of t.entry j)) d.here, tt)
 
   -- a line of the slot is asked for
-  asked_slot : (j : ℕ) → StoresSlot j 8 sys host t s' all settled → LeavesAt host (slot_line t.params t.gate j) s s' (s.memory (slot_line t.params t.gate j)) (asked_for (s.copy host (slot_line t.params t.gate j)))
+  asked_slot : (j : ℕ) → StoresSlot j 8 sys host t s' all settled
+      → LeavesAt host (slot_line t.params t.gate j) s s' (s.memory (slot_line t.params t.gate j))
+      (asked_for (s.copy host (slot_line t.params t.gate j)))
       → Asked (slot_part t.words j) (s'.memory (slot_line t.params t.gate j)) (s'.copy host (slot_line t.params t.gate j))
   asked_slot j d left = (d.here, subst IsHandedOver (sym left.copy_is) (asked_handed (s.copy host (slot_line t.params t.gate j))))
 
@@ -172,7 +179,8 @@ module _ (sys : System) (s s' : SharedState) (all : List File) (settled : ℕ) (
     slot = λ b lt.
         let line = slot_line t.params t.gate b in
         let long : 8 * b + 8 ≤ length t.words = omega (arith, lt, ap length d.writing.words ∙ spelling_count sys.params d.writing.file.entry t.gate, (shape sys.params).words) in
-        finished_then (slot_part t.words b) (s'.memory line) (s'.copy host line) (part_length t.words b long) ((fenced f).core.wide.memory line) (d.slot b lt).0 (not_dirty_then (s'.copy host line) (d.slot b lt).1 (f.none_asked line));
+        finished_then (slot_part t.words b) (s'.memory line) (s'.copy host line) (part_length t.words b long) ((fenced f).core.wide.memory line)
+        (d.slot b lt).0 (not_dirty_then (s'.copy host line) (d.slot b lt).1 (f.none_asked line));
   }
 
   -- and the gate is sent

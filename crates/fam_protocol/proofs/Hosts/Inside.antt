@@ -82,7 +82,8 @@ module _ (lines : ℕ) (enough : least_lines ≤ lines) (p : Params) (sound : So
   slot_part_within t i j same gate below within =
       subst (λ (q : Params). slot_line q i j < lines) (sym same) (slot_within i j (omega (arith, slots_within t same gate, below)) (subst (λ (q : Params). j < (geometry q).lines) same within))
 
-module _ (lines : ℕ) (enough : least_lines ≤ lines) (sys : System) (s : SharedState) (all : List File) (settled : ℕ) (core : Core sys s all settled) (have : sys.have ≡ line_bytes * lines) (host : ℕ) (floor : Option ℕ) (t : Task) where
+module _ (lines : ℕ) (enough : least_lines ≤ lines) (sys : System) (s : SharedState) (all : List File) (settled : ℕ) (core : Core sys s all settled)
+    (have : sys.have ≡ line_bytes * lines) (host : ℕ) (floor : Option ℕ) (t : Task) where
   device_within : sys.params.device ≤ line_bytes * lines
   device_within = omega (arith, core.head.device, have)
 
@@ -115,7 +116,8 @@ module _ (lines : ℕ) (enough : least_lines ≤ lines) (sys : System) (s : Shar
       let w = holds.writing in line_within t.entry t.gate w.file j w.last w.entry holds.line
   at_within (at.StoreSlot j k) holds =
       let w = holds.1.writing in
-      subst (λ (q : Params). slot_line q t.gate j < lines) (sym w.params) (slot_within lines enough sys.params core.head.sound device_within t.gate j (omega (arith, w.pending, core.room)) holds.1.line)
+      subst (λ (q : Params). slot_line q t.gate j < lines) (sym w.params)
+      (slot_within lines enough sys.params core.head.sound device_within t.gate j (omega (arith, w.pending, core.room)) holds.1.line)
   at_within (at.SendSlot j) holds =
       let w = holds.writing in
       subst (λ (q : Params). slot_line q t.gate j < lines) (sym w.params) (slot_within lines enough sys.params core.head.sound device_within t.gate j (omega (arith, w.pending, core.room)) holds.line)
@@ -135,7 +137,9 @@ module _ (image : Lines) (lines : ℕ) (enough : least_lines ≤ lines) (limit :
       gate_counts gate p none = go (Rattle.std.specs.Prelude.nat_lt p.slots gate) refl none
         where
           go : (b : Rattle.std.specs.Prelude.Bool) → Rattle.std.specs.Prelude.nat_lt p.slots gate ≡ b
-              → Rattle.std.specs.Prelude.if◌then◌else◌ b (Some (Rattle.fam_format.specs.declared.faults.LogFault.TheVariants.BadLog Rattle.fam_format.specs.declared.faults.LogField.TheVariants.Gate gate p.slots)) None ≡ None → gate ≤ p.slots
+              → Rattle.std.specs.Prelude.if◌then◌else◌ b
+              (Some (Rattle.fam_format.specs.declared.faults.LogFault.TheVariants.BadLog
+              Rattle.fam_format.specs.declared.faults.LogField.TheVariants.Gate gate p.slots)) None ≡ None → gate ≤ p.slots
           go Rattle.std.specs.Prelude.true is none = absurd cc
           go Rattle.std.specs.Prelude.false is none = grind (arith, Rattle.std.proofs.lemmas.Bool.Decides.nat_tests)
 
@@ -157,12 +161,14 @@ module _ (image : Lines) (lines : ℕ) (enough : least_lines ≤ lines) (limit :
   bad_within e holds = absurd holds
 
 -- wherever a task stands
-within : (settled : Settled) (lines : ℕ) (hosts : Hosts) (s : SharedState) → line_bytes * lines ≤ device_limit → InvariantBy settled lines hosts s → (h : ℕ) (r : Run) → hosts.run h ≡ Some r → AsksWithin lines (op_of r.task)
+within : (settled : Settled) (lines : ℕ) (hosts : Hosts) (s : SharedState) → line_bytes * lines ≤ device_limit → InvariantBy settled lines hosts s
+    → (h : ℕ) (r : Run) → hosts.run h ≡ Some r → AsksWithin lines (op_of r.task)
 within (Small image) lines hosts s limit stage h r run = absurd (let none = stage.idle h in cc)
 within (Damaged image) lines hosts s limit stage h r run =
     bad_within image lines stage.enough limit h r.task s r.task.phase (stage.tasks h r run).phase
 within (Known p all settled) lines hosts s limit stage h r run =
-    at_within lines stage.enough (record { params = p; have = line_bytes * lines; uuid = hosts.uuid; master = stage.master }) s all settled stage.core refl h r.floor r.task r.task.phase (stage.tasks h r run).phase
+    at_within lines stage.enough (record { params = p; have = line_bytes * lines; uuid = hosts.uuid; master = stage.master }) s all settled stage.core
+    refl h r.floor r.task r.task.phase (stage.tasks h r run).phase
 
 -- what a cache has to send are lines of the image
 pub dirty_inside : (settled : Settled) (lines : ℕ) (hosts : Hosts) (s : SharedState) → InvariantBy settled lines hosts s → (h l : ℕ) → IsDirty (s.copy h l) → l < lines
@@ -171,6 +177,8 @@ dirty_inside (Damaged image) lines hosts s stage h l d = absurd (stage.still.cle
 dirty_inside (Known p all settled) lines hosts s stage h l d = stage.inside h l d
 
 -- so it is inside each image of so many lines
-pub asks_inside : (settled : Settled) (lines : ℕ) (hosts : Hosts) (s : SharedState) → line_bytes * lines ≤ device_limit → InvariantBy settled lines hosts s → (h : ℕ) (r : Run) → hosts.run h ≡ Some r → (m : Machine) → IsMachineOf h m s → length m.image ≡ lines → IsInImage (op_of r.task) m
+pub asks_inside : (settled : Settled) (lines : ℕ) (hosts : Hosts) (s : SharedState) → line_bytes * lines ≤ device_limit
+    → InvariantBy settled lines hosts s → (h : ℕ) (r : Run) → hosts.run h ≡ Some r → (m : Machine) → IsMachineOf h m s → length m.image ≡ lines
+    → IsInImage (op_of r.task) m
 asks_inside settled lines hosts s limit stage h r runs m of same =
     inside_of (op_of r.task) m lines same (λ l d. dirty_inside settled lines hosts s stage h l (subst IsDirty (sym (of.copies l)) d)) (within settled lines hosts s limit stage h r runs)

@@ -111,7 +111,9 @@ module _ (image : Image) (limit : line_bytes * length image ≤ device_limit) (h
       (sym (all_files (line_at image) p is.core.head.sound all (λ i f at. one_file (line_at image) p is.core.head.sound i (take i all) f (is.core.history i f at) (stands_at i f at))))
       (length-map all (λ (f : File). f.entry))
     where
-      by_test : (b : Bool) → nat_lt (length image) least_lines ≡ b → (if b then Small (line_at image) else settled_by (line_at image) (reading_of (line_at image) (line_bytes * length image))) ≡ settled_by (line_at image) (reading_of (line_at image) (line_bytes * length image))
+      by_test : (b : Bool) → nat_lt (length image) least_lines ≡ b
+          → (if b then Small (line_at image) else settled_by (line_at image) (reading_of (line_at image) (line_bytes * length image)))
+          ≡ settled_by (line_at image) (reading_of (line_at image) (line_bytes * length image))
       by_test true few = let enough = is.enough in absurd (grind (arith, nat_tests))
       by_test false few = refl
 

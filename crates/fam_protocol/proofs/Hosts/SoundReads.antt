@@ -140,7 +140,8 @@ gate_counts : (gate : ℕ) (p : Params) → gate_fault gate p ≡ None → gate 
 gate_counts gate p h = grind (arith, nat_tests)
 
 module _ (line : Lines) (have : ℕ) (q : Params) (es : List Entry) where
-  by_gate : (p : Params) (f : Option LogFault) → super_in line have ≡ Ok p → log_fault (line log_line) p ≡ None → gate_fault (gate_in line) p ≡ f → read_below line p f ≡ Sound q es → ReadsSound line have q es
+  by_gate : (p : Params) (f : Option LogFault) → super_in line have ≡ Ok p → log_fault (line log_line) p ≡ None → gate_fault (gate_in line) p ≡ f
+      → read_below line p f ≡ Sound q es → ReadsSound line have q es
   by_gate p (Some f) super header gate h = absurd (cc)
   by_gate p None super header gate h =
       let found = slots_found line p (gate_in line) 0 [] es q refl (λ i e none. absurd (cc)) h in

@@ -48,7 +48,8 @@ use Rattle.fam_protocol.proofs.Turns.Turned.{turned}
 -- the turn doesn't ask for a word where the operation gave none
 pub given_turn : (p : Phase) (t : Task) (word : ℕ) → t.phase ≡ p → turn_given t word ≡ turn_at t.phase t word
 given_turn p t word is =
-    ap (λ (q : Phase). turn_at t.phase t (unwrap_or (given_by (op_at t q) word) 0)) is ∙ ap (λ (q : Phase). turn_at q t (unwrap_or (given_by (op_at t p) word) 0)) is ∙ by_phase p ∙ sym (ap (λ (q : Phase). turn_at q t word) is)
+    ap (λ (q : Phase). turn_at t.phase t (unwrap_or (given_by (op_at t q) word) 0)) is
+    ∙ ap (λ (q : Phase). turn_at q t (unwrap_or (given_by (op_at t p) word) 0)) is ∙ by_phase p ∙ sym (ap (λ (q : Phase). turn_at q t word) is)
   where
     by_phase : (p : Phase) → turn_at p t (unwrap_or (given_by (op_at t p) word) 0) ≡ turn_at p t word
     by_phase at.DropMagic = refl
@@ -91,7 +92,8 @@ dirty_behind (Invalidate line) host lines s s' word h l wide left within d =
 dirty_behind Digest host lines s s' word h l wide same within d = inr (subst (λ (x : SharedState). IsDirty (x.copy h l)) same d)
 
 -- the same hosts, by their UUIDs
-hosts_are : (settled : Settled) (lines : ℕ) (old new : Hosts) (s : SharedState) → ((h : ℕ) → new.uuid h ≡ old.uuid h) → Invariant settled lines (record { uuid = old.uuid; run = new.run; kept = new.kept }) s → Invariant settled lines new s
+hosts_are : (settled : Settled) (lines : ℕ) (old new : Hosts) (s : SharedState) → ((h : ℕ) → new.uuid h ≡ old.uuid h)
+    → Invariant settled lines (record { uuid = old.uuid; run = new.run; kept = new.kept }) s → Invariant settled lines new s
 hosts_are settled lines old new s uuids invariant = subst (λ (u : ℕ → Option (List ℕ)). Invariant settled lines (record { uuid = u; run = new.run; kept = new.kept }) s) (sym (fun_ext uuids)) invariant
 
 no_run : {a : Run} → None ≡ Some a → ⊥
@@ -107,7 +109,15 @@ module _ (lines : ℕ) (hosts : Hosts) (host line : ℕ) (s s' : SharedState) (t
       absent h l none (inr ne) = transfer.only.hosts h l ne ∙ are.absent h l none
 
   transfer_stage : (settled : Settled) → IsWide s → InvariantBy settled lines hosts s → InvariantBy settled lines hosts s'
-  transfer_stage (Small image) wide is = record { memory = λ l. memory_still host line s s' transfer wide l (is.clean host l) ∙ is.memory l; few = is.few; idle = is.idle; bare = is.bare; clean = λ h l d. is.clean h l (dirty_was host line s s' transfer wide h l d) }
+  transfer_stage (Small image) wide is =
+      record {
+        memory = λ l. memory_still host line s s' transfer wide l (is.clean host l) ∙ is.memory l;
+        few = is.few;
+        idle = is.idle;
+        bare =
+            is.bare;
+        clean = λ h l d. is.clean h l (dirty_was host line s s' transfer wide h l d);
+      }
   transfer_stage (Damaged image) wide is = record {
     enough = is.enough;
     still = still_kept image (line_bytes * lines) host line s s' transfer is.still;
@@ -127,7 +137,16 @@ module _ (lines : ℕ) (hosts : Hosts) (host line : ℕ) (s s' : SharedState) (t
 
   -- a cache's own move keeps everything
   pub invariant_transferred : (settled : Settled) → Invariant settled lines hosts s → Invariant settled lines hosts s'
-  invariant_transferred settled invariant = record { declared = transfer_hosts invariant.declared; marked = invariant.marked; named = invariant.named; keeps = invariant.keeps; wide = wide_now host line s s' transfer invariant.wide; stage = transfer_stage settled invariant.wide invariant.stage }
+  invariant_transferred settled invariant =
+      record {
+        declared = transfer_hosts invariant.declared;
+        marked = invariant.marked;
+        named = invariant.named;
+        keeps = invariant.keeps;
+        wide =
+            wide_now host line s s' transfer invariant.wide;
+        stage = transfer_stage settled invariant.wide invariant.stage;
+      }
 
 -- What a host keeps.
 
@@ -142,13 +161,15 @@ keeps_none (Ends reply) image have t may = by_reply reply may
 keeps_none e image have t may = refl
 
 -- So do lines that are sent, and the media's failure behind them.
-invariant_sent : (lines : ℕ) (hosts : Hosts) (host : ℕ) (sent : List ℕ) (s s' : SharedState) → Sends host sent s s' → hosts.uuid host ≢ None → (settled : Settled) → Invariant settled lines hosts s → Invariant settled lines hosts s'
+invariant_sent : (lines : ℕ) (hosts : Hosts) (host : ℕ) (sent : List ℕ) (s s' : SharedState) → Sends host sent s s' → hosts.uuid host ≢ None
+    → (settled : Settled) → Invariant settled lines hosts s → Invariant settled lines hosts s'
 invariant_sent lines hosts host [] s _ all_sent declared settled invariant = invariant
 invariant_sent lines hosts host (line ∷ more) s s' (sends_one {next = next} left rest) declared settled invariant =
     invariant_sent lines hosts host more next s' rest declared settled
     (invariant_transferred lines hosts host line s next (sends_at host line s next left) declared settled invariant)
 
-pub invariant_broken : (lines : ℕ) (hosts : Hosts) (host line : ℕ) (s s' : SharedState) → Breaks host line s s' → hosts.uuid host ≢ None → (settled : Settled) → Invariant settled lines hosts s → Invariant settled lines hosts s'
+pub invariant_broken : (lines : ℕ) (hosts : Hosts) (host line : ℕ) (s s' : SharedState) → Breaks host line s s' → hosts.uuid host ≢ None
+    → (settled : Settled) → Invariant settled lines hosts s → Invariant settled lines hosts s'
 invariant_broken lines hosts host line s s' b declared settled invariant =
     invariant_transferred lines hosts host line b.between s' b.moves declared settled (invariant_sent lines hosts host b.lines s b.between b.sends declared settled invariant)
 
@@ -159,7 +180,8 @@ module _ (lines host word : ℕ) (r : Run) (old new : Hosts) (s s' : SharedState
 
   -- on a damaged image
   module _ (image : Lines) (is : IsDamaged image lines old s) (steps : Steps host word (Damaged image) r old new s s') where
-    bad_mine : (t : Turn) (settled : ℕ) (q : Run) → run_after t settled r ≡ Some q → GoesOnBad t image (line_bytes * lines) old.uuid host s' → BadTaskHolds image (line_bytes * lines) old.uuid host q.task s'
+    bad_mine : (t : Turn) (settled : ℕ) (q : Run) → run_after t settled r ≡ Some q → GoesOnBad t image (line_bytes * lines) old.uuid host s'
+        → BadTaskHolds image (line_bytes * lines) old.uuid host q.task s'
     bad_mine (Goes t) settled q e on = subst (λ (x : Run). BadTaskHolds image (line_bytes * lines) old.uuid host x.task s') (same_Some _ q e) on
     bad_mine (Marks t) settled q e on = subst (λ (x : Run). BadTaskHolds image (line_bytes * lines) old.uuid host x.task s') (same_Some _ q e) on
     bad_mine (Finds n t) settled q e on = subst (λ (x : Run). BadTaskHolds image (line_bytes * lines) old.uuid host x.task s') (same_Some _ q e) on
@@ -179,7 +201,8 @@ module _ (lines host word : ℕ) (r : Run) (old new : Hosts) (s s' : SharedState
             ap new.kept e
             ∙ steps.keeps
             ∙ ap (kept_after (turn_given r.task word) r.task) (is.bare host)
-            ∙ keeps_none (turn_given r.task word) image (line_bytes * lines) r.task (subst (λ (x : Turn). MaySayBad x image (line_bytes * lines) r.task) (sym (given_turn r.task.phase r.task word refl)) b.0)
+            ∙ keeps_none (turn_given r.task word) image (line_bytes * lines) r.task
+            (subst (λ (x : Turn). MaySayBad x image (line_bytes * lines) r.task) (sym (given_turn r.task.phase r.task word refl)) b.0)
         bare h (inr ne) = steps.kept h ne ∙ is.bare h
 
         task : (h : ℕ) (q : Run) → new.run h ≡ Some q → Same h host → BadTaskHolds image (line_bytes * lines) old.uuid h q.task s'
@@ -188,14 +211,17 @@ module _ (lines host word : ℕ) (r : Run) (old new : Hosts) (s s' : SharedState
             subst (λ x. BadTaskHolds image (line_bytes * lines) old.uuid x q.task s') (sym e)
             (bad_mine (turn_at r.task.phase r.task word) 0 q
             (ap (λ (t : Turn). run_after t 0 r) (sym (given_turn r.task.phase r.task word refl)) ∙ sym steps.mine ∙ subst (λ x. new.run x ≡ Some q) e run) b.2)
-        task h q run (inr ne) = bad_others image (line_bytes * lines) old.uuid host s s' word r.task is.still (is.tasks host r steps.is) steps.operates h q.task (is.tasks h q (sym (steps.runs h ne) ∙ run))
+        task h q run (inr ne) = bad_others image (line_bytes * lines) old.uuid host s s' word r.task is.still
+            (is.tasks host r steps.is) steps.operates h q.task (is.tasks h q (sym (steps.runs h ne) ∙ run))
 
   -- on a sound file system
-  module _ (p : Params) (all : List File) (settled : ℕ) (is : IsKnown p all settled lines old s) (steps : Steps host word (Known p all settled) r old new s s') (named : KeepsNamed r) (own : r.task.kept ≡ old.kept host) where
+  module _ (p : Params) (all : List File) (settled : ℕ) (is : IsKnown p all settled lines old s)
+      (steps : Steps host word (Known p all settled) r old new s s') (named : KeepsNamed r) (own : r.task.kept ≡ old.kept host) where
     sys : System
     sys = record { params = p; have = line_bytes * lines; uuid = old.uuid; master = is.master }
 
-    known_mine : (t : Turn) (q : Run) (all' : List File) (settled' : ℕ) → run_after t settled r ≡ Some q → TaskContinues t sys host (floor_after t settled r.floor) s' all' settled' → TaskHolds sys host q.floor q.task s' all' settled'
+    known_mine : (t : Turn) (q : Run) (all' : List File) (settled' : ℕ) → run_after t settled r ≡ Some q
+        → TaskContinues t sys host (floor_after t settled r.floor) s' all' settled' → TaskHolds sys host q.floor q.task s' all' settled'
     known_mine (Ends reply) q all' settled' e on = absurd (no_run e)
     known_mine c q all' settled' e on = subst (λ (x : Run). TaskHolds sys host x.floor x.task s' all' settled') (same_Some _ q e) on
 
@@ -212,7 +238,8 @@ module _ (lines host word : ℕ) (r : Run) (old new : Hosts) (s s' : SharedState
       where
         inside : (h l : ℕ) → IsDirty (s'.copy h l) → l < lines
         inside h l d =
-            elim (dirty_behind (op_of r.task) host lines s s' word h l is.core.wide steps.operates (at_within lines is.enough sys s all settled is.core refl host r.floor r.task r.task.phase (is.tasks host r steps.is).phase) d) [
+            elim (dirty_behind (op_of r.task) host lines s s' word h l is.core.wide steps.operates
+            (at_within lines is.enough sys s all settled is.core refl host r.floor r.task r.task.phase (is.tasks host r steps.is).phase) d) [
               | inl within ↦ within
               | inr was ↦ is.inside h l was
             ]
@@ -221,10 +248,14 @@ module _ (lines host word : ℕ) (r : Run) (old new : Hosts) (s s' : SharedState
         turn_is = given_turn r.task.phase r.task word refl
 
         -- what a logplay lists and what a mount has read is the history's front
-        listed : (k : Option Kept) (turn' : Turn) → turn_at r.task.phase r.task word ≡ turn' → Tells r.task r.task.phase turn' → KeepsPrefix p (list_after turn' all) (settled_after turn' settled) k → KeepsPrefix p (list_after turn' all) (settled_after turn' settled) (kept_after turn' r.task k)
+        listed : (k : Option Kept) (turn' : Turn) → turn_at r.task.phase r.task word ≡ turn' → Tells r.task r.task.phase turn'
+            → KeepsPrefix p (list_after turn' all) (settled_after turn' settled) k
+            → KeepsPrefix p (list_after turn' all) (settled_after turn' settled) (kept_after turn' r.task k)
         listed k (Ends reply) at tells keeps = by_reply reply k at tells keeps
           where
-            by_reply : (reply' : Reply) (k' : Option Kept) → turn_at r.task.phase r.task word ≡ Ends reply' → ReplyTells r.task r.task.phase reply' → KeepsPrefix p all (settled_after (Ends reply') settled) k' → KeepsPrefix p all (settled_after (Ends reply') settled) (kept_by reply' (read_by r.task) k')
+            by_reply : (reply' : Reply) (k' : Option Kept) → turn_at r.task.phase r.task word ≡ Ends reply' → ReplyTells r.task r.task.phase reply'
+                → KeepsPrefix p all (settled_after (Ends reply') settled) k'
+                → KeepsPrefix p all (settled_after (Ends reply') settled) (kept_by reply' (read_by r.task) k')
             by_reply (Played m tree) None at' tells' keeps' = tt
             by_reply (Played m tree) (Some k') at' tells' keeps' = played_keeps sys host r.floor r.task s all settled m tells' (is.tasks host r steps.is).phase
             by_reply (Mounted m) k' at' tells' keeps' = played_keeps sys host r.floor r.task s all settled m tells' (is.tasks host r steps.is).phase
@@ -246,7 +277,8 @@ module _ (lines host word : ℕ) (r : Run) (old new : Hosts) (s s' : SharedState
             (keeps_changed sys s' all settled g.core host (list_after turn all) (settled_after turn settled) (old.kept h) after.change (is.kept h))
 
         task : (h : ℕ) (q : Run) → new.run h ≡ Some q → Same h host
-            → TaskHolds (record { params = p; have = line_bytes * lines; uuid = old.uuid; master = is.master }) h q.floor q.task s' (list_after (turn_at r.task.phase r.task word) all) (settled_after (turn_at r.task.phase r.task word) settled)
+            → TaskHolds (record { params = p; have = line_bytes * lines; uuid = old.uuid; master = is.master }) h q.floor q.task s'
+            (list_after (turn_at r.task.phase r.task word) all) (settled_after (turn_at r.task.phase r.task word) settled)
         task h q run (inl e) =
             subst (λ x. TaskHolds sys x q.floor q.task s' (list_after turn all) (settled_after turn settled)) (sym e)
             (known_mine turn q (list_after turn all) (settled_after turn settled)
@@ -257,8 +289,16 @@ module _ (lines host word : ℕ) (r : Run) (old new : Hosts) (s s' : SharedState
             task_resettled sys s' all settled g.core host h q.floor q.task (list_after turn all) (settled_after turn settled) ne after.change
             (task_kept sys s s' all settled is.core h q.floor (g.others h ne) q.task (is.tasks h q (sym (steps.runs h ne) ∙ run)))
 
-step_hosts : (host word : ℕ) (settled : Settled) (r : Run) (old new : Hosts) (s s' : SharedState) → Steps host word settled r old new s s' → AreHosts old s → AreHosts (record { uuid = old.uuid; run = new.run; kept = new.kept }) s'
-step_hosts host word settled r old new s s' steps are = record { apart = are.apart; absent = λ h l none. absent h l none (same h host); idle = λ h none. idle h none (same h host); bare = λ h none. bare h none (same h host) }
+step_hosts : (host word : ℕ) (settled : Settled) (r : Run) (old new : Hosts) (s s' : SharedState) → Steps host word settled r old new s s'
+    → AreHosts old s → AreHosts (record { uuid = old.uuid; run = new.run; kept = new.kept }) s'
+step_hosts host word settled r old new s s' steps are =
+    record {
+      apart = are.apart;
+      absent = λ h l none. absent h l none (same h host);
+      idle = λ h none. idle h none (same h host);
+      bare = λ h none.
+          bare h none (same h host);
+    }
   where
     running : old.uuid host ≡ None → ⊥
     running none = no_run (sym (are.idle host none) ∙ steps.is)
@@ -276,7 +316,8 @@ step_hosts host word settled r old new s s' steps are = record { apart = are.apa
     idle h none (inr ne) = steps.runs h ne ∙ are.idle h none
 
 -- every task holds what it named
-step_named : (host word : ℕ) (settled : Settled) (r : Run) (old new : Hosts) (s s' : SharedState) → Steps host word settled r old new s s' → ((h : ℕ) (q : Run) → old.run h ≡ Some q → KeepsNamed q) → (h : ℕ) (q : Run) → new.run h ≡ Some q → KeepsNamed q
+step_named : (host word : ℕ) (settled : Settled) (r : Run) (old new : Hosts) (s s' : SharedState) → Steps host word settled r old new s s'
+    → ((h : ℕ) (q : Run) → old.run h ≡ Some q → KeepsNamed q) → (h : ℕ) (q : Run) → new.run h ≡ Some q → KeepsNamed q
 step_named host word settled r old new s s' steps named h q run = by_host (same h host)
   where
     by_host : Same h host → KeepsNamed q
@@ -286,7 +327,8 @@ step_named host word settled r old new s s' steps named h q run = by_host (same 
     by_host (inr ne) = named h q (sym (steps.runs h ne) ∙ run)
 
 -- every task behind its mark has what was settled then
-step_marked : (host word : ℕ) (settled : Settled) (r : Run) (old new : Hosts) (s s' : SharedState) → Steps host word settled r old new s s' → ((h : ℕ) (q : Run) → old.run h ≡ Some q → KeepsMark q) → (h : ℕ) (q : Run) → new.run h ≡ Some q → KeepsMark q
+step_marked : (host word : ℕ) (settled : Settled) (r : Run) (old new : Hosts) (s s' : SharedState) → Steps host word settled r old new s s'
+    → ((h : ℕ) (q : Run) → old.run h ≡ Some q → KeepsMark q) → (h : ℕ) (q : Run) → new.run h ≡ Some q → KeepsMark q
 step_marked host word settled r old new s s' steps marked h q run = by_host (same h host)
   where
     by_host : Same h host → KeepsMark q
@@ -296,7 +338,8 @@ step_marked host word settled r old new s s' steps marked h q run = by_host (sam
     by_host (inr ne) = marked h q (sym (steps.runs h ne) ∙ run)
 
 -- every task has what its host keeps
-step_keeps : (host word : ℕ) (settled : Settled) (r : Run) (old new : Hosts) (s s' : SharedState) → Steps host word settled r old new s s' → ((h : ℕ) (q : Run) → old.run h ≡ Some q → q.task.kept ≡ old.kept h) → (h : ℕ) (q : Run) → new.run h ≡ Some q → q.task.kept ≡ new.kept h
+step_keeps : (host word : ℕ) (settled : Settled) (r : Run) (old new : Hosts) (s s' : SharedState) → Steps host word settled r old new s s'
+    → ((h : ℕ) (q : Run) → old.run h ≡ Some q → q.task.kept ≡ old.kept h) → (h : ℕ) (q : Run) → new.run h ≡ Some q → q.task.kept ≡ new.kept h
 step_keeps host word settled r old new s s' steps keeps h q run = by_host (same h host)
   where
     turn_is : turn_given r.task word ≡ turn_at r.task.phase r.task word
@@ -308,7 +351,8 @@ step_keeps host word settled r old new s s' steps keeps h q run = by_host (same 
 
     by_host : Same h host → q.task.kept ≡ new.kept h
     by_host (inl e) =
-        goes_on (turn_at r.task.phase r.task word) (turn_tells r.task.phase r.task word) (ap (λ (t : Turn). run_after t (settled_count settled) r) (sym turn_is) ∙ sym steps.mine ∙ subst (λ x. new.run x ≡ Some q) e run)
+        goes_on (turn_at r.task.phase r.task word) (turn_tells r.task.phase r.task word)
+        (ap (λ (t : Turn). run_after t (settled_count settled) r) (sym turn_is) ∙ sym steps.mine ∙ subst (λ x. new.run x ≡ Some q) e run)
         ∙ ap (λ (x : Turn). kept_after x r.task r.task.kept) (sym turn_is)
         ∙ ap (kept_after (turn_given r.task word) r.task) (keeps host r steps.is)
         ∙ sym steps.keeps
@@ -316,7 +360,8 @@ step_keeps host word settled r old new s s' steps keeps h q run = by_host (same 
     by_host (inr ne) = keeps h q (sym (steps.runs h ne) ∙ run) ∙ sym (steps.kept h ne)
 
 -- a task's step says what it may, and keeps everything
-pub invariant_stepped : (lines host word : ℕ) (settled : Settled) (r : Run) (old new : Hosts) (s s' : SharedState) → Invariant settled lines old s → Steps host word settled r old new s s' → StepHolds settled lines word r old new s'
+pub invariant_stepped : (lines host word : ℕ) (settled : Settled) (r : Run) (old new : Hosts) (s s' : SharedState) → Invariant settled lines old s
+    → Steps host word settled r old new s s' → StepHolds settled lines word r old new s'
 unfolding turn sys
 invariant_stepped lines host word settled r old new s s' invariant steps = go settled invariant.stage steps
   where
@@ -329,13 +374,40 @@ invariant_stepped lines host word settled r old new s s' invariant steps = go se
         let b = bad_step lines host word r old new s s' image is steps in
         record {
           says = subst (λ (x : Turn). MaySayBad x image (line_bytes * lines) r.task) (sym turn_is) b.0;
-          invariant = hosts_are (Damaged image) lines old new s' steps.uuids (record { declared = step_hosts host word (Damaged image) r old new s s' steps invariant.declared; marked = step_marked host word (Damaged image) r old new s s' steps invariant.marked; named = step_named host word (Damaged image) r old new s s' steps invariant.named; keeps = step_keeps host word (Damaged image) r old new s s' steps invariant.keeps; wide = b.1.still.wide; stage = b.1 });
+          invariant = hosts_are (Damaged image) lines old new s' steps.uuids
+              (record {
+                declared = step_hosts host word (Damaged image) r old new s s' steps invariant.declared;
+                marked =
+                    step_marked host word (Damaged image) r old new s s' steps invariant.marked;
+                named =
+                    step_named host word (Damaged image) r old new s s' steps invariant.named;
+                keeps =
+                    step_keeps host word (Damaged image) r old new s s' steps invariant.keeps;
+                wide = b.1.still.wide;
+                stage = b.1;
+              });
         }
     go (Known p all n) is steps =
         let a = after lines host word r old new s s' p all n is steps (invariant.named host r steps.is) (invariant.keeps host r steps.is) in
         let k = known_step lines host word r old new s s' p all n is steps (invariant.named host r steps.is) (invariant.keeps host r steps.is) in
         record {
-          says = record { master = is.master; may = subst (λ (x : Turn). MaySay x (record { params = p; have = line_bytes * lines; uuid = old.uuid; master = is.master }) r all n) (sym turn_is) a.may };
+          says = record {
+            master = is.master;
+            may =
+                subst (λ (x : Turn). MaySay x (record { params = p; have = line_bytes * lines; uuid = old.uuid; master = is.master }) r all n)
+                (sym turn_is) a.may;
+          };
           invariant = subst (λ (x : Turn). Invariant (Known p (list_after x all) (settled_after x n)) lines new s') (sym turn_is)
-              (hosts_are _ lines old new s' steps.uuids (record { declared = step_hosts host word (Known p all n) r old new s s' steps invariant.declared; marked = step_marked host word (Known p all n) r old new s s' steps invariant.marked; named = step_named host word (Known p all n) r old new s s' steps invariant.named; keeps = step_keeps host word (Known p all n) r old new s s' steps invariant.keeps; wide = a.core.wide; stage = k }));
+              (hosts_are _ lines old new s' steps.uuids
+              (record {
+                declared = step_hosts host word (Known p all n) r old new s s' steps invariant.declared;
+                marked =
+                    step_marked host word (Known p all n) r old new s s' steps invariant.marked;
+                named =
+                    step_named host word (Known p all n) r old new s s' steps invariant.named;
+                keeps =
+                    step_keeps host word (Known p all n) r old new s s' steps invariant.keeps;
+                wide = a.core.wide;
+                stage = k;
+              }));
         }

@@ -29,7 +29,8 @@ same_keeps sys h settled s = record {
 }
 
 -- what stays in two steps, of which the first makes nothing dirty
-pub keeps_then : (sys : System) (h settled : ℕ) (s next s' : SharedState) → ((l : ℕ) → NobodyDirty s l → NobodyDirty next l) → Keeps sys h settled s next → Keeps sys h settled next s' → Keeps sys h settled s s'
+pub keeps_then : (sys : System) (h settled : ℕ) (s next s' : SharedState) → ((l : ℕ) → NobodyDirty s l → NobodyDirty next l)
+    → Keeps sys h settled s next → Keeps sys h settled next s' → Keeps sys h settled s s'
 keeps_then sys h settled s next s' still first second = record {
   quiet = λ l q. second.quiet l (still l q) ∙ first.quiet l q;
   fresh = λ l q f. second.fresh l (still l q) (first.fresh l q f);

@@ -40,7 +40,8 @@ pub same : (a b : ℕ) → Same a b
 same a b = told a b (eqb_tells a b)
 
 -- memory that has the same lines of a slot has the same slot
-pub slot_same : (memory memory' : ℕ → List ℕ) (p : Params) (i : ℕ) → ((j : ℕ) → j < (geometry p).lines → memory' (slot_line p i j) ≡ memory (slot_line p i j)) → slot_words memory' p i ≡ slot_words memory p i
+pub slot_same : (memory memory' : ℕ → List ℕ) (p : Params) (i : ℕ)
+    → ((j : ℕ) → j < (geometry p).lines → memory' (slot_line p i j) ≡ memory (slot_line p i j)) → slot_words memory' p i ≡ slot_words memory p i
 unfolding slot_words
 slot_same memory memory' p i lines =
     map_range_same _ _ 0 (geometry p).words (λ k _ lt. ap (λ (w : List ℕ). slice_index w (k % 8)) (lines (k / 8) (omega (arith, lt, (shape p).words))))
@@ -67,7 +68,8 @@ head_same sys s s' lines header dirty head = record {
 pub transfers_at : (host line : ℕ) (s s' : SharedState) (m : List ℕ) (c : Cell) → LeavesAt host line s s' m c → Transfers (s.memory line) (s.copy host line) m c → TransfersAt host line s s'
 transfers_at host line s s' m c left d = record {
   only = left.only;
-  here = subst (λ (x : List ℕ). Transfers (s.memory line) (s.copy host line) x (s'.copy host line)) (sym left.memory_is) (subst (λ (x : Cell). Transfers (s.memory line) (s.copy host line) m x) (sym left.copy_is) d);
+  here = subst (λ (x : List ℕ). Transfers (s.memory line) (s.copy host line) x (s'.copy host line)) (sym left.memory_is)
+      (subst (λ (x : Cell). Transfers (s.memory line) (s.copy host line) m x) (sym left.copy_is) d);
 }
 
 module _ (host line : ℕ) (s s' : SharedState) (transfers : TransfersAt host line s s') (wide : IsWide s) where
@@ -75,7 +77,8 @@ module _ (host line : ℕ) (s s' : SharedState) (transfers : TransfersAt host li
   wide_at h l = (wide.memory l, wide.copies h l)
 
   -- what the moves keep at one cell, they keep at each line of the host
-  pub own : (P : List ℕ → Cell → Type 0) → ((m m' : List ℕ) (c c' : Cell) → Transfer m c m' c' → length m ≡ 8 → P m c → P m' c') → (l : ℕ) → P (s.memory l) (s.copy host l) → P (s'.memory l) (s'.copy host l)
+  pub own : (P : List ℕ → Cell → Type 0) → ((m m' : List ℕ) (c c' : Cell) → Transfer m c m' c' → length m ≡ 8 → P m c → P m' c') → (l : ℕ)
+      → P (s.memory l) (s.copy host l) → P (s'.memory l) (s'.copy host l)
   own P kept l p = go (same l line)
     where
       go : Same l line → P (s'.memory l) (s'.copy host l)
@@ -96,7 +99,8 @@ module _ (host line : ℕ) (s s' : SharedState) (transfers : TransfersAt host li
       subst (λ (m : List ℕ). P m (s'.copy h l)) (sym (memory_still l n)) (subst (λ (c : Cell). P (s.memory l) c) (sym (transfers.only.hosts h l ne)) p)
 
   -- any host's copy of a line: moved by the host itself, or untouched by another one
-  pub cell_kept : (P : List ℕ → Cell → Type 0) → ((m m' : List ℕ) (c c' : Cell) → Transfer m c m' c' → length m ≡ 8 → P m c → P m' c') → (h l : ℕ) → (h ≢ host → IsDirty (s.copy host l) → ⊥) → P (s.memory l) (s.copy h l) → P (s'.memory l) (s'.copy h l)
+  pub cell_kept : (P : List ℕ → Cell → Type 0) → ((m m' : List ℕ) (c c' : Cell) → Transfer m c m' c' → length m ≡ 8 → P m c → P m' c') → (h l : ℕ)
+      → (h ≢ host → IsDirty (s.copy host l) → ⊥) → P (s.memory l) (s.copy h l) → P (s'.memory l) (s'.copy h l)
   cell_kept P kept h l clean p = go (same h host)
     where
       go : Same h host → P (s'.memory l) (s'.copy h l)
@@ -130,7 +134,8 @@ module _ (host line : ℕ) (s s' : SharedState) (transfers : TransfersAt host li
 
       go : (h l : ℕ) → Same h host → length (current (s'.memory l) (s'.copy h l)) ≡ 8
       go h l (inl e) = subst (λ x. length (current (s'.memory l) (s'.copy x l)) ≡ 8) (sym e) (own_wide l).1
-      go h l (inr ne) = held_wide (s.memory l) (s'.memory l) (s'.copy h l) (own_wide l).0 (subst (λ (c : Cell). length (current (s.memory l) c) ≡ 8) (sym (transfers.only.hosts h l ne)) (wide.copies h l))
+      go h l (inr ne) = held_wide (s.memory l) (s'.memory l) (s'.copy h l) (own_wide l).0
+          (subst (λ (c : Cell). length (current (s.memory l) c) ≡ 8) (sym (transfers.only.hosts h l ne)) (wide.copies h l))
 
   module _ (sys : System) (all : List File) (settled : ℕ) (core : Core sys s all settled) where
     -- a line that nobody has dirty
@@ -155,8 +160,12 @@ module _ (host line : ℕ) (s s' : SharedState) (transfers : TransfersAt host li
             let t : gate_of (s.memory gate_line) ≡ top_of sys s = ap (λ (o : Option ℕ). top (s.memory gate_line) (masters_copy o s gate_line)) (sym is) in
             (omega (arith, ap gate_of m), omega arith, ap gate_of m ∙ t)
         go (Some h) is =
-            cell_kept Gate gate_step h gate_line (λ ne d. ne (same_Some _ _ (sym is ∙ core.only_master host gate_line d)))
-            (omega arith, subst (λ (o : Option ℕ). gate_of (s.memory gate_line) ≤ top (s.memory gate_line) (masters_copy o s gate_line)) is core.order, ap (λ (o : Option ℕ). top (s.memory gate_line) (masters_copy o s gate_line)) (sym is))
+            cell_kept Gate gate_step h gate_line (λ ne d. ne (same_Some _ _ (sym is ∙ core.only_master host gate_line d))) (
+              omega arith,
+              subst (λ (o : Option ℕ). gate_of (s.memory gate_line) ≤ top (s.memory gate_line) (masters_copy o s gate_line)) is
+                  core.order,
+              ap (λ (o : Option ℕ). top (s.memory gate_line) (masters_copy o s gate_line)) (sym is),
+            )
 
     pub core_kept : Core sys s' all settled
     core_kept =
@@ -172,6 +181,7 @@ module _ (host line : ℕ) (s s' : SharedState) (transfers : TransfersAt host li
           near = core.near;
           room = core.room;
           history = core.history;
-          stands = λ i f is lt. stands_same s.memory s'.memory sys.params i f (λ l line. quiet_same l (λ h. core.clean i f h l is (omega (arith, lt, g.2)) line)) (core.stands i f is (omega (arith, lt, g.2)));
+          stands = λ i f is lt. stands_same s.memory s'.memory sys.params i f
+              (λ l line. quiet_same l (λ h. core.clean i f h l is (omega (arith, lt, g.2)) line)) (core.stands i f is (omega (arith, lt, g.2)));
           clean = λ i f h l is lt line d. core.clean i f h l is (omega (arith, lt, g.2)) line (dirty_was h l d);
         }

@@ -34,7 +34,9 @@ pub record Keeps (sys : System) (h settled : ℕ) (s s' : SharedState) : Type 0 
   pub writing : sys.master ≡ Some h → KeepsWriting sys h s s'
 
 -- the same lines have the same words
-pub part_same : (memory memory' : ℕ → List ℕ) (t : Task) (part : Part) → ((n : ℕ) → n < part_count t part → memory' (part_line t part n) ≡ memory (part_line t part n)) → part_words memory' t part ≡ part_words memory t part
+pub part_same : (memory memory' : ℕ → List ℕ) (t : Task) (part : Part)
+    → ((n : ℕ) → n < part_count t part → memory' (part_line t part n) ≡ memory (part_line t part n))
+    → part_words memory' t part ≡ part_words memory t part
 part_same memory memory' t part lines =
     map_range_same _ _ 0 (8 * part_count t part) (λ n _ lt. ap (λ (w : List ℕ). slice_index w (n % 8)) (lines (n / 8) (omega (arith, lt))))
 
@@ -56,7 +58,9 @@ module _ (sys : System) (s s' : SharedState) (all : List File) (settled : ℕ) (
   part_quiet Superblock j n t on sure lt = super_quiet sys s all settled core (1 + n) (omega (arith, lt))
   part_quiet Header j n t on sure lt = header_quiet sys s all settled core
   part_quiet (Slot i) j n t on sure lt =
-      subst (λ (p : Params). NobodyDirty s (slot_line p i n)) (sym on.0.params) (slot_quiet sys s all settled core i n (omega (arith, sure, on.1.gate.high, core.order)) (subst (λ (p : Params). n < (geometry p).lines) on.0.params lt))
+      subst (λ (p : Params). NobodyDirty s (slot_line p i n)) (sym on.0.params)
+      (slot_quiet sys s all settled core i n (omega (arith, sure, on.1.gate.high, core.order))
+      (subst (λ (p : Params). n < (geometry p).lines) on.0.params lt))
   part_quiet FileLines j n t on sure lt =
       let f = on.1.file in
       file_quiet sys s all settled core t.cmd t.entry f.i f.file (first_line t.cmd + n) f.is (omega (arith, f.below, on.1.all_read.gate.high, core.order)) f.entry
@@ -64,7 +68,8 @@ module _ (sys : System) (s s' : SharedState) (all : List File) (settled : ℕ) (
 
   loaded_kept : (part : Part) (j k : ℕ) (t : Task) → OnPart part j sys h floor t s all settled → IsStable t part → HasLoaded s.memory t part j k → HasLoaded s'.memory t part j k
   loaded_kept part j k t on sure has =
-      has ∙ ap (λ (w : List ℕ). take (8 * j + k - kept_from t.cmd part j) (drop (kept_from t.cmd part j) w)) (sym (part_same s.memory s'.memory t part (λ n lt. keeps.quiet _ (part_quiet part j n t on sure lt))))
+      has ∙ ap (λ (w : List ℕ). take (8 * j + k - kept_from t.cmd part j) (drop (kept_from t.cmd part j) w))
+      (sym (part_same s.memory s'.memory t part (λ n lt. keeps.quiet _ (part_quiet part j n t on sure lt))))
 
   on_kept : (part : Part) (j : ℕ) (t : Task) → OnPart part j sys h floor t s all settled → OnPart part j sys h floor t s' all settled
   on_kept Superblock j t on = on

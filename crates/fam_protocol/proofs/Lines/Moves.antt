@@ -93,7 +93,8 @@ fresh_kept asks l f = absurd f
 fresh_kept cleans l f = absurd f
 fresh_kept drops l f = tt
 
-gate_refreshed : (mask : ℕ) (floor : Option ℕ) (w m : List ℕ) → IsAtLeast floor (gate_of w) × (gate_of w ≤ gate_of m) → IsAtLeast floor (gate_of (masked mask m w)) × (gate_of (masked mask m w) ≤ gate_of m)
+gate_refreshed : (mask : ℕ) (floor : Option ℕ) (w m : List ℕ) → IsAtLeast floor (gate_of w) × (gate_of w ≤ gate_of m)
+    → IsAtLeast floor (gate_of (masked mask m w)) × (gate_of (masked mask m w) ≤ gate_of m)
 gate_refreshed mask floor w m h = let g = gate_between mask m w h.1 in (at_least_more floor (gate_of w) (gate_of (masked mask m w)) g.0 h.0, g.1)
 
 -- a copy of the gate stays no older than the mark, and no newer than memory
@@ -162,7 +163,8 @@ pub finished_kept : {m m' : List ℕ} {c c' : Cell} (wanted : List ℕ) → Tran
 finished_kept {m} {m'} {c} {c'} wanted v l f = (still v (fresh_clean m c f.1) ∙ f.0, fresh_kept v l f.1)
 
 -- what each move keeps of wide lines, a transfer keeps
-pub along : (P : List ℕ → Cell → Type 0) → ((m m' : List ℕ) (c c' : Cell) → Transfer m c m' c' → length m ≡ 8 → P m c → P m' c') → {m m' : List ℕ} {c c' : Cell} → Transfers m c m' c' → Wide m c → P m c → P m' c'
+pub along : (P : List ℕ → Cell → Type 0) → ((m m' : List ℕ) (c c' : Cell) → Transfer m c m' c' → length m ≡ 8 → P m c → P m' c')
+    → {m m' : List ℕ} {c c' : Cell} → Transfers m c m' c' → Wide m c → P m c → P m' c'
 along P kept rests w p = p
 along P kept (goes {m} {m'} {m''} {c} {c'} {c''} v d) w p = along P kept d (wide_kept v w) (kept m m' c c' v w.0 p)
 

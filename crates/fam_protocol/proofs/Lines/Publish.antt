@@ -39,7 +39,8 @@ list_by_index ws n is =
     (λ i lt. get_or-map-range_with_len (λ k. slice_index ws k) 0 n i i 0 (omega (arith, lt, length-map-range_with_len (λ k. slice_index ws k) 0 n)) (omega arith))
 
 -- a slot whose lines are the parts of words has these words
-pub slot_of_parts : (memory : ℕ → List ℕ) (p : Params) (i : ℕ) (ws : List ℕ) → length ws ≡ (geometry p).words → ((j : ℕ) → j < (geometry p).lines → memory (slot_line p i j) ≡ slot_part ws j) → slot_words memory p i ≡ ws
+pub slot_of_parts : (memory : ℕ → List ℕ) (p : Params) (i : ℕ) (ws : List ℕ) → length ws ≡ (geometry p).words
+    → ((j : ℕ) → j < (geometry p).lines → memory (slot_line p i j) ≡ slot_part ws j) → slot_words memory p i ≡ ws
 unfolding slot_words
 slot_of_parts memory p i ws long lines =
     map_range_same _ (λ k. slice_index ws k) 0 (geometry p).words (λ k _ lt.
@@ -137,11 +138,13 @@ module _ (sys : System) (s s' : SharedState) (all : List File) (settled : ℕ) (
       stand i f is lt (inl e) = subst (λ (x : ℕ). EntryStands sys.params s.memory x f) (sym e) (subst (EntryStands sys.params s.memory t.gate) (same_file i f is e) new_stands)
       stand i f is lt (inr ne) = core.stands i f is (omega (arith, lt, ne, w.unpublished))
 
-      clean_at : (i : ℕ) (f : File) (h l : ℕ) → slice_get all i ≡ Some f → i < t.gate + 1 → IsEntryLine sys.params i f.entry l → IsDirty (s.copy h l) ⊎ ((h ≡ host) × (l ≡ gate_line)) → Same i t.gate → ⊥
+      clean_at : (i : ℕ) (f : File) (h l : ℕ) → slice_get all i ≡ Some f → i < t.gate + 1 → IsEntryLine sys.params i f.entry l
+          → IsDirty (s.copy h l) ⊎ ((h ≡ host) × (l ≡ gate_line)) → Same i t.gate → ⊥
       clean_at i f h l is lt of_i (inr e) which = no_gate sys.params all core.head.sound core.history core.room i l f is of_i e.1
       clean_at i f h l is lt of_i (inl d) (inr ne) = core.clean i f h l is (omega (arith, lt, ne, w.unpublished)) of_i d
       clean_at i f h l is lt of_i (inl d) (inl e) =
-          let of_n : IsEntryLine sys.params t.gate w.file.entry l = subst (λ (x : ℕ). IsEntryLine sys.params x w.file.entry l) e (subst (λ (x : File). IsEntryLine sys.params i x.entry l) (sym (same_file i f is e)) of_i) in
+          let of_n : IsEntryLine sys.params t.gate w.file.entry l = subst (λ (x : ℕ). IsEntryLine sys.params x w.file.entry l) e
+          (subst (λ (x : File). IsEntryLine sys.params i x.entry l) (sym (same_file i f is e)) of_i) in
           let f' = line_finished l of_n in
           fresh_clean _ _ f'.1.1 (subst (λ (x : ℕ). IsDirty (s.copy x l)) (same_Some _ _ (sym (core.only_master h l d) ∙ w.master)) d)
 

@@ -32,7 +32,8 @@ stored_before (suc k) wanted m (Dirty a w) h = h
 pub holding_more : (k : ℕ) (wanted m : List ℕ) (c : Cell) → k < 8 → length wanted ≡ 8 → length (current m c) ≡ 8 → Holding k wanted m c → Holding (k + 1) wanted m (stored k (slice_index wanted k) m c)
 holding_more k wanted m c lt long wide h =
     subst (λ (n : ℕ). Holding n wanted m (stored k (slice_index wanted k) m c)) (sym (add-one k))
-    (take-suc-set (current m c) k (slice_index wanted k) (omega (arith, wide)) ∙ ap (λ (l : List ℕ). l ++ slice_index wanted k ∷ []) (stored_before k wanted m c h) ∙ sym (take-suc wanted k 0 (omega (arith, long))))
+    (take-suc-set (current m c) k (slice_index wanted k) (omega (arith, wide)) ∙ ap (λ (l : List ℕ). l ++ slice_index wanted k ∷ [])
+    (stored_before k wanted m c h) ∙ sym (take-suc wanted k 0 (omega (arith, long))))
 
 -- all words are stored, and the line is sent
 pub sent_whole : (wanted m : List ℕ) (c : Cell) → length wanted ≡ 8 → length m ≡ 8 → length (current m c) ≡ 8 → Holding 8 wanted m c → sent m c ≡ wanted
@@ -173,7 +174,8 @@ module _ (sys : System) (s s' : SharedState) (all : List File) (settled : ℕ) (
       subst (λ (m : List ℕ). Asked wanted m (s'.copy host l)) (sym (memory_same l)) (subst (λ (c : Cell). Asked wanted (s.memory l) c) (sym (copy_same host l (inr ne))) f)
 
   -- its line holds one word more
-  pub holding_here : (k : ℕ) (wanted : List ℕ) → word ≡ k → value ≡ slice_index wanted k → k < 8 → length wanted ≡ 8 → Holding k wanted (s.memory line) (s.copy host line) → Holding (k + 1) wanted (s'.memory line) (s'.copy host line)
+  pub holding_here : (k : ℕ) (wanted : List ℕ) → word ≡ k → value ≡ slice_index wanted k → k < 8 → length wanted ≡ 8
+      → Holding k wanted (s.memory line) (s.copy host line) → Holding (k + 1) wanted (s'.memory line) (s'.copy host line)
   holding_here k wanted is_k is_value lt long h =
       rw (done.memory_is, done.copy_is, is_k, is_value) (holding_more k wanted (s.memory line) (s.copy host line) lt long (core.wide.copies host line) h)
 

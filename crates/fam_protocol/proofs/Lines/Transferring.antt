@@ -31,7 +31,8 @@ gate_grown floor m m' (Clean w) le f = (f.0, omega (arith, f.1, le))
 gate_grown floor m m' (Dirty a w) le f = f
 
 module _ (sys : System) (s s' : SharedState) (all : List File) (settled : ℕ) (core : Core sys s all settled) (host line : ℕ) (transfers : TransfersAt host line s s') where
-  moved : (P : List ℕ → Cell → Type 0) → ((m m' : List ℕ) (c c' : Cell) → Transfer m c m' c' → length m ≡ 8 → P m c → P m' c') → (h l : ℕ) → (h ≢ host → IsDirty (s.copy host l) → ⊥) → P (s.memory l) (s.copy h l) → P (s'.memory l) (s'.copy h l)
+  moved : (P : List ℕ → Cell → Type 0) → ((m m' : List ℕ) (c c' : Cell) → Transfer m c m' c' → length m ≡ 8 → P m c → P m' c') → (h l : ℕ)
+      → (h ≢ host → IsDirty (s.copy host l) → ⊥) → P (s.memory l) (s.copy h l) → P (s'.memory l) (s'.copy h l)
   moved = cell_kept host line s s' transfers core.wide
 
   cell : (gate_of (s.memory gate_line) ≤ gate_of (s'.memory gate_line)) × (gate_of (s'.memory gate_line) ≤ top_of sys s') × (top_of sys s' ≡ top_of sys s)
@@ -50,7 +51,11 @@ module _ (sys : System) (s s' : SharedState) (all : List File) (settled : ℕ) (
       go : Same h host → FreshGate floor (s'.memory gate_line) (s'.copy h gate_line)
       go (inl e) = subst (λ x. FreshGate floor (s'.memory gate_line) (s'.copy x gate_line)) (sym e)
           (own host line s s' transfers core.wide P step gate_line
-          (subst (λ x. P (s.memory gate_line) (s.copy x gate_line)) e (at_least_more floor settled (gate_of (s.memory gate_line)) core.low low, order_at floor (s.memory gate_line) (s.copy h gate_line) f, f))).2
+          (subst (λ x. P (s.memory gate_line) (s.copy x gate_line)) e (
+            at_least_more floor settled (gate_of (s.memory gate_line)) core.low low,
+            order_at floor (s.memory gate_line) (s.copy h gate_line) f,
+            f,
+          ))).2
       go (inr ne) = gate_grown floor (s.memory gate_line) (s'.memory gate_line) (s'.copy h gate_line) cell.0
           (subst (λ (c : Cell). FreshGate floor (s.memory gate_line) c) (sym (transfers.only.hosts h gate_line ne)) f)
 

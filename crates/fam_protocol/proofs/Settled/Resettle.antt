@@ -151,6 +151,7 @@ module _ (sys : System) (s : SharedState) (all : List File) (settled : ℕ) (cor
     task_relisted holds = record { command = holds.command; me = holds.me; lines = holds.lines; phase = phase_relisted t.phase holds.phase }
 
   -- another host's task after a host's note or answer
-  pub task_resettled : (host h : ℕ) (floor : Option ℕ) (t : Task) (all' : List File) (settled' : ℕ) → h ≢ host → Changes sys host s all settled all' settled' → TaskHolds sys h floor t s all settled → TaskHolds sys h floor t s all' settled'
+  pub task_resettled : (host h : ℕ) (floor : Option ℕ) (t : Task) (all' : List File) (settled' : ℕ) → h ≢ host
+      → Changes sys host s all settled all' settled' → TaskHolds sys h floor t s all settled → TaskHolds sys h floor t s all' settled'
   task_resettled host h floor t all' settled' ne (inl c) holds = task_relisted all' settled' c.1 host c.0 h floor ne t holds
   task_resettled host h floor t all' settled' ne (inr c) holds = rw (c.same, c.is) (task_raised c.m c.shared h floor t holds)

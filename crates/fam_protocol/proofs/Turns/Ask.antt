@@ -59,21 +59,28 @@ pub lines_some : (cmd : Cmd) (size : ℕ) → wanted_start cmd < wanted_end cmd 
 lines_some cmd size lt =
     rw (lt-leb (wanted_end cmd size) (wanted_start cmd) lt) (omega arith)
 
-module _ (sys : System) (host : ℕ) (floor : Option ℕ) (named : Option Named) (s : SharedState) (all : List File) (settled : ℕ) (core : Core sys s all settled) (cmd : Cmd) (log : ReadsLog cmd) (path : List ℕ) (question : ℕ → List ℕ → Reply) (asks : (files : List File) → ask files cmd ≡ Some (of_file (length files) (file_at files path) (question (length files)))) (t : Task) where
+module _ (sys : System) (host : ℕ) (floor : Option ℕ) (named : Option Named) (s : SharedState) (all : List File) (settled : ℕ)
+    (core : Core sys s all settled) (cmd : Cmd) (log : ReadsLog cmd) (path : List ℕ) (question : ℕ → List ℕ → Reply)
+    (asks : (files : List File) → ask files cmd ≡ Some (of_file (length files) (file_at files path) (question (length files)))) (t : Task) where
   -- the answer, by what stands at the path
-  pub asked_at : (o : Option File) → HasFirst floor (commanded t cmd) s all → file_at (take t.gate all) path ≡ o → ask (take (length t.entries) all) cmd ≡ Some (of_file (length t.entries) o (question (length t.entries)))
+  pub asked_at : (o : Option File) → HasFirst floor (commanded t cmd) s all → file_at (take t.gate all) path ≡ o
+      → ask (take (length t.entries) all) cmd ≡ Some (of_file (length t.entries) o (question (length t.entries)))
   asked_at o h found =
       asks (take (length t.entries) all)
       ∙ ap (λ (n : ℕ). Some (of_file n (file_at (take (length t.entries) all) path) (question n))) h.prefix
       ∙ ap (λ (there : Option File). Some (of_file (length t.entries) there (question (length t.entries)))) (ap (λ (n : ℕ). file_at (take n all) path) h.count ∙ found)
 
   -- the answer of a file
-  pub asked_file : (f : File) → HasFirst floor (commanded t cmd) s all → file_at (take t.gate all) path ≡ Some f → f.entry.kind ≡ kind.File → ask (take (length t.entries) all) cmd ≡ Some (question (length t.entries) f.bytes)
+  pub asked_file : (f : File) → HasFirst floor (commanded t cmd) s all → file_at (take t.gate all) path ≡ Some f → f.entry.kind ≡ kind.File
+      → ask (take (length t.entries) all) cmd ≡ Some (question (length t.entries) f.bytes)
   asked_file f h found file =
       asked_at (Some f) h found ∙ ap (λ (k : Kind). Some (of_kind (length t.entries) k (question (length t.entries) f.bytes))) file
 
   -- the file's lines are to be read
-  pub starts_file : (f : File) → IsTask sys host (commanded t cmd) → AtPhase at.Decide sys host floor (commanded t cmd) s all settled → wanted_path cmd ≡ Some path → file_at (take t.gate all) path ≡ Some f → f.entry.kind ≡ kind.File → IsOfSize cmd f.entry.size → IsSameBelow cmd f (line_bytes * 0) → 0 < wanted_lines cmd f.entry.size → After (read_file (commanded t cmd) f.entry) sys host floor named (commanded t cmd) s all settled
+  pub starts_file : (f : File) → IsTask sys host (commanded t cmd) → AtPhase at.Decide sys host floor (commanded t cmd) s all settled
+      → wanted_path cmd ≡ Some path → file_at (take t.gate all) path ≡ Some f → f.entry.kind ≡ kind.File → IsOfSize cmd f.entry.size
+      → IsSameBelow cmd f (line_bytes * 0) → 0 < wanted_lines cmd f.entry.size
+      → After (read_file (commanded t cmd) f.entry) sys host floor named (commanded t cmd) s all settled
   starts_file f is g wanted found file sized same some =
       let u : Task = commanded t cmd in
       let t' : Task = record u { entry = Some f.entry; phase = at.Drop FileLines 0; words = [] } in
@@ -96,8 +103,11 @@ module _ (sys : System) (host : ℕ) (floor : Option ℕ) (named : Option Named)
       )
 
   -- nothing, a directory or a file stands at the path
-  module _ (turn : Entry → Turn) (g : AtPhase at.Decide sys host floor (commanded t cmd) s all settled) (of_a_file : (f : File) → file_at (take t.gate all) path ≡ Some f → f.entry.kind ≡ kind.File → After (turn f.entry) sys host floor named (commanded t cmd) s all settled) where
-    by_kind : (f : File) (k : Kind) → file_at (take t.gate all) path ≡ Some f → f.entry.kind ≡ k → After (kind_turn (commanded t cmd) k (turn f.entry)) sys host floor named (commanded t cmd) s all settled
+  module _ (turn : Entry → Turn) (g : AtPhase at.Decide sys host floor (commanded t cmd) s all settled)
+      (of_a_file : (f : File) → file_at (take t.gate all) path ≡ Some f → f.entry.kind ≡ kind.File
+      → After (turn f.entry) sys host floor named (commanded t cmd) s all settled) where
+    by_kind : (f : File) (k : Kind) → file_at (take t.gate all) path ≡ Some f → f.entry.kind ≡ k
+        → After (kind_turn (commanded t cmd) k (turn f.entry)) sys host floor named (commanded t cmd) s all settled
     by_kind f kind.File found is = of_a_file f found is
     by_kind f kind.Directory found is =
         let h = has_first sys host floor s all settled core cmd log t g.1 in
@@ -105,7 +115,8 @@ module _ (sys : System) (host : ℕ) (floor : Option ℕ) (named : Option Named)
         asked_at (Some f) h found ∙ ap (λ (k : Kind). Some (of_kind (length t.entries) k (question (length t.entries) f.bytes))) is in
         ends sys host floor named s all settled core (commanded t cmd) (IsDirectory (length t.entries)) (record { low = h.low; high = h.high; is = told }) h.shared
 
-    by_there : (o : Option File) → file_at (take t.gate all) path ≡ o → After (found_turn (commanded t cmd) (option_map (λ (f : File). f.entry) o) turn) sys host floor named (commanded t cmd) s all settled
+    by_there : (o : Option File) → file_at (take t.gate all) path ≡ o
+        → After (found_turn (commanded t cmd) (option_map (λ (f : File). f.entry) o) turn) sys host floor named (commanded t cmd) s all settled
     by_there None found =
         let h = has_first sys host floor s all settled core cmd log t g.1 in
         ends sys host floor named s all settled core (commanded t cmd) (NotFound (length t.entries)) (record { low = h.low; high = h.high; is = asked_at None h found }) h.shared
@@ -114,15 +125,19 @@ module _ (sys : System) (host : ℕ) (floor : Option ℕ) (named : Option Named)
     pub found_turned : After (found_turn (commanded t cmd) (finmap.get (replay t.entries) path) turn) sys host floor named (commanded t cmd) s all settled
     found_turned =
         let is : finmap.get (replay t.entries) path ≡ option_map (λ (f : File). f.entry) (file_at (take t.gate all) path) =
-        ap (λ (l : List Entry). finmap.get (replay l) path) (all_entries cmd log t host floor s all settled g.1) ∙ found_at sys.params (take t.gate all) path (history_prefix sys.params t.gate all core.history) in
+        ap (λ (l : List Entry). finmap.get (replay l) path) (all_entries cmd log t host floor s all settled g.1)
+        ∙ found_at sys.params (take t.gate all) path (history_prefix sys.params t.gate all core.history) in
         subst (λ (o : Option Entry). After (found_turn (commanded t cmd) o turn) sys host floor named (commanded t cmd) s all settled) (sym is) (by_there (file_at (take t.gate all) path) refl)
 
 -- what is asked of a file's bytes beside a content
-pub asks_verify : (path : List ℕ) (against : Content) (files : List File) → ask files (Verify path against) ≡ Some (of_file (length files) (file_at files path) (λ bytes. verified (length files) bytes against))
+pub asks_verify : (path : List ℕ) (against : Content) (files : List File)
+    → ask files (Verify path against) ≡ Some (of_file (length files) (file_at files path) (λ bytes. verified (length files) bytes against))
 asks_verify path against files = refl
 
 -- what a read asks
-pub asks_read : (path : List ℕ) (offset count : ℕ) (files : List File) → ask files (Read path offset count) ≡ Some (of_file (length files) (file_at files path) (λ bytes. Bytes (length files) (file_bytes_from offset count bytes)))
+pub asks_read : (path : List ℕ) (offset count : ℕ) (files : List File)
+    → ask files (Read path offset count)
+    ≡ Some (of_file (length files) (file_at files path) (λ bytes. Bytes (length files) (file_bytes_from offset count bytes)))
 asks_read path offset count files = refl
 
 -- no bytes from past the end on
@@ -136,11 +151,16 @@ no_bytes_same m bytes against none = ap (λ (n : ℕ). compared_at m bytes again
 
 module _ (sys : System) (host : ℕ) (floor : Option ℕ) (named : Option Named) (s : SharedState) (all : List File) (settled : ℕ) (core : Core sys s all settled) (t : Task) where
   -- a file is compared with a content
-  module _ (path : List ℕ) (against : Content) (log : ReadsLog (Verify path against)) (is : IsTask sys host (commanded t (Verify path against))) (g : AtPhase at.Decide sys host floor (commanded t (Verify path against)) s all settled) where
-    verify_starts : (f : File) → file_at (take t.gate all) path ≡ Some f → f.entry.kind ≡ kind.File → IsOfSize (Verify path against) f.entry.size → ((m : ℕ) → verified m f.bytes against ≡ compared m f.bytes against) → After (verify_lines (commanded t (Verify path against)) f.entry) sys host floor named (commanded t (Verify path against)) s all settled
+  module _ (path : List ℕ) (against : Content) (log : ReadsLog (Verify path against)) (is : IsTask sys host (commanded t (Verify path against)))
+      (g : AtPhase at.Decide sys host floor (commanded t (Verify path against)) s all settled) where
+    verify_starts : (f : File) → file_at (take t.gate all) path ≡ Some f → f.entry.kind ≡ kind.File → IsOfSize (Verify path against) f.entry.size
+        → ((m : ℕ) → verified m f.bytes against ≡ compared m f.bytes against)
+        → After (verify_lines (commanded t (Verify path against)) f.entry) sys host floor named (commanded t (Verify path against)) s all settled
     verify_starts f found file sized even = go (f.entry.size == 0) refl
       where
-        go : (b : Bool) → (f.entry.size == 0) ≡ b → After (cond b (Ends (Same (length t.entries))) (read_file (commanded t (Verify path against)) f.entry)) sys host floor named (commanded t (Verify path against)) s all settled
+        go : (b : Bool) → (f.entry.size == 0) ≡ b
+            → After (cond b (Ends (Same (length t.entries))) (read_file (commanded t (Verify path against)) f.entry)) sys host floor named
+            (commanded t (Verify path against)) s all settled
         go true e =
             let there = stands_at all t.gate path f found in
             let none : length f.bytes ≡ 0 = (core.history there.i f there.is).count ∙ (let size : f.entry.size ≡ 0 = grind (arith, nat_tests) in size) in
@@ -151,59 +171,90 @@ module _ (sys : System) (host : ℕ) (floor : Option ℕ) (named : Option Named)
             ends sys host floor named s all settled core (commanded t (Verify path against)) (Same (length t.entries)) (record { low = h.low; high = h.high; is = told }) h.shared
         go false e =
             let some : 0 < f.entry.size = grind (arith, nat_tests) in
-            starts_file sys host floor named s all settled core (Verify path against) log path (λ m bytes. verified m bytes against) (asks_verify path against) t f is g refl found file sized (λ o below within. absurd (omega arith)) (lines_some (Verify path against) f.entry.size some)
+            starts_file sys host floor named s all settled core (Verify path against) log path (λ m bytes. verified m bytes against)
+            (asks_verify path against) t f is g refl found file sized (λ o below within. absurd (omega arith))
+            (lines_some (Verify path against) f.entry.size some)
 
   -- given bytes must be as many as the file's
-  verify_given : (path given : List ℕ) (log : ReadsLog (Verify path (content.Bytes given))) → IsTask sys host (commanded t (Verify path (content.Bytes given))) → AtPhase at.Decide sys host floor (commanded t (Verify path (content.Bytes given))) s all settled → (f : File) → file_at (take t.gate all) path ≡ Some f → f.entry.kind ≡ kind.File → After (verify_turn (commanded t (Verify path (content.Bytes given))) f.entry (content.Bytes given)) sys host floor named (commanded t (Verify path (content.Bytes given))) s all settled
+  verify_given : (path given : List ℕ) (log : ReadsLog (Verify path (content.Bytes given)))
+      → IsTask sys host (commanded t (Verify path (content.Bytes given)))
+      → AtPhase at.Decide sys host floor (commanded t (Verify path (content.Bytes given))) s all settled → (f : File)
+      → file_at (take t.gate all) path ≡ Some f → f.entry.kind ≡ kind.File
+      → After (verify_turn (commanded t (Verify path (content.Bytes given))) f.entry (content.Bytes given)) sys host floor named
+      (commanded t (Verify path (content.Bytes given))) s all settled
   verify_given path given log is g f found file = go (length given == f.entry.size) refl
     where
       count : length f.bytes ≡ f.entry.size
       count = let there = stands_at all t.gate path f found in (core.history there.i f there.is).count
 
-      even : (b : Bool) (m : ℕ) → (length given == f.entry.size) ≡ b → verified m f.bytes (content.Bytes given) ≡ cond b (compared m f.bytes (content.Bytes given)) (Length m f.entry.size (length given))
+      even : (b : Bool) (m : ℕ) → (length given == f.entry.size) ≡ b
+          → verified m f.bytes (content.Bytes given) ≡ cond b (compared m f.bytes (content.Bytes given)) (Length m f.entry.size (length given))
       even b m e =
           ap (λ (n : ℕ). cond (length given == n) (compared m f.bytes (content.Bytes given)) (Length m n (length given))) count
           ∙ ap (λ (test : Bool). cond test (compared m f.bytes (content.Bytes given)) (Length m f.entry.size (length given))) e
 
-      go : (b : Bool) → (length given == f.entry.size) ≡ b → After (cond b (verify_lines (commanded t (Verify path (content.Bytes given))) f.entry) (Ends (Length (length t.entries) f.entry.size (length given)))) sys host floor named (commanded t (Verify path (content.Bytes given))) s all settled
+      go : (b : Bool) → (length given == f.entry.size) ≡ b
+          → After (cond b (verify_lines (commanded t (Verify path (content.Bytes given))) f.entry)
+          (Ends (Length (length t.entries) f.entry.size (length given)))) sys host floor named (commanded t (Verify path (content.Bytes given))) s all
+          settled
       go true e = verify_starts path (content.Bytes given) log is g f found file (grind (arith, nat_tests)) (λ m. even true m e)
       go false e =
           let h = has_first sys host floor s all settled core (Verify path (content.Bytes given)) log t g.1 in
           let told : ask (take (length t.entries) all) (Verify path (content.Bytes given)) ≡ Some (Length (length t.entries) f.entry.size (length given)) =
-          asked_file sys host floor named s all settled core (Verify path (content.Bytes given)) log path (λ m bytes. verified m bytes (content.Bytes given)) (asks_verify path (content.Bytes given)) t f h found file
+          asked_file sys host floor named s all settled core (Verify path (content.Bytes given)) log path
+          (λ m bytes. verified m bytes (content.Bytes given)) (asks_verify path (content.Bytes given)) t f h found file
           ∙ ap Some (even false (length t.entries) e) in
-          ends sys host floor named s all settled core (commanded t (Verify path (content.Bytes given))) (Length (length t.entries) f.entry.size (length given)) (record { low = h.low; high = h.high; is = told }) h.shared
+          ends sys host floor named s all settled core (commanded t (Verify path (content.Bytes given)))
+          (Length (length t.entries) f.entry.size (length given)) (record { low = h.low; high = h.high; is = told }) h.shared
 
-  verify_turned : (path : List ℕ) (against : Content) (log : ReadsLog (Verify path against)) → IsTask sys host (commanded t (Verify path against)) → AtPhase at.Decide sys host floor (commanded t (Verify path against)) s all settled → (f : File) → file_at (take t.gate all) path ≡ Some f → f.entry.kind ≡ kind.File → After (verify_turn (commanded t (Verify path against)) f.entry against) sys host floor named (commanded t (Verify path against)) s all settled
+  verify_turned : (path : List ℕ) (against : Content) (log : ReadsLog (Verify path against)) → IsTask sys host (commanded t (Verify path against))
+      → AtPhase at.Decide sys host floor (commanded t (Verify path against)) s all settled → (f : File) → file_at (take t.gate all) path ≡ Some f
+      → f.entry.kind ≡ kind.File → After (verify_turn (commanded t (Verify path against)) f.entry against) sys host floor named
+      (commanded t (Verify path against)) s all settled
   verify_turned path (content.Bytes given) log is g f found file = verify_given path given log is g f found file
   verify_turned path (content.Seed seed) log is g f found file = verify_starts path (content.Seed seed) log is g f found file tt (λ m. refl)
   verify_turned path content.Zero log is g f found file = verify_starts path content.Zero log is g f found file tt (λ m. refl)
 
   -- the turn of a decision to compare a file
-  pub decide_verify : (path : List ℕ) (against : Content) (log : ReadsLog (Verify path against)) → IsTask sys host (commanded t (Verify path against)) → AtPhase at.Decide sys host floor (commanded t (Verify path against)) s all settled → After (found_turn (commanded t (Verify path against)) (finmap.get (replay t.entries) path) (λ e. verify_turn (commanded t (Verify path against)) e against)) sys host floor named (commanded t (Verify path against)) s all settled
+  pub decide_verify : (path : List ℕ) (against : Content) (log : ReadsLog (Verify path against)) → IsTask sys host (commanded t (Verify path against))
+      → AtPhase at.Decide sys host floor (commanded t (Verify path against)) s all settled
+      → After (found_turn (commanded t (Verify path against)) (finmap.get (replay t.entries) path)
+      (λ e. verify_turn (commanded t (Verify path against)) e against)) sys host floor named (commanded t (Verify path against)) s all settled
   decide_verify path against log is g =
-      found_turned sys host floor named s all settled core (Verify path against) log path (λ m bytes. verified m bytes against) (asks_verify path against) t (λ e. verify_turn (commanded t (Verify path against)) e against) g
+      found_turned sys host floor named s all settled core (Verify path against) log path (λ m bytes. verified m bytes against)
+      (asks_verify path against) t (λ e. verify_turn (commanded t (Verify path against)) e against) g
       (λ f found file. verify_turned path against log is g f found file)
 
   -- bytes of a file are read
-  module _ (path : List ℕ) (offset count : ℕ) (log : ReadsLog (Read path offset count)) (is : IsTask sys host (commanded t (Read path offset count))) (g : AtPhase at.Decide sys host floor (commanded t (Read path offset count)) s all settled) where
-    bytes_turned : (f : File) → file_at (take t.gate all) path ≡ Some f → f.entry.kind ≡ kind.File → After (bytes_turn (commanded t (Read path offset count)) f.entry offset) sys host floor named (commanded t (Read path offset count)) s all settled
+  module _ (path : List ℕ) (offset count : ℕ) (log : ReadsLog (Read path offset count)) (is : IsTask sys host (commanded t (Read path offset count)))
+      (g : AtPhase at.Decide sys host floor (commanded t (Read path offset count)) s all settled) where
+    bytes_turned : (f : File) → file_at (take t.gate all) path ≡ Some f → f.entry.kind ≡ kind.File
+        → After (bytes_turn (commanded t (Read path offset count)) f.entry offset) sys host floor named (commanded t (Read path offset count)) s all
+        settled
     bytes_turned f found file = go (nat_le (min f.entry.size (offset + count)) offset) refl
       where
-        go : (b : Bool) → nat_le (min f.entry.size (offset + count)) offset ≡ b → After (cond b (Ends (Bytes (length t.entries) [])) (read_file (commanded t (Read path offset count)) f.entry)) sys host floor named (commanded t (Read path offset count)) s all settled
+        go : (b : Bool) → nat_le (min f.entry.size (offset + count)) offset ≡ b
+            → After (cond b (Ends (Bytes (length t.entries) [])) (read_file (commanded t (Read path offset count)) f.entry)) sys host floor named
+            (commanded t (Read path offset count)) s all settled
         go true e =
             let there = stands_at all t.gate path f found in
             let long : length f.bytes ≡ f.entry.size = (core.history there.i f there.is).count in
             let past : min f.entry.size (offset + count) ≤ offset = leb-true (min f.entry.size (offset + count)) offset e in
             let h = has_first sys host floor s all settled core (Read path offset count) log t g.1 in
             let told : ask (take (length t.entries) all) (Read path offset count) ≡ Some (Bytes (length t.entries) []) =
-            asked_file sys host floor named s all settled core (Read path offset count) log path (λ m bytes. Bytes m (file_bytes_from offset count bytes)) (asks_read path offset count) t f h found file
+            asked_file sys host floor named s all settled core (Read path offset count) log path
+            (λ m bytes. Bytes m (file_bytes_from offset count bytes)) (asks_read path offset count) t f h found file
             ∙ ap (λ (bytes : List ℕ). Some (Bytes (length t.entries) bytes)) (no_bytes offset count f.bytes (omega arith)) in
             ends sys host floor named s all settled core (commanded t (Read path offset count)) (Bytes (length t.entries) []) (record { low = h.low; high = h.high; is = told }) h.shared
         go false e =
             let some : offset < min f.entry.size (offset + count) = leb-false (min f.entry.size (offset + count)) offset e in
-            starts_file sys host floor named s all settled core (Read path offset count) log path (λ m bytes. Bytes m (file_bytes_from offset count bytes)) (asks_read path offset count) t f is g refl found file tt tt (lines_some (Read path offset count) f.entry.size some)
+            starts_file sys host floor named s all settled core (Read path offset count) log path
+            (λ m bytes. Bytes m (file_bytes_from offset count bytes)) (asks_read path offset count) t f is g refl found file tt tt
+            (lines_some (Read path offset count) f.entry.size some)
 
-    pub decide_read : After (found_turn (commanded t (Read path offset count)) (finmap.get (replay t.entries) path) (λ e. bytes_turn (commanded t (Read path offset count)) e offset)) sys host floor named (commanded t (Read path offset count)) s all settled
+    pub decide_read : After (found_turn (commanded t (Read path offset count)) (finmap.get (replay t.entries) path)
+        (λ e. bytes_turn (commanded t (Read path offset count)) e offset)) sys host floor named (commanded t (Read path offset count)) s all settled
     decide_read =
-        found_turned sys host floor named s all settled core (Read path offset count) log path (λ m bytes. Bytes m (file_bytes_from offset count bytes)) (asks_read path offset count) t (λ e. bytes_turn (commanded t (Read path offset count)) e offset) g bytes_turned
+        found_turned sys host floor named s all settled core (Read path offset count) log path
+        (λ m bytes. Bytes m (file_bytes_from offset count bytes)) (asks_read path offset count) t
+        (λ e. bytes_turn (commanded t (Read path offset count)) e offset) g bytes_turned

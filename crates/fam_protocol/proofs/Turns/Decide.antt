@@ -65,7 +65,8 @@ module _ (sys : System) (host : ℕ) (floor : Option ℕ) (s : SharedState) (all
 
 module _ (sys : System) (host : ℕ) (floor : Option ℕ) (named : Option Named) (s : SharedState) (all : List File) (settled : ℕ) (core : Core sys s all settled) where
   -- the tree is listed
-  pub decide_logplay : (log : ReadsLog Logplay) (t : Task) → AtPhase at.Decide sys host floor (commanded t Logplay) s all settled → After (decide_turn Logplay (commanded t Logplay)) sys host floor named (commanded t Logplay) s all settled
+  pub decide_logplay : (log : ReadsLog Logplay) (t : Task) → AtPhase at.Decide sys host floor (commanded t Logplay) s all settled
+      → After (decide_turn Logplay (commanded t Logplay)) sys host floor named (commanded t Logplay) s all settled
   decide_logplay log t g =
       let h = has_first sys host floor s all settled core Logplay log t g.1 in
       let m : ℕ = length t.entries in
@@ -77,14 +78,17 @@ module _ (sys : System) (host : ℕ) (floor : Option ℕ) (named : Option Named)
       }) h.shared
 
   -- the entries are counted
-  pub decide_mount : (log : ReadsLog Mount) (t : Task) → AtPhase at.Decide sys host floor (commanded t Mount) s all settled → After (decide_turn Mount (commanded t Mount)) sys host floor named (commanded t Mount) s all settled
+  pub decide_mount : (log : ReadsLog Mount) (t : Task) → AtPhase at.Decide sys host floor (commanded t Mount) s all settled
+      → After (decide_turn Mount (commanded t Mount)) sys host floor named (commanded t Mount) s all settled
   decide_mount log t g =
       let h = has_first sys host floor s all settled core Mount log t g.1 in
       ends sys host floor named s all settled core (commanded t Mount) (Mounted (length t.entries))
       (record { low = h.low; high = h.high; is = ap (λ (k : ℕ). Some (Mounted k)) h.prefix }) h.shared
 
   -- the tree is checked beside a listing
-  pub decide_check : (listing : List Entry) (log : ReadsLog (Check listing)) (t : Task) → AtPhase at.Decide sys host floor (commanded t (Check listing)) s all settled → After (decide_turn (Check listing) (commanded t (Check listing))) sys host floor named (commanded t (Check listing)) s all settled
+  pub decide_check : (listing : List Entry) (log : ReadsLog (Check listing)) (t : Task)
+      → AtPhase at.Decide sys host floor (commanded t (Check listing)) s all settled
+      → After (decide_turn (Check listing) (commanded t (Check listing))) sys host floor named (commanded t (Check listing)) s all settled
   decide_check listing log t g =
       let h = has_first sys host floor s all settled core (Check listing) log t g.1 in
       let m : ℕ = length t.entries in
@@ -96,7 +100,8 @@ module _ (sys : System) (host : ℕ) (floor : Option ℕ) (named : Option Named)
       }) h.shared
 
   -- a command that appends decides on the whole history
-  module _ (cmd : Cmd) (log : ReadsLog cmd) (w : Wish) (asks : wish_of cmd ≡ Some w) (t : Task) (is : IsTask sys host (commanded t cmd)) (g : AtPhase at.Decide sys host floor (commanded t cmd) s all settled) where
+  module _ (cmd : Cmd) (log : ReadsLog cmd) (w : Wish) (asks : wish_of cmd ≡ Some w) (t : Task) (is : IsTask sys host (commanded t cmd))
+      (g : AtPhase at.Decide sys host floor (commanded t cmd) s all settled) where
     master : sys.master ≡ Some host
     master = g.0.master w asks
 
@@ -149,8 +154,17 @@ module _ (sys : System) (host : ℕ) (floor : Option ℕ) (named : Option Named)
     at_store : (e : Entry) (b : Bool) → (e.size == 0) ≡ b → AtPhase (cond b (at.StoreSlot 0 0) (at.StoreData 0 0)) sys host floor (writer e) s (all ++ new_file (writer e) e ∷ []) settled
     unfolding writer writes
     at_store e true none =
-        let empty : e.size ≡ 0 = grind (arith, nat_tests) in
-        (omega arith, record { writing = writes e; line = omega (arith, (shape sys.params).lines); contents = λ count b lt within. absurd (omega arith); before = λ b lt. absurd (omega arith); here = tt })
+        let empty : e.size ≡ 0 = grind (arith, nat_tests) in (
+          omega arith,
+          record {
+            writing = writes e;
+            line = omega (arith, (shape sys.params).lines);
+            contents = λ count b lt within.
+                absurd (omega arith);
+            before = λ b lt. absurd (omega arith);
+            here = tt;
+          },
+        )
     at_store e false some =
         let bytes : 0 < e.size = grind (arith, nat_tests) in
         (omega arith, record { writing = writes e; line = omega arith; before = λ b lt. absurd (omega arith); here = tt })

@@ -47,7 +47,8 @@ survey_none gate survey all is =
     subst (λ (v : Survey). HasSurveyed 0 gate v all) (sym is) (record { found = rw e refl; applied = rw e refl; bad = refl; past = omega arith })
 
 -- the kept entries that are used are the history's first
-used_prefix : (p q : Params) (all : List File) (settled : ℕ) (kept : Option Kept) (cmd : Cmd) (gate : ℕ) → KeepsPrefix p all settled kept → used kept cmd q gate ≡ entries_of (take (length (used kept cmd q gate)) all)
+used_prefix : (p q : Params) (all : List File) (settled : ℕ) (kept : Option Kept) (cmd : Cmd) (gate : ℕ) → KeepsPrefix p all settled kept
+    → used kept cmd q gate ≡ entries_of (take (length (used kept cmd q gate)) all)
 used_prefix p q all settled kept cmd gate keeps =
     elim (used_cases kept cmd q gate) [
       | inl none ↦ rw none refl
@@ -56,7 +57,8 @@ used_prefix p q all settled kept cmd gate keeps =
           rw all_used holds.entries
     ]
 
-read_kept : (p q : Params) (cmd : Cmd) (t : Task) (all : List File) (settled : ℕ) → t.entries ≡ used t.kept cmd q t.gate → t.survey ≡ no_survey → KeepsPrefix p all settled t.kept → HasRead cmd (length (used t.kept cmd q t.gate)) t all
+read_kept : (p q : Params) (cmd : Cmd) (t : Task) (all : List File) (settled : ℕ) → t.entries ≡ used t.kept cmd q t.gate → t.survey ≡ no_survey
+    → KeepsPrefix p all settled t.kept → HasRead cmd (length (used t.kept cmd q t.gate)) t all
 read_kept p q Fsck t all settled entries survey keeps =
     subst (λ (i : ℕ). HasSurveyed i t.gate t.survey all) (sym (used_fsck_count t.kept q t.gate)) (survey_none t.gate t.survey all survey)
 read_kept p q cmd t all settled entries survey keeps = entries ∙ used_prefix p q all settled t.kept cmd t.gate keeps
@@ -70,7 +72,9 @@ found_is n settled long low fits near = go (cases_eq n settled)
     go (inr ne) = inr (omega arith, omega arith)
 
 -- the task at the next slot, or at the decision
-pub at_next : (sys : System) (host : ℕ) (floor : Option ℕ) (s : SharedState) (all : List File) (settled : ℕ) (t : Task) (i n : ℕ) → n ≡ slots_read t → KnowsHead sys host t → KnowsGate host floor t s all settled → i ≤ n → HasRead t.cmd i t all → t.words ≡ [] → AtPhase (cond (nat_lt i n) (at.Drop (Slot i) 0) at.Decide) sys host floor t s all settled
+pub at_next : (sys : System) (host : ℕ) (floor : Option ℕ) (s : SharedState) (all : List File) (settled : ℕ) (t : Task) (i n : ℕ) → n ≡ slots_read t
+    → KnowsHead sys host t → KnowsGate host floor t s all settled → i ≤ n → HasRead t.cmd i t all → t.words ≡ []
+    → AtPhase (cond (nat_lt i n) (at.Drop (Slot i) 0) at.Decide) sys host floor t s all settled
 at_next sys host floor s all settled t i n count head gate le read words = go (nat_lt i n) refl
   where
     go : (b : Bool) → nat_lt i n ≡ b → AtPhase (cond b (at.Drop (Slot i) 0) at.Decide) sys host floor t s all settled
@@ -83,19 +87,26 @@ at_next sys host floor s all settled t i n count head gate le read words = go (n
 
 module _ (sys : System) (host : ℕ) (floor : Option ℕ) (named : Option Named) (s : SharedState) (all : List File) (settled : ℕ) (core : Core sys s all settled) where
   -- the gate is loaded: all is set for the first slot
-  at_first : (word : ℕ) (t : Task) (all' : List File) (settled' : ℕ) → NoSlot t → t.words ≡ [] → gate_fault word t.params ≡ None → KeepsPrefix sys.params all' settled' t.kept → KnowsHead sys host t → KnowsGate host floor (gate_loaded t word) s all' settled' → AtPhase (gate_loaded t word).phase sys host floor (gate_loaded t word) s all' settled'
+  at_first : (word : ℕ) (t : Task) (all' : List File) (settled' : ℕ) → NoSlot t → t.words ≡ [] → gate_fault word t.params ≡ None
+      → KeepsPrefix sys.params all' settled' t.kept → KnowsHead sys host t → KnowsGate host floor (gate_loaded t word) s all' settled'
+      → AtPhase (gate_loaded t word).phase sys host floor (gate_loaded t word) s all' settled'
   at_first word t all' settled' none words fits keeps head gate =
       let u : Task = record t { gate = word } in
       let t' : Task = gate_loaded t word in
-      at_next sys host floor s all' settled' t' (length (used t.kept t.cmd t.params word)) (slots_read u) (sym (slots_moved u t'.phase t'.words)) (record { params = head.params; master = head.master }) gate (within_slots t word fits)
+      at_next sys host floor s all' settled' t' (length (used t.kept t.cmd t.params word)) (slots_read u) (sym (slots_moved u t'.phase t'.words))
+      (record { params = head.params; master = head.master }) gate (within_slots t word fits)
       (read_kept sys.params t.params t'.cmd t' all' settled' refl none.survey keeps) words
 
-  gate_goes : (t : Task) (word : ℕ) → gate_fault word t.params ≡ None → KeepsPrefix sys.params all settled t.kept → IsTask sys host t → wish_of t.cmd ≡ None → Given at.Gate sys host floor word t s all settled → After (Goes (gate_loaded t word)) sys host floor named t s all settled
+  gate_goes : (t : Task) (word : ℕ) → gate_fault word t.params ≡ None → KeepsPrefix sys.params all settled t.kept → IsTask sys host t
+      → wish_of t.cmd ≡ None → Given at.Gate sys host floor word t s all settled
+      → After (Goes (gate_loaded t word)) sys host floor named t s all settled
   gate_goes t word fits keeps is asks g =
       goes sys host floor named s all settled core t (gate_loaded t word) (record { command = is.command; me = is.me; lines = is.lines })
       (at_first word t all settled g.0.0 g.0.1 fits keeps g.0.2 (record { low = g.1.low; high = g.1.high; writer = λ w e. absurd (let o : wish_of t.cmd ≡ Some w = e in cc) }))
 
-  gate_finds : (t : Task) (word : ℕ) (w : Wish) → gate_fault word t.params ≡ None → KeepsPrefix sys.params all settled t.kept → IsTask sys host t → wish_of t.cmd ≡ Some w → Given at.Gate sys host floor word t s all settled → After (Finds word (gate_loaded t word)) sys host floor named t s all settled
+  gate_finds : (t : Task) (word : ℕ) (w : Wish) → gate_fault word t.params ≡ None → KeepsPrefix sys.params all settled t.kept → IsTask sys host t
+      → wish_of t.cmd ≡ Some w → Given at.Gate sys host floor word t s all settled
+      → After (Finds word (gate_loaded t word)) sys host floor named t s all settled
   gate_finds t word w fits_slots keeps is asks g =
       let master : sys.master ≡ Some host = g.0.2.master w asks in
       let word_is : word ≡ gate_of (s.memory gate_line) = g.1.masters master in
@@ -114,16 +125,20 @@ module _ (sys : System) (host : ℕ) (floor : Option ℕ) (named : Option Named)
         may = found_is word settled (length all) low fits core.near;
         core = core_relisted sys s all settled core (take word all) word r (history_prefix sys.params word all core.history) (omega (arith, core.room));
         task = holds sys host floor (gate_loaded t word) s (take word all) word (record { command = is.command; me = is.me; lines = is.lines })
-            (at_first word t (take word all) word g.0.0 g.0.1 fits_slots (keeps_relisted sys s all settled core (take word all) word r t.kept keeps) g.0.2 (record { low = g.1.low; high = g.1.high; writer = λ v e. (refl, long) }));
+            (at_first word t (take word all) word g.0.0 g.0.1 fits_slots (keeps_relisted sys s all settled core (take word all) word r t.kept keeps)
+            g.0.2 (record { low = g.1.low; high = g.1.high; writer = λ v e. (refl, long) }));
         change = inl (master, r);
       }
 
-  gate_told : (t : Task) (word : ℕ) (wish : Option Wish) → gate_fault word t.params ≡ None → KeepsPrefix sys.params all settled t.kept → IsTask sys host t → wish_of t.cmd ≡ wish → Given at.Gate sys host floor word t s all settled → After (finds_or_goes wish word (gate_loaded t word)) sys host floor named t s all settled
+  gate_told : (t : Task) (word : ℕ) (wish : Option Wish) → gate_fault word t.params ≡ None → KeepsPrefix sys.params all settled t.kept
+      → IsTask sys host t → wish_of t.cmd ≡ wish → Given at.Gate sys host floor word t s all settled
+      → After (finds_or_goes wish word (gate_loaded t word)) sys host floor named t s all settled
   gate_told t word None fits keeps is asks g = gate_goes t word fits keeps is asks g
   gate_told t word (Some w) fits keeps is asks g = gate_finds t word w fits keeps is asks g
 
   -- the turn behind the gate's load
-  pub gate : (t : Task) (word : ℕ) → KeepsPrefix sys.params all settled t.kept → IsTask sys host t → Given at.Gate sys host floor word t s all settled → After (turn_at at.Gate t word) sys host floor named t s all settled
+  pub gate : (t : Task) (word : ℕ) → KeepsPrefix sys.params all settled t.kept → IsTask sys host t → Given at.Gate sys host floor word t s all settled
+      → After (turn_at at.Gate t word) sys host floor named t s all settled
   gate t word keeps is g =
       let none : gate_fault word t.params ≡ None = ap (λ (p : Params). gate_fault word p) g.0.2.params ∙ gate_fits sys.params word (omega (arith, g.1.high, core.order, core.high, core.room)) in
       subst (λ (o : Option LogFault). After (gate_turn t word o) sys host floor named t s all settled) (sym none) (gate_told t word (wish_of t.cmd) none keeps is refl g)

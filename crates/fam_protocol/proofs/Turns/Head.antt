@@ -58,7 +58,8 @@ module _ (sys : System) (host : ℕ) (floor : Option ℕ) (named : Option Named)
       (goes sys host floor named s all settled core t (moved t p []) (task_moved t p [] sys host is) (no_slot_moved t p [] g.0.0, omega arith, λ _. loaded_none s.memory (moved t p []) Superblock))
 
   -- a line is dropped
-  pub drop : (part : Part) (j : ℕ) (t : Task) (word : ℕ) → IsTask sys host t → Given (at.Drop part j) sys host floor word t s all settled → After (turn_at (at.Drop part j) t word) sys host floor named t s all settled
+  pub drop : (part : Part) (j : ℕ) (t : Task) (word : ℕ) → IsTask sys host t → Given (at.Drop part j) sys host floor word t s all settled
+      → After (turn_at (at.Drop part j) t word) sys host floor named t s all settled
   drop part j t word is g =
       let p : Phase = at.Word part j 0 in
       goes sys host floor named s all settled core t (moved t p t.words) (task_moved t p t.words sys host is) (
@@ -83,7 +84,9 @@ module _ (sys : System) (host : ℕ) (floor : Option ℕ) (named : Option Named)
       )
 
   -- the next line of a part, or what comes behind its last one
-  pub next_line : (part : Part) (j : ℕ) (t : Task) (turn : Turn) → IsTask sys host t → OnPart part (j + 1) sys host floor t s all settled → (IsStable t part → HasLoaded s.memory t part (j + 1) 0) → (part_count t part ≤ j + 1 → After turn sys host floor named t s all settled) → After (line_or t part j turn) sys host floor named t s all settled
+  pub next_line : (part : Part) (j : ℕ) (t : Task) (turn : Turn) → IsTask sys host t → OnPart part (j + 1) sys host floor t s all settled
+      → (IsStable t part → HasLoaded s.memory t part (j + 1) 0) → (part_count t part ≤ j + 1 → After turn sys host floor named t s all settled)
+      → After (line_or t part j turn) sys host floor named t s all settled
   next_line part j t turn is on has last = go (nat_lt (j + 1) (part_count t part)) refl
     where
       p : Phase
@@ -100,21 +103,25 @@ module _ (sys : System) (host : ℕ) (floor : Option ℕ) (named : Option Named)
       go false e = last (grind (arith, nat_tests))
 
   -- the superblock is read: the host may go on, or isn't the master, or its path is too long
-  host_goes : (t : Task) (wish : Option Wish) → IsTask sys host t → NoSlot t → wish_of t.cmd ≡ wish → ((w : Wish) → wish ≡ Some w → sys.master ≡ Some host) → After (host_turn t sys.params None) sys host floor named t s all settled
+  host_goes : (t : Task) (wish : Option Wish) → IsTask sys host t → NoSlot t → wish_of t.cmd ≡ wish
+      → ((w : Wish) → wish ≡ Some w → sys.master ≡ Some host) → After (host_turn t sys.params None) sys host floor named t s all settled
   host_goes t wish is none asks master =
       let t' : Task = record t { params = sys.params; phase = at.Drop Header 0; words = [] } in
       goes sys host floor named s all settled core t t' (record { command = is.command; me = is.me; lines = is.lines })
       ((record { entries = none.entries; survey = none.survey }, record { params = refl; master = λ w e. master w (sym asks ∙ e) }), omega arith, λ _. loaded_none s.memory t' Header)
 
-  host_decides : (t : Task) (w : Wish) → IsTask sys host t → NoSlot t → wish_of t.cmd ≡ Some w → EarlyCases sys.params t.me w.path → After (host_turn t sys.params (early_refusal sys.params t.me w.path)) sys host floor named t s all settled
+  host_decides : (t : Task) (w : Wish) → IsTask sys host t → NoSlot t → wish_of t.cmd ≡ Some w → EarlyCases sys.params t.me w.path
+      → After (host_turn t sys.params (early_refusal sys.params t.me w.path)) sys host floor named t s all settled
   host_decides t w is none asks (may_ask same short passed) = rw passed (host_goes t (Some w) is none asks (λ v e. core.named.only host (is.me ∙ ap Some same)))
   host_decides t w is none asks (another other refusal) =
       rw refusal (ends sys host floor named s all settled core t (NotAppended (NotMaster t.me sys.params.master)) (record { me_is = refl; master_is = refl; other = other }) (omega arith))
   host_decides t w is none asks (too_long first same long refusal) =
       let limit : ℕ = (geometry sys.params).path_limit in
-      rw refusal (ends sys host floor named s all settled core t (NotAppended (LongPath limit)) (record { wish = w; wished = asks; is = record { format = first; master = same; limit_is = refl; long = long } }) (omega arith))
+      rw refusal (ends sys host floor named s all settled core t (NotAppended (LongPath limit))
+      (record { wish = w; wished = asks; is = record { format = first; master = same; limit_is = refl; long = long } }) (omega arith))
 
-  host_turned : (t : Task) (wish : Option Wish) → IsTask sys host t → NoSlot t → wish_of t.cmd ≡ wish → After (host_turn t sys.params (host_refusal wish sys.params t.me)) sys host floor named t s all settled
+  host_turned : (t : Task) (wish : Option Wish) → IsTask sys host t → NoSlot t → wish_of t.cmd ≡ wish
+      → After (host_turn t sys.params (host_refusal wish sys.params t.me)) sys host floor named t s all settled
   host_turned t None is none asks = host_goes t None is none asks (λ w e. absurd (cc))
   host_turned t (Some w) is none asks = host_decides t w is none asks (early_cases sys.params t.me w.path)
 
@@ -136,4 +143,5 @@ module _ (sys : System) (host : ℕ) (floor : Option ℕ) (named : Option Named)
       let words : t.words ≡ s.memory log_line = has ∙ loaded_whole s.memory t Header j (kept_header t.cmd j) (omega arith) ∙ header_words_are s.memory t (core.wide.memory log_line) in
       let none : log_fault t.words t.params ≡ None = ap (λ (l : List ℕ). log_fault l t.params) words ∙ ap (λ (p : Params). log_fault (s.memory log_line) p) head.params ∙ core.head.header in
       subst (λ (o : Option LogFault). After (header_turn t o) sys host floor named t s all settled) (sym none)
-      (goes sys host floor named s all settled core t (moved t at.DropGate []) (task_moved t at.DropGate [] sys host is) (no_slot_moved t at.DropGate [] blank, refl, head_moved t at.DropGate [] sys host head))
+      (goes sys host floor named s all settled core t (moved t at.DropGate []) (task_moved t at.DropGate [] sys host is)
+      (no_slot_moved t at.DropGate [] blank, refl, head_moved t at.DropGate [] sys host head))

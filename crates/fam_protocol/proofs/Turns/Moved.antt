@@ -49,7 +49,9 @@ module _ (t : Task) (p : Phase) (w : List ℕ) where
   sure_moved FileLines h = tt
 
   -- nor what is known of a line that is being read
-  pub reading_moved : (part : Part) (host j k : ℕ) (s : SharedState) → (IsStable t part → Fresh (s.memory (part_line t part j)) (s.copy host (part_line t part j)) × (w ≡ loaded s.memory t part j k)) → IsBeingRead host (moved t p w) part j k s
+  pub reading_moved : (part : Part) (host j k : ℕ) (s : SharedState)
+      → (IsStable t part → Fresh (s.memory (part_line t part j)) (s.copy host (part_line t part j)) × (w ≡ loaded s.memory t part j k))
+      → IsBeingRead host (moved t p w) part j k s
   reading_moved Superblock host j k s h = h
   reading_moved e host j k s h = h
 
@@ -112,7 +114,8 @@ module _ (t : Task) (p : Phase) (w : List ℕ) where
     may_refuse_moved (refused.LongPath limit) h = record { wish = h.wish; wished = h.wished; is = h.is }
     may_refuse_moved e h = refused_moved e h
 
-    may_reply_moved : (reply : Reply) → MayReply reply sys (record { task = moved t p w; floor = floor; named = named }) all settled → MayReply reply sys (record { task = t; floor = floor; named = named }) all settled
+    may_reply_moved : (reply : Reply) → MayReply reply sys (record { task = moved t p w; floor = floor; named = named }) all settled
+        → MayReply reply sys (record { task = t; floor = floor; named = named }) all settled
     may_reply_moved (Appended seq) h = record { count = h.count; file = h.file; last = h.last; named = h.named; entry = h.entry }
     may_reply_moved (NotAppended r) h = may_refuse_moved r h
     may_reply_moved (Reports report) h = h
@@ -121,7 +124,8 @@ module _ (t : Task) (p : Phase) (w : List ℕ) where
     may_reply_moved (BadSlot seq reason) h = h
     may_reply_moved e h = asked_moved e h
 
-    may_say_moved : (turn : Turn) → MaySay turn sys (record { task = moved t p w; floor = floor; named = named }) all settled → MaySay turn sys (record { task = t; floor = floor; named = named }) all settled
+    may_say_moved : (turn : Turn) → MaySay turn sys (record { task = moved t p w; floor = floor; named = named }) all settled
+        → MaySay turn sys (record { task = t; floor = floor; named = named }) all settled
     may_say_moved (Goes next) h = tt
     may_say_moved (Marks next) h = tt
     may_say_moved (Finds n next) h = h

@@ -30,7 +30,8 @@ drop_range x (suc a) (suc n) le =
 pub window : (f : ℕ → ℕ) (a b n : ℕ) → a + b ≤ n → take b (drop a (map f (range_with_len 0 n))) ≡ map f (range_with_len a b)
 window f a b n le =
     let e : 0 + a ≡ a = omega arith in
-    ap (λ (l : List ℕ). take b l) (drop-map f a (range_with_len 0 n) ∙ ap (λ (l : List ℕ). map f l) (drop_range 0 a n (omega arith))) ∙ take-map-range_with_len f (0 + a) (n - a) b (omega arith) ∙ ap (λ (x : ℕ). map f (range_with_len x b)) e
+    ap (λ (l : List ℕ). take b l) (drop-map f a (range_with_len 0 n) ∙ ap (λ (l : List ℕ). map f l) (drop_range 0 a n (omega arith)))
+    ∙ take-map-range_with_len f (0 + a) (n - a) b (omega arith) ∙ ap (λ (x : ℕ). map f (range_with_len x b)) e
 
 -- word n of a part
 abbrev pub part_word : (ℕ → List ℕ) → Task → Part → ℕ → ℕ
@@ -61,18 +62,21 @@ kept_slot (Verify path against) i j = refl
 kept_slot cmd i j = refl
 
 -- the words that were loaded, one by one
-pub loaded_is : (memory : ℕ → List ℕ) (t : Task) (part : Part) (j k : ℕ) → 8 * j + k ≤ 8 * part_count t part → loaded memory t part j k ≡ map (part_word memory t part) (range_with_len (kept_from t.cmd part j) (8 * j + k - kept_from t.cmd part j))
+pub loaded_is : (memory : ℕ → List ℕ) (t : Task) (part : Part) (j k : ℕ) → 8 * j + k ≤ 8 * part_count t part
+    → loaded memory t part j k ≡ map (part_word memory t part) (range_with_len (kept_from t.cmd part j) (8 * j + k - kept_from t.cmd part j))
 loaded_is memory t part j k le =
     let kept : kept_from t.cmd part j ≤ 8 * j = kept_le t.cmd part j in
     window (part_word memory t part) (kept_from t.cmd part j) (8 * j + k - kept_from t.cmd part j) (8 * part_count t part) (omega arith)
 
 -- one word more
-pub loaded_more : (memory : ℕ → List ℕ) (t : Task) (part : Part) (j k word : ℕ) → j < part_count t part → k < 8 → HasLoaded memory t part j k → word ≡ slice_index (memory (part_line t part j)) k → t.words ++ word ∷ [] ≡ loaded memory t part j (k + 1)
+pub loaded_more : (memory : ℕ → List ℕ) (t : Task) (part : Part) (j k word : ℕ) → j < part_count t part → k < 8 → HasLoaded memory t part j k
+    → word ≡ slice_index (memory (part_line t part j)) k → t.words ++ word ∷ [] ≡ loaded memory t part j (k + 1)
 loaded_more memory t part j k word lt below has is =
     let kept : kept_from t.cmd part j ≤ 8 * j = kept_le t.cmd part j in
     let line : (8 * j + k) / 8 ≡ j = omega arith in
     let phase : (8 * j + k) % 8 ≡ k = omega arith in
-    let word_is : word ≡ part_word memory t part (8 * j + k) = is ∙ ap (λ (l : ℕ). slice_index (memory (part_line t part l)) k) (sym line) ∙ ap (λ (w : ℕ). slice_index (memory (part_line t part ((8 * j + k) / 8))) w) (sym phase) in
+    let word_is : word ≡ part_word memory t part (8 * j + k) = is ∙ ap (λ (l : ℕ). slice_index (memory (part_line t part l)) k) (sym line)
+    ∙ ap (λ (w : ℕ). slice_index (memory (part_line t part ((8 * j + k) / 8))) w) (sym phase) in
     let count : 8 * j + k - kept_from t.cmd part j + 1 ≡ 8 * j + (k + 1) - kept_from t.cmd part j = omega arith in
     ap (λ (l : List ℕ). l ++ word ∷ []) (has ∙ loaded_is memory t part j k (omega arith))
     ∙ ap (λ (x : ℕ). map (part_word memory t part) (range_with_len (kept_from t.cmd part j) (8 * j + k - kept_from t.cmd part j)) ++ x ∷ []) word_is

@@ -41,19 +41,23 @@ reads_log Fsck other = absurd (other refl)
 reads_log cmd other = record { slots = λ t. refl; read = λ i t all h. h; back = λ i t all h. h }
 
 -- all their entries
-pub all_entries : (cmd : Cmd) (log : ReadsLog cmd) (t : Task) (host : ℕ) (floor : Option ℕ) (s : SharedState) (all : List File) (settled : ℕ) → HasReadAll host floor (commanded t cmd) s all settled → t.entries ≡ entries_of (take t.gate all)
+pub all_entries : (cmd : Cmd) (log : ReadsLog cmd) (t : Task) (host : ℕ) (floor : Option ℕ) (s : SharedState) (all : List File) (settled : ℕ)
+    → HasReadAll host floor (commanded t cmd) s all settled → t.entries ≡ entries_of (take t.gate all)
 all_entries cmd log t host floor s all settled h =
     log.back (slots_read (commanded t cmd)) (commanded t cmd) all h.read ∙ ap (λ (n : ℕ). entries_of (take n all)) (log.slots t)
 
 module _ (sys : System) (host : ℕ) (floor : Option ℕ) (s : SharedState) (all : List File) (settled : ℕ) (core : Core sys s all settled) where
   -- slot i below the gate reads as the entry that stands there
-  pub slot_reads : (i : ℕ) (t : Task) (f : File) → t.params ≡ sys.params → t.gate ≤ gate_of (s.memory gate_line) → i < t.gate → slice_get all i ≡ Some f → t.words ≡ slot_words s.memory t.params i → entry_of t.params t.words i ≡ Ok f.entry
+  pub slot_reads : (i : ℕ) (t : Task) (f : File) → t.params ≡ sys.params → t.gate ≤ gate_of (s.memory gate_line) → i < t.gate
+      → slice_get all i ≡ Some f → t.words ≡ slot_words s.memory t.params i → entry_of t.params t.words i ≡ Ok f.entry
   slot_reads i t f params high below is words =
       ap (λ (l : List ℕ). entry_of t.params l i) words ∙ ap (λ (p : Params). entry_of p (slot_words s.memory p i) i) params ∙ (core.stands i f is (omega (arith, core.order))).slot
 
 module _ (sys : System) (host : ℕ) (floor : Option ℕ) (named : Option Named) (s : SharedState) (all : List File) (settled : ℕ) (core : Core sys s all settled) where
   -- the turn of a slot's words
-  pub slot_checked : (cmd : Cmd) (log : ReadsLog cmd) (i : ℕ) (t : Task) → IsTask sys host (commanded t cmd) → AtPhase (at.Check i) sys host floor (commanded t cmd) s all settled → After (slot_turn (commanded t cmd) i (entry_of t.params t.words i)) sys host floor named (commanded t cmd) s all settled
+  pub slot_checked : (cmd : Cmd) (log : ReadsLog cmd) (i : ℕ) (t : Task) → IsTask sys host (commanded t cmd)
+      → AtPhase (at.Check i) sys host floor (commanded t cmd) s all settled
+      → After (slot_turn (commanded t cmd) i (entry_of t.params t.words i)) sys host floor named (commanded t cmd) s all settled
   slot_checked cmd log i t is g =
       let u : Task = commanded t cmd in
       let below : i < t.gate = subst (λ (n : ℕ). i < n) (log.slots t) g.1.below in

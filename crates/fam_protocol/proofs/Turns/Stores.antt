@@ -39,7 +39,20 @@ below_line j size lt = omega arith
 module _ (sys : System) (host : ℕ) (s : SharedState) (all : List File) (settled : ℕ) (t : Task) (p : Phase) where
   -- what a writer knows doesn't look at its place
   pub writing_moved : IsWriting sys host t s all settled → IsWriting sys host (moved t p t.words) s all settled
-  writing_moved w = record { master = w.master; params = w.params; settled_is = w.settled_is; pending = w.pending; unpublished = w.unpublished; file = w.file; last = w.last; entry = w.entry; bytes = w.bytes; content = w.content; words = w.words }
+  writing_moved w = record {
+    master = w.master;
+    params = w.params;
+    settled_is = w.settled_is;
+    pending = w.pending;
+    unpublished = w.unpublished;
+    file =
+        w.file;
+    last = w.last;
+    entry = w.entry;
+    bytes = w.bytes;
+    content = w.content;
+    words = w.words;
+  }
 
   -- nor what it knows of the file's lines
   pub data_moved : (j k : ℕ) → StoresData j k sys host t s all settled → StoresData j k sys host (moved t p t.words) s all settled
@@ -58,7 +71,9 @@ data_more j host t s before here b lt within = go (cases_eq b j)
     go (inl e) = subst (λ (b : ℕ). Finished (data_words t b) (s.memory (line_of t.entry b)) (s.copy host (line_of t.entry b))) (sym e) here
     go (inr ne) = before b (omega arith) within
 
-slot_more : (j host : ℕ) (t : Task) (s : SharedState) → HasAskedLines j host t s → Asked (slot_part t.words j) (s.memory (slot_line t.params t.gate j)) (s.copy host (slot_line t.params t.gate j)) → HasAskedLines (j + 1) host t s
+slot_more : (j host : ℕ) (t : Task) (s : SharedState) → HasAskedLines j host t s
+    → Asked (slot_part t.words j) (s.memory (slot_line t.params t.gate j)) (s.copy host (slot_line t.params t.gate j))
+    → HasAskedLines (j + 1) host t s
 slot_more j host t s before here b lt = go (cases_eq b j)
   where
     go : (b ≡ j) ⊎ (b ≡ j → ⊥) → Asked (slot_part t.words b) (s.memory (slot_line t.params t.gate b)) (s.copy host (slot_line t.params t.gate b))
@@ -71,7 +86,8 @@ data_all j host t s last before count b lt within = before b (let below : b < li
 
 module _ (sys : System) (host : ℕ) (floor : Option ℕ) (named : Option Named) (s : SharedState) (all : List File) (settled : ℕ) (core : Core sys s all settled) where
   -- the turn behind a store into the file
-  pub store_data : (j k : ℕ) (t : Task) (word : ℕ) → IsTask sys host t → Given (at.StoreData j k) sys host floor word t s all settled → After (turn_at (at.StoreData j k) t word) sys host floor named t s all settled
+  pub store_data : (j k : ℕ) (t : Task) (word : ℕ) → IsTask sys host t → Given (at.StoreData j k) sys host floor word t s all settled
+      → After (turn_at (at.StoreData j k) t word) sys host floor named t s all settled
   store_data j k t word is g = go (nat_lt k 7) refl
     where
       go : (b : Bool) → nat_lt k 7 ≡ b → After (Goes (record t { phase = cond b (at.StoreData j (k + 1)) (at.SendData j) })) sys host floor named t s all settled
@@ -86,7 +102,8 @@ module _ (sys : System) (host : ℕ) (floor : Option ℕ) (named : Option Named)
           (data_moved sys host s all settled t p j 8 (subst (λ (n : ℕ). StoresData j n sys host t s all settled) last g.1))
 
   -- the turn behind a line of the file that is sent
-  pub send_data : (j : ℕ) (t : Task) (word : ℕ) → IsTask sys host t → Given (at.SendData j) sys host floor word t s all settled → After (turn_at (at.SendData j) t word) sys host floor named t s all settled
+  pub send_data : (j : ℕ) (t : Task) (word : ℕ) → IsTask sys host t → Given (at.SendData j) sys host floor word t s all settled
+      → After (turn_at (at.SendData j) t word) sys host floor named t s all settled
   unfolding writing_moved
   send_data j t word is g = go (nat_lt (j + 1) (lines_of (size_of t.entry))) refl
     where
@@ -98,8 +115,16 @@ module _ (sys : System) (host : ℕ) (floor : Option ℕ) (named : Option Named)
           let p : Phase = at.StoreData (j + 1) 0 in
           let below : j + 1 < lines_of (size_of t.entry) = grind (arith, nat_tests) in
           let within : line_bytes * (j + 1) < size_of t.entry = line_below (j + 1) (size_of t.entry) below in
-          goes sys host floor named s all settled core t (moved t p t.words) (task_moved t p t.words sys host is)
-          (omega arith, record { writing = writing_moved sys host s all settled t p g.0.writing; line = subst (λ (n : ℕ). line_bytes * (j + 1) < n) size within; before = data_more j host t s g.0.before g.1; here = tt })
+          goes sys host floor named s all settled core t (moved t p t.words) (task_moved t p t.words sys host is) (
+            omega arith,
+            record {
+              writing = writing_moved sys host s all settled t p g.0.writing;
+              line =
+                  subst (λ (n : ℕ). line_bytes * (j + 1) < n) size within;
+              before = data_more j host t s g.0.before g.1;
+              here = tt;
+            },
+          )
       go false e =
           let p : Phase = at.StoreSlot 0 0 in
           let last : lines_of (size_of t.entry) ≤ j + 1 = grind (arith, nat_tests) in
@@ -115,7 +140,8 @@ module _ (sys : System) (host : ℕ) (floor : Option ℕ) (named : Option Named)
           )
 
   -- the turn behind a store into the slot
-  pub store_slot : (j k : ℕ) (t : Task) (word : ℕ) → IsTask sys host t → Given (at.StoreSlot j k) sys host floor word t s all settled → After (turn_at (at.StoreSlot j k) t word) sys host floor named t s all settled
+  pub store_slot : (j k : ℕ) (t : Task) (word : ℕ) → IsTask sys host t → Given (at.StoreSlot j k) sys host floor word t s all settled
+      → After (turn_at (at.StoreSlot j k) t word) sys host floor named t s all settled
   store_slot j k t word is g = go (nat_lt k 7) refl
     where
       go : (b : Bool) → nat_lt k 7 ≡ b → After (Goes (record t { phase = cond b (at.StoreSlot j (k + 1)) (at.SendSlot j) })) sys host floor named t s all settled
@@ -130,7 +156,8 @@ module _ (sys : System) (host : ℕ) (floor : Option ℕ) (named : Option Named)
           (slot_moved sys host s all settled t p j 8 (subst (λ (n : ℕ). StoresSlot j n sys host t s all settled) last g.1))
 
   -- the turn behind a line of the slot that is sent
-  pub send_slot : (j : ℕ) (t : Task) (word : ℕ) → IsTask sys host t → Given (at.SendSlot j) sys host floor word t s all settled → After (turn_at (at.SendSlot j) t word) sys host floor named t s all settled
+  pub send_slot : (j : ℕ) (t : Task) (word : ℕ) → IsTask sys host t → Given (at.SendSlot j) sys host floor word t s all settled
+      → After (turn_at (at.SendSlot j) t word) sys host floor named t s all settled
   send_slot j t word is g = go (nat_lt (j + 1) (geometry t.params).lines) refl
     where
       go : (b : Bool) → nat_lt (j + 1) (geometry t.params).lines ≡ b → After (Goes (record t { phase = cond b (at.StoreSlot (j + 1) 0) at.FenceSlot })) sys host floor named t s all settled
@@ -176,7 +203,8 @@ module _ (sys : System) (host : ℕ) (floor : Option ℕ) (named : Option Named)
       (record { master = g.0.master; published = g.0.published; pending = g.0.pending; file = g.0.file; last = g.0.last; entry = g.0.entry }, g.1)
 
   -- the turn behind the gate that is sent: the answer
-  pub fence_gate : (t : Task) (word : ℕ) → IsTask sys host t → HoldsNamed t named → Given at.FenceGate sys host floor word t s all settled → After (turn_at at.FenceGate t word) sys host floor named t s all settled
+  pub fence_gate : (t : Task) (word : ℕ) → IsTask sys host t → HoldsNamed t named → Given at.FenceGate sys host floor word t s all settled
+      → After (turn_at at.FenceGate t word) sys host floor named t s all settled
   fence_gate t word is holds g =
       ends sys host floor named s all settled core t (Appended t.gate)
       (holds_last floor named t all holds g.0.pending g.0.file g.0.last g.0.entry)

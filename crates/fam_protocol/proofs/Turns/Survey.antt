@@ -54,7 +54,8 @@ unfolding join_fault
 tree_passes p list e h = first_passes (tree_fault (replay list) e) _ h
 
 -- a slot below the gate is surveyed
-below_next : (i gate : ℕ) (survey : Survey) (all : List File) (f : File) → HasSurveyed i gate survey all → i < gate → gate ≤ length all → slice_get all i ≡ Some f → HasSurveyed (i + 1) gate (applied_or survey i f.entry None) all
+below_next : (i gate : ℕ) (survey : Survey) (all : List File) (f : File) → HasSurveyed i gate survey all → i < gate → gate ≤ length all
+    → slice_get all i ≡ Some f → HasSurveyed (i + 1) gate (applied_or survey i f.entry None) all
 below_next i gate survey all f h lt fits is =
     let here : min i gate ≡ i = omega arith in
     let there : min (i + 1) gate ≡ i + 1 = omega arith in
@@ -75,10 +76,22 @@ below_next i gate survey all f h lt fits is =
 past_next : (i gate : ℕ) (survey : Survey) (all : List File) (r : Result Entry Reason) → HasSurveyed i gate survey all → gate ≤ i → HasSurveyed (i + 1) gate (past_gate survey r) all
 past_next i gate survey all (Ok e) h le =
     let same : min i gate ≡ min (i + 1) gate = omega arith in
-    record { found = h.found ∙ ap (λ (n : ℕ). enumerate_from 0 (entries_of (take n all))) same; applied = h.applied ∙ ap (λ (n : ℕ). entries_of (take n all)) same; bad = h.bad; past = omega (arith, h.past) }
+    record {
+      found = h.found ∙ ap (λ (n : ℕ). enumerate_from 0 (entries_of (take n all))) same;
+      applied =
+          h.applied ∙ ap (λ (n : ℕ). entries_of (take n all)) same;
+      bad = h.bad;
+      past = omega (arith, h.past);
+    }
 past_next i gate survey all (Err reason) h le =
     let same : min i gate ≡ min (i + 1) gate = omega arith in
-    record { found = h.found ∙ ap (λ (n : ℕ). enumerate_from 0 (entries_of (take n all))) same; applied = h.applied ∙ ap (λ (n : ℕ). entries_of (take n all)) same; bad = h.bad; past = omega (arith, h.past) }
+    record {
+      found = h.found ∙ ap (λ (n : ℕ). enumerate_from 0 (entries_of (take n all))) same;
+      applied =
+          h.applied ∙ ap (λ (n : ℕ). entries_of (take n all)) same;
+      bad = h.bad;
+      past = omega (arith, h.past);
+    }
 
 -- no unit of a history stands twice
 history_apart : (p : Params) (all : List File) → IsHistory p all → overlap_of p.unit (enumerate_from 0 (entries_of all)) ≡ None
@@ -86,14 +99,17 @@ history_apart p all history =
     ap (overlap_of p.unit) (sym (numbered_is 0 (entries_of all))) ∙ no_overlap p.unit (entries_of all) (laid_apart p (entries_of all) (history_laid p all history)).once
 
 module _ (sys : System) (host : ℕ) (floor : Option ℕ) (named : Option Named) (s : SharedState) (all : List File) (settled : ℕ) (core : Core sys s all settled) (t : Task) where
-  surveyed : (i : ℕ) (b : Bool) → nat_lt i t.gate ≡ b → AtPhase (at.Check i) sys host floor (commanded t Fsck) s all settled → HasSurveyed (i + 1) t.gate (cond b (below_gate t.survey i (entry_of t.params t.words i)) (past_gate t.survey (entry_of t.params t.words i))) all
+  surveyed : (i : ℕ) (b : Bool) → nat_lt i t.gate ≡ b → AtPhase (at.Check i) sys host floor (commanded t Fsck) s all settled
+      → HasSurveyed (i + 1) t.gate (cond b (below_gate t.survey i (entry_of t.params t.words i)) (past_gate t.survey (entry_of t.params t.words i)))
+      all
   surveyed i false e g = past_next i t.gate t.survey all (entry_of t.params t.words i) g.1.read (grind (arith, nat_tests))
   surveyed i true e g =
       let below : i < t.gate = grind (arith, nat_tests) in
       let fits : t.gate ≤ length all = omega (arith, g.1.gate.high, core.order, core.high) in
       let there = some_at all i (omega arith) in
       let f : File = there.0 in
-      let reads : entry_of t.params t.words i ≡ Ok f.entry = slot_reads sys host floor s all settled core i t f g.0.params g.1.gate.high below there.1 (g.2 below ∙ slot_words_are s.memory (commanded t Fsck) i) in
+      let reads : entry_of t.params t.words i ≡ Ok f.entry = slot_reads sys host floor s all settled core i t f g.0.params g.1.gate.high below there.1
+      (g.2 below ∙ slot_words_are s.memory (commanded t Fsck) i) in
       let before : t.survey.applied ≡ entries_of (take i all) = g.1.read.applied ∙ (let here : min i t.gate ≡ i = omega arith in ap (λ (n : ℕ). entries_of (take n all)) here) in
       let none : tree_fault (replay t.survey.applied) f.entry ≡ None =
       ap (λ (l : List Entry). tree_fault (replay l) f.entry) before ∙ tree_passes sys.params (entries_of (take i all)) f.entry (core.history i f there.1).joins in
@@ -105,7 +121,8 @@ module _ (sys : System) (host : ℕ) (floor : Option ℕ) (named : Option Named)
   surveyed_slot i g = surveyed i (nat_lt i t.gate) refl g
 
   -- the turn of a slot that is surveyed
-  pub survey_checked : (i : ℕ) → IsTask sys host (commanded t Fsck) → AtPhase (at.Check i) sys host floor (commanded t Fsck) s all settled → After (check_turn Fsck (commanded t Fsck) i) sys host floor named (commanded t Fsck) s all settled
+  pub survey_checked : (i : ℕ) → IsTask sys host (commanded t Fsck) → AtPhase (at.Check i) sys host floor (commanded t Fsck) s all settled
+      → After (check_turn Fsck (commanded t Fsck) i) sys host floor named (commanded t Fsck) s all settled
   survey_checked i is g =
       let u : Task = commanded t Fsck in
       let t' : Task = record u { survey = survey_slot t.params t.gate i t.words t.survey; words = []; phase = slot_or_decide u (i + 1) } in
@@ -121,7 +138,8 @@ module _ (sys : System) (host : ℕ) (floor : Option ℕ) (named : Option Named)
       let read : HasSurveyed t.params.slots t.gate t.survey all = g.1.read in
       let least : min t.params.slots t.gate ≡ t.gate = omega (arith, core.room) in
       let found : t.survey.found ≡ enumerate_from 0 (entries_of (take t.gate all)) = read.found ∙ ap (λ (n : ℕ). enumerate_from 0 (entries_of (take n all))) least in
-      let entries : found_entries t.survey ≡ entries_of (take t.gate all) = ap (map (λ (f : ℕ × Entry). f.1)) found ∙ ap (map (λ (f : ℕ × Entry). f.1)) (sym (numbered_is 0 (entries_of (take t.gate all)))) ∙ map-numbered 0 (entries_of (take t.gate all)) in
+      let entries : found_entries t.survey ≡ entries_of (take t.gate all) = ap (map (λ (f : ℕ × Entry). f.1)) found
+      ∙ ap (map (λ (f : ℕ × Entry). f.1)) (sym (numbered_is 0 (entries_of (take t.gate all)))) ∙ map-numbered 0 (entries_of (take t.gate all)) in
       let used : used_count t.params (found_entries t.survey) ≡ used_count sys.params (entries_of (take t.gate all)) =
       ap (λ (p : Params). used_count p (found_entries t.survey)) g.0.params ∙ ap (used_count sys.params) entries in
       let count : length (entries_of (take t.gate all)) ≡ t.gate = entries_count t.gate all fits in

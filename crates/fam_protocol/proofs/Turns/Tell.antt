@@ -17,11 +17,13 @@ use Rattle.fam_protocol.proofs.Settled.Settle.{core_raised}
 use Rattle.fam_protocol.proofs.Turns.Moved.{IsTask}
 
 -- a task that is its host's, at its place
-pub holds : (sys : System) (host : ℕ) (floor : Option ℕ) (t : Task) (s : SharedState) (all : List File) (settled : ℕ) → IsTask sys host t → AtPhase t.phase sys host floor t s all settled → TaskHolds sys host floor t s all settled
+pub holds : (sys : System) (host : ℕ) (floor : Option ℕ) (t : Task) (s : SharedState) (all : List File) (settled : ℕ) → IsTask sys host t
+    → AtPhase t.phase sys host floor t s all settled → TaskHolds sys host floor t s all settled
 holds sys host floor t s all settled is at = record { command = is.command; me = is.me; lines = is.lines; phase = at }
 
 -- a task that holds what it named has appended it, where its entry is the last of all
-pub holds_last : (floor : Option ℕ) (named : Option Named) (t : Task) (all : List File) → HoldsNamed t named → length all ≡ t.gate + 1 → (file : File) → slice_get all t.gate ≡ Some file → t.entry ≡ Some file.entry
+pub holds_last : (floor : Option ℕ) (named : Option Named) (t : Task) (all : List File) → HoldsNamed t named → length all ≡ t.gate + 1 → (file : File)
+    → slice_get all t.gate ≡ Some file → t.entry ≡ Some file.entry
     → AppendsNamed (record { task = t; floor = floor; named = named }) all t.gate
 holds_last floor named t all holds count file last entry = record {
   count = count;
@@ -51,7 +53,8 @@ module _ (sys : System) (host : ℕ) (floor : Option ℕ) (named : Option Named)
   }
 
   -- an answer on entries that memory's gate counts
-  pub ends : (t : Task) (reply : Reply) → MayReply reply sys (record { task = t; floor = floor; named = named }) all settled → shown_by reply ≤ gate_of (s.memory gate_line) → After (Ends reply) sys host floor named t s all settled
+  pub ends : (t : Task) (reply : Reply) → MayReply reply sys (record { task = t; floor = floor; named = named }) all settled
+      → shown_by reply ≤ gate_of (s.memory gate_line) → After (Ends reply) sys host floor named t s all settled
   ends t reply may shared = record {
     may = may;
     core = core_raised sys s all settled core (shown_by reply) shared;

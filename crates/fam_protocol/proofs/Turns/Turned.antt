@@ -30,15 +30,18 @@ use Rattle.fam_protocol.proofs.Turns.FileLines.{verify_line, read_line}
 use Rattle.fam_protocol.proofs.Turns.Survey.{survey_checked, survey_told}
 
 module _ (sys : System) (host : ℕ) (floor : Option ℕ) (named : Option Named) (s : SharedState) (all : List File) (settled : ℕ) (core : Core sys s all settled) where
-  check_by : (cmd : Cmd) (i : ℕ) (t : Task) → IsTask sys host (commanded t cmd) → AtPhase (at.Check i) sys host floor (commanded t cmd) s all settled → After (check_turn cmd (commanded t cmd) i) sys host floor named (commanded t cmd) s all settled
+  check_by : (cmd : Cmd) (i : ℕ) (t : Task) → IsTask sys host (commanded t cmd) → AtPhase (at.Check i) sys host floor (commanded t cmd) s all settled
+      → After (check_turn cmd (commanded t cmd) i) sys host floor named (commanded t cmd) s all settled
   check_by Fsck i t is g = survey_checked sys host floor named s all settled core t i is g
   check_by cmd i t is g = slot_checked sys host floor named s all settled core cmd (reads_log cmd (λ e. cc)) i t is g
 
-  decide_by : (cmd : Cmd) (t : Task) → IsTask sys host (commanded t cmd) → AtPhase at.Decide sys host floor (commanded t cmd) s all settled → After (decide_turn cmd (commanded t cmd)) sys host floor named (commanded t cmd) s all settled
+  decide_by : (cmd : Cmd) (t : Task) → IsTask sys host (commanded t cmd) → AtPhase at.Decide sys host floor (commanded t cmd) s all settled
+      → After (decide_turn cmd (commanded t cmd)) sys host floor named (commanded t cmd) s all settled
   decide_by Logplay t is g = decide_logplay sys host floor named s all settled core (reads_log Logplay (λ e. cc)) t g
   decide_by Mount t is g = decide_mount sys host floor named s all settled core (reads_log Mount (λ e. cc)) t g
   decide_by (Mkdir path attr) t is g = decide_append sys host floor named s all settled core (Mkdir path attr) (reads_log (Mkdir path attr) (λ e. cc)) _ refl t is g
-  decide_by (Creat path size attr stripe fill) t is g = decide_append sys host floor named s all settled core (Creat path size attr stripe fill) (reads_log (Creat path size attr stripe fill) (λ e. cc)) _ refl t is g
+  decide_by (Creat path size attr stripe fill) t is g = decide_append sys host floor named s all settled core (Creat path size attr stripe fill)
+      (reads_log (Creat path size attr stripe fill) (λ e. cc)) _ refl t is g
   decide_by (Cp path attr stripe bytes) t is g = decide_append sys host floor named s all settled core (Cp path attr stripe bytes) (reads_log (Cp path attr stripe bytes) (λ e. cc)) _ refl t is g
   decide_by (Verify path against) t is g = decide_verify sys host floor named s all settled core t path against (reads_log (Verify path against) (λ e. cc)) is g
   decide_by (Read path offset count) t is g = decide_read sys host floor named s all settled core t path offset count (reads_log (Read path offset count) (λ e. cc)) is g
@@ -49,24 +52,32 @@ module _ (sys : System) (host : ℕ) (floor : Option ℕ) (named : Option Named)
   no_file : (cmd : Cmd) (path : List ℕ) → wanted_path cmd ≡ None → wanted_path cmd ≡ Some path → ⊥
   no_file cmd path none some = absurd (let e : None ≡ Some path = sym none ∙ some in cc)
 
-  file_by : (cmd : Cmd) (j : ℕ) (t : Task) → IsTask sys host (commanded t cmd) → OnPart FileLines j sys host floor (commanded t cmd) s all settled → j < part_count (commanded t cmd) FileLines → HasLoaded s.memory (commanded t cmd) FileLines j 8 → After (file_turn cmd (commanded t cmd) j) sys host floor named (commanded t cmd) s all settled
+  file_by : (cmd : Cmd) (j : ℕ) (t : Task) → IsTask sys host (commanded t cmd) → OnPart FileLines j sys host floor (commanded t cmd) s all settled
+      → j < part_count (commanded t cmd) FileLines → HasLoaded s.memory (commanded t cmd) FileLines j 8
+      → After (file_turn cmd (commanded t cmd) j) sys host floor named (commanded t cmd) s all settled
   file_by (Verify path against) j t is on within has = verify_line sys host floor named s all settled core t path against (reads_log (Verify path against) (λ e. cc)) j is on.0 on.1 within has
   file_by (Read path offset count) j t is on within has = read_line sys host floor named s all settled core t path offset count (reads_log (Read path offset count) (λ e. cc)) j is on.0 on.1 within has
   file_by e j t is on within has = absurd (no_file e on.1.file.path refl on.1.file.wanted)
 
   -- a line of a part was loaded
-  line : (part : Part) (j : ℕ) (t : Task) → IsTask sys host t → OnPart part j sys host floor t s all settled → j < part_count t part → (IsStable t part → HasLoaded s.memory t part j 8) → After (line_turn t part j) sys host floor named t s all settled
+  line : (part : Part) (j : ℕ) (t : Task) → IsTask sys host t → OnPart part j sys host floor t s all settled → j < part_count t part
+      → (IsStable t part → HasLoaded s.memory t part j 8) → After (line_turn t part j) sys host floor named t s all settled
   line Superblock j t is on within has = super_line sys host floor named s all settled core j t is on (has tt)
   line Header j t is on within has = header_line sys host floor named s all settled core j t is on.0 on.1 (has tt)
   line (Slot i) j t is on within has =
       next_line sys host floor named s all settled core (Slot i) j t (Goes (record t { phase = at.Check i })) is on
       (λ sure. has sure ∙ loaded_next s.memory t (Slot i) j (kept_slot t.cmd i j) (kept_slot t.cmd i (j + 1)))
-      (λ last. goes sys host floor named s all settled core t (moved t (at.Check i) t.words) (task_moved t (at.Check i) t.words sys host is)
-      (head_moved t (at.Check i) t.words sys host on.0, slot_moved t (at.Check i) t.words host floor s all settled i on.1, λ below. has below ∙ loaded_whole s.memory t (Slot i) j (kept_slot t.cmd i j) last))
+      (λ last. goes sys host floor named s all settled core t (moved t (at.Check i) t.words) (task_moved t (at.Check i) t.words sys host is) (
+        head_moved t (at.Check i) t.words sys host on.0,
+        slot_moved t (at.Check i) t.words host floor s all settled i on.1,
+        λ below.
+            has below ∙ loaded_whole s.memory t (Slot i) j (kept_slot t.cmd i j) last,
+      ))
   line FileLines j t is on within has = file_by t.cmd j t is on within (has tt)
 
   -- a word was loaded
-  word_turned : (part : Part) (j k : ℕ) (t : Task) (word : ℕ) → IsTask sys host t → Given (at.Word part j k) sys host floor word t s all settled → After (turn_at (at.Word part j k) t word) sys host floor named t s all settled
+  word_turned : (part : Part) (j k : ℕ) (t : Task) (word : ℕ) → IsTask sys host t → Given (at.Word part j k) sys host floor word t s all settled
+      → After (turn_at (at.Word part j k) t word) sys host floor named t s all settled
   word_turned part j k t word is g = go (nat_lt k 7) refl
     where
       more : IsStable t part → t.words ++ word ∷ [] ≡ loaded s.memory t part j (k + 1)
@@ -92,7 +103,9 @@ module _ (sys : System) (host : ℕ) (floor : Option ℕ) (named : Option Named)
           (λ sure. loaded_moved t t.phase w part s.memory j 8 (subst (λ (n : ℕ). w ≡ loaded s.memory t part j n) last (more (sure_moved t t.phase w part sure)))))
 
   -- the whole
-  pub turned : (p : Phase) (t : Task) (word : ℕ) → IsCommand t.cmd → sys.uuid host ≡ Some t.me → line_bytes * t.lines ≡ sys.have → KeepsPrefix sys.params all settled t.kept → (HasNamed p → HoldsNamed t named) → Given p sys host floor word t s all settled → After (turn_at p t word) sys host floor named t s all settled
+  pub turned : (p : Phase) (t : Task) (word : ℕ) → IsCommand t.cmd → sys.uuid host ≡ Some t.me → line_bytes * t.lines ≡ sys.have
+      → KeepsPrefix sys.params all settled t.kept → (HasNamed p → HoldsNamed t named) → Given p sys host floor word t s all settled
+      → After (turn_at p t word) sys host floor named t s all settled
   turned p t word command me lines keeps holds given = by_phase p (record { command = command; me = me; lines = lines }) holds given
     where
       by_phase : (p : Phase) → IsTask sys host t → (HasNamed p → HoldsNamed t named) → Given p sys host floor word t s all settled → After (turn_at p t word) sys host floor named t s all settled

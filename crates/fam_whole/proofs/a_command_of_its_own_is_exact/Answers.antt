@@ -40,5 +40,6 @@ returns c = record {
         | inr x ↦ inr (parents_end files start host path attr out given (top.image start told_start) x)
       ];
   front = λ me random out given system what files start media top told_start told.
-      shot_front out media script_events storm (host_or me system) (shot_of random what) files told start told_start (top.image start told_start) top.uuids.0 (shot_sound random what top.uuids.1) given top.ends;
+      shot_front out media script_events storm (host_or me system) (shot_of random what) files told start told_start
+      (top.image start told_start) top.uuids.0 (shot_sound random what top.uuids.1) given top.ends;
 }

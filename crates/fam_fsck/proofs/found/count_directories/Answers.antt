@@ -10,11 +10,23 @@ loop-place-preserved c =
     let place = c.loop-place.place in
     elim c.if-is_directory.branch [
       | then-is_directory w ↦ record {
-        counted = omega (arith, w.count-is, count_yes is_directory found place c.kind_at.result c.kind_at.ensures (sym c.is_directory.ensures ∙ w.if-is_directory.true), c.loop-place.invariant.counted);
+        counted = omega (
+          arith,
+          w.count-is,
+          count_yes is_directory found place c.kind_at.result c.kind_at.ensures
+              (sym c.is_directory.ensures ∙ w.if-is_directory.true),
+          c.loop-place.invariant.counted,
+        );
         few = omega (arith, w.count-is, c.loop-place.invariant.few);
       }
       | else-is_directory w ↦ record {
-        counted = omega (arith, w.count-is, count_no is_directory found place c.kind_at.result c.kind_at.ensures (sym c.is_directory.ensures ∙ w.if-is_directory.false), c.loop-place.invariant.counted);
+        counted = omega (
+          arith,
+          w.count-is,
+          count_no is_directory found place c.kind_at.result c.kind_at.ensures
+              (sym c.is_directory.ensures ∙ w.if-is_directory.false),
+          c.loop-place.invariant.counted,
+        );
         few = omega (arith, w.count-is, c.loop-place.invariant.few);
       }
     ]

@@ -18,17 +18,23 @@ returns-clause-exists c = record { cmd = mkdir x; told = refl; none = refl; is =
 pub returns-clause-other_kind : goal.returns-clause-other_kind
 unfolding fill
 returns-clause-other_kind c = λ a.
-    absurd (let e : Some (Err (cause.Exists kind.Directory)) ≡ Some (Err (cause.Exists kind.File)) = sym again ∙ decides params (record (new_host (codes "m") master) { cmd = Some (mkdir x); floor = Some 1 }) (held x ∷ []) (Err (cause.Exists kind.File)) (mkdir x) refl a in cc)
+    absurd (let e : Some (Err (cause.Exists kind.Directory)) ≡ Some (Err (cause.Exists kind.File)) =
+    sym again ∙ decides params (record (new_host (codes "m") master) { cmd = Some (mkdir x); floor = Some 1 }) (held x ∷ [])
+    (Err (cause.Exists kind.File)) (mkdir x) refl a in cc)
 
 pub returns-clause-free : goal.returns-clause-free
 unfolding fill
 returns-clause-free c = λ a.
-    absurd (let e : Some (Ok (folder x)) ≡ Some (Err (cause.Exists kind.Directory)) = sym first ∙ decides params (record (new_host (codes "m") master) { cmd = Some (mkdir x); floor = Some 0 }) [] (Err (cause.Exists kind.Directory)) (mkdir x) refl a in cc)
+    absurd (let e : Some (Ok (folder x)) ≡ Some (Err (cause.Exists kind.Directory)) =
+    sym first ∙ decides params (record (new_host (codes "m") master) { cmd = Some (mkdir x); floor = Some 0 }) []
+    (Err (cause.Exists kind.Directory)) (mkdir x) refl a in cc)
 
 pub returns-clause-full : goal.returns-clause-full
 unfolding fill
 returns-clause-full c = λ a.
-    absurd (let e : Some (Ok (folder x)) ≡ Some (Err (cause.LogFull 127)) = sym first ∙ decides params (record (new_host (codes "m") master) { cmd = Some (mkdir x); floor = Some 0 }) [] (Err (cause.LogFull 127)) (mkdir x) refl a in cc)
+    absurd (let e : Some (Ok (folder x)) ≡ Some (Err (cause.LogFull 127)) =
+    sym first ∙ decides params (record (new_host (codes "m") master) { cmd = Some (mkdir x); floor = Some 0 }) [] (Err (cause.LogFull 127))
+    (mkdir x) refl a in cc)
 
 -- Too long a path.
 

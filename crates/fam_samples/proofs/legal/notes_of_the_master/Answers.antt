@@ -23,4 +23,6 @@ returns-clause-other_entry c = λ a.
 pub returns-clause-client : goal.returns-clause-client
 unfolding fill
 returns-clause-client c = λ a.
-    absurd (let e : Some (Err (cause.NotMaster client_uuid master)) ≡ Some (Ok (folder x)) = sym of_client ∙ decides params (record (new_host (codes "c") client_uuid) { cmd = Some (mkdir x); floor = Some 0 }) [] (Ok (folder x)) (mkdir x) refl a.1 in cc)
+    absurd (let e : Some (Err (cause.NotMaster client_uuid master)) ≡ Some (Ok (folder x)) = sym of_client
+    ∙ decides params (record (new_host (codes "c") client_uuid) { cmd = Some (mkdir x); floor = Some 0 }) [] (Ok (folder x))
+    (mkdir x) refl a.1 in cc)

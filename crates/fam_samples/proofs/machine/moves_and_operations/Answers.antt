@@ -24,8 +24,10 @@ pub returns-clause-fetch_brings : goal.returns-clause-fetch_brings
 unfolding refusal_of
 returns-clause-fetch_brings c = λ does. brings does
   where
-    brings : (Moved 0 0 (Fetch 255) (host_m None) (one_host one_line None) [] (one_host one_line None) ⊎ MoveFails 0 0 (Fetch 255) (codes "m") (host_m None) (one_host one_line None) [] (one_host one_line None)) → ⊥
-    brings (inl is) = absurd (let e : Absent ≡ Clean (0 ∷ 0 ∷ 0 ∷ 0 ∷ 0 ∷ 0 ∷ 0 ∷ 0 ∷ []) = sym (cell_at-empty 0) ∙ ap (λ (m : Machines). first_cell m.hosts) is.left ∙ cell_at-with_cell_same 0 _ _ ∙ rw (cell_at-empty 0) refl in cc)
+    brings : (Moved 0 0 (Fetch 255) (host_m None) (one_host one_line None) [] (one_host one_line None) ⊎ MoveFails 0 0 (Fetch 255) (codes "m")
+        (host_m None) (one_host one_line None) [] (one_host one_line None)) → ⊥
+    brings (inl is) = absurd (let e : Absent ≡ Clean (0 ∷ 0 ∷ 0 ∷ 0 ∷ 0 ∷ 0 ∷ 0 ∷ 0 ∷ []) = sym (cell_at-empty 0)
+        ∙ ap (λ (m : Machines). first_cell m.hosts) is.left ∙ cell_at-with_cell_same 0 _ _ ∙ rw (cell_at-empty 0) refl in cc)
     brings (inr is) = absurd (let e : _ = is.notes_are in cc)
 
 pub returns-clause-fetch_fails : goal.returns-clause-fetch_fails
@@ -44,7 +46,8 @@ returns-clause-no_fault_elsewhere c = λ does. elsewhere does
     noted : List Note
     noted = Refused (codes "m") (why.MediaFault (record { 0 = 1 })) ∷ []
 
-    elsewhere : (Moved 0 0 (Fetch 255) (host_m None) (one_host one_line None) noted (one_host one_line None) ⊎ MoveFails 0 0 (Fetch 255) (codes "m") (host_m None) (one_host one_line None) noted (one_host one_line None)) → ⊥
+    elsewhere : (Moved 0 0 (Fetch 255) (host_m None) (one_host one_line None) noted (one_host one_line None) ⊎ MoveFails 0 0 (Fetch 255) (codes "m")
+        (host_m None) (one_host one_line None) noted (one_host one_line None)) → ⊥
     elsewhere (inl is) = absurd (let e : _ = is.notes_are in cc)
     elsewhere (inr is) = absurd (let e : 1 ≡ 0 = ap line_noted is.notes_are in cc)
 

@@ -15,7 +15,8 @@ pub returns-in-Ok-Some-clause-ends : goal.returns-in-Ok-Some-clause-ends
 returns-in-Ok-Some-clause-ends g c =
     let out : Outside = outside_of g.M.Media.size g.M.Media.state c.args.media.now c.write_shadow.new.media no_files (change g.K.Sink.state c.args.out.now c.write_shadow.new.out) in
     let shade : ShadeChange = change g.D.Shade.state c.args.shade.now c.write_shadow.new.shade in
-    subst (λ (o : Option ShadowCall). ShadowTop (option_map (λ (call : ShadowCall). host_or c.args.me call.system) o) out shade c.write_shadow.result) (sym (sym c.in-Ok-Some.ensures ∙ c.in-Ok-Some.field-0-is))
+    subst (λ (o : Option ShadowCall). ShadowTop (option_map (λ (call : ShadowCall). host_or c.args.me call.system) o) out shade c.write_shadow.result)
+    (sym (sym c.in-Ok-Some.ensures ∙ c.in-Ok-Some.field-0-is))
     (subst (λ (host : List ℕ). ShadowTop (Some host) out shade c.write_shadow.result) c.host_or.ensures c.write_shadow.ensures.ends)
 
 -- the words ask for no shadow
@@ -24,7 +25,9 @@ returns-in-Ok-None-clause-ends g c =
     let out : Outside = outside_of g.M.Media.size g.M.Media.state c.args.media.now c.args.media.now no_files (change g.K.Sink.state c.args.out.now c.put_usage.new.out) in
     let shade : ShadeChange = change g.D.Shade.state c.args.shade.now c.args.shade.now in
     let later : NoneFalls out = record { media = omega arith; shelf = omega arith; shorts = omega arith; sink = c.put_usage.ensures.later } in
-    no_shadow out shade c.put_usage.result later _ refl refl (ap (option_map (λ (call : ShadowCall). host_or c.args.me call.system)) (sym c.in-Ok-None.ensures ∙ c.in-Ok-None.field-0-is)) c.put_usage.ensures.put
+    no_shadow out shade c.put_usage.result later _ refl refl
+    (ap (option_map (λ (call : ShadowCall). host_or c.args.me call.system)) (sym c.in-Ok-None.ensures ∙ c.in-Ok-None.field-0-is))
+    c.put_usage.ensures.put
 
 -- no memory was left for the words
 pub returns-in-Err-clause-ends : goal.returns-in-Err-clause-ends

@@ -12,7 +12,8 @@ use Rattle.fam_top.proofs.top.famfs.Goals as goal
 -- what is asked for was done, or not
 pub returns-in-Ok-Some-clause-ends : goal.returns-in-Ok-Some-clause-ends
 returns-in-Ok-Some-clause-ends g c =
-    let out : Outside = outside_of g.M.Media.size g.M.Media.state c.args.media.now c.run_invocation.new.media (change g.S.Shelf.state c.args.shelf.now c.run_invocation.new.shelf) (change g.K.Sink.state c.args.out.now c.run_invocation.new.out) in
+    let out : Outside = outside_of g.M.Media.size g.M.Media.state c.args.media.now c.run_invocation.new.media
+    (change g.S.Shelf.state c.args.shelf.now c.run_invocation.new.shelf) (change g.K.Sink.state c.args.out.now c.run_invocation.new.out) in
     subst (λ (o : Option Invocation). CallEnds o c.args.me c.args.random out c.run_invocation.result) (sym (sym c.in-Ok-Some.ensures.value ∙ c.in-Ok-Some.field-0-is))
     (record {
       ends = c.run_invocation.ensures.ends;
@@ -24,7 +25,8 @@ returns-in-Ok-Some-clause-ends g c =
 -- the words are no command
 pub returns-in-Ok-None-clause-ends : goal.returns-in-Ok-None-clause-ends
 returns-in-Ok-None-clause-ends g c =
-    let out : Outside = outside_of g.M.Media.size g.M.Media.state c.args.media.now c.args.media.now (change g.S.Shelf.state c.args.shelf.now c.args.shelf.now) (change g.K.Sink.state c.args.out.now c.put_usage.new.out) in
+    let out : Outside = outside_of g.M.Media.size g.M.Media.state c.args.media.now c.args.media.now
+    (change g.S.Shelf.state c.args.shelf.now c.args.shelf.now) (change g.K.Sink.state c.args.out.now c.put_usage.new.out) in
     let later : NoneFalls out = record { media = omega arith; shelf = omega arith; shorts = omega arith; sink = c.put_usage.ensures.later } in
     record {
       ends =
@@ -37,7 +39,8 @@ returns-in-Ok-None-clause-ends g c =
 -- no memory was left for the words
 pub returns-in-Err-clause-ends : goal.returns-in-Err-clause-ends
 returns-in-Err-clause-ends g c =
-    let out : Outside = outside_of g.M.Media.size g.M.Media.state c.args.media.now c.args.media.now (change g.S.Shelf.state c.args.shelf.now c.args.shelf.now) (change g.K.Sink.state c.args.out.now c.put_memory.new.out) in
+    let out : Outside = outside_of g.M.Media.size g.M.Media.state c.args.media.now c.args.media.now
+    (change g.S.Shelf.state c.args.shelf.now c.args.shelf.now) (change g.K.Sink.state c.args.out.now c.put_memory.new.out) in
     let later : NoneFalls out = record { media = omega arith; shelf = omega arith; shorts = omega arith; sink = c.put_memory.ensures.later } in
     record {
       ends = no_memory out c.put_memory.result refl later (option_map (invoked_command c.args.me c.args.random) (invocation_named _)) c.put_memory.ensures.put;
