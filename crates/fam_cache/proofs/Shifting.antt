@@ -1,6 +1,6 @@
 -- A cache's move, as its calls have it, is the machine's.
 use Rattle.std.proofs.Common.{◌≡◌, ◌⊎◌, ℕ, inl, inr, List, Option, Some, Result, Ok, Err, refl, ap, sym, ◌∙◌, subst, arith}
-use Rattle.std.specs.Prelude.{OnErr, OnOk, IsErrOf, IsOk, option_map}
+use Rattle.std.specs.Prelude.{OnErr, OnOk, IsErrOf, IsOk, is_err, option_map}
 use Rattle.std.proofs.lemmas.Bool.{cases_eq}
 use Rattle.fam_base.specs.declared.line.Mask.{Mask}
 use Rattle.fam_base.specs.Image.{Image, IsNormal, line_at, with_line}
@@ -15,9 +15,11 @@ use Rattle.fam_machine.specs.Operations.{machine}
 use Rattle.fam_machine.proofs.CacheLemmas.{cell_at-with_cell_other, with_cell_own}
 use Rattle.fam_media.specs.declared.media.Failed.{Failed}
 use Rattle.fam_media.specs.Outside.{IfModelled}
+use Rattle.fam_media.specs.Plans.{count_if}
 use Rattle.fam_cache.specs.declared.fault.CacheFault.{CacheFault}
 use Rattle.fam_cache.specs.declared.fault.CacheFault.TheVariants as cache_fault
 use Rattle.fam_cache.specs.Effects.{FailsTo, FromMemory}
+use Rattle.fam_cache.specs.Faults.{is_failed}
 use Rattle.fam_cache.specs.declared.own_moves.OwnMove.{OwnMove}
 use Rattle.fam_cache.specs.declared.own_moves.OwnMove.TheVariants as own
 use Rattle.fam_cache.specs.OwnMoves.{send_fault, move_of}
@@ -32,6 +34,11 @@ Fetched = Result (Unit {0}) CacheFault
 pub failed_sent : (r : Sent) (P : Type 0) → OnErr r P → IsErrOf (send_fault r) cache_fault.Failed → P
 failed_sent (Ok x) P p is = absurd cc
 failed_sent (Err e) P p is = p
+
+-- what a send counts, its call does
+pub sent_counted : (r : Sent) (told : Fetched) (old now : ℕ) → told ≡ send_fault r → now ≡ count_if (is_err r) old → now ≡ count_if (is_failed told) old
+sent_counted (Ok x) told old now is counted = counted ∙ ap (λ (t : Fetched). count_if (is_failed t) old) (sym is)
+sent_counted (Err e) told old now is counted = counted ∙ ap (λ (t : Fetched). count_if (is_failed t) old) (sym is)
 
 -- another line is as before
 other_held : (line : ℕ) (cell : Cell) (old new : Cache) → new ≡ with_cell line cell old → (l : ℕ) → IsHeld (cell_at new l) → (l ≡ line) ⊎ IsHeld (cell_at old l)

@@ -4,7 +4,7 @@
 //! faults name no line, since their caller knows it. No count of dirty lines is kept, which every call would have to
 //! keep right.
 
-ghost use Rattle.std.specs.Prelude.{ℕ, ◌≡◌, ◌==◌, ◌+◌, ◌/◌, ◌<◌, ◌≤◌, IsOk, IfErr, IfOk, IfSome, OnOk, OnErr, IsErrOf, None, length, slice_index, true, false};
+ghost use Rattle.std.specs.Prelude.{ℕ, ◌≡◌, ◌==◌, ◌+◌, ◌/◌, ◌<◌, ◌≤◌, IsOk, IfErr, IfOk, IfSome, OnOk, OnErr, IsErrOf, None, is_err, length, slice_index, true, false};
 ghost use Rattle.std.specs.Option.{option_map};
 ghost use Rattle.std.specs.FinMap as map;
 ghost use Rattle.fam_base.specs.Image.{eight, line_at, with_line};
@@ -16,8 +16,10 @@ ghost use Rattle.fam_machine.specs.Cuts.{HasFailed, IsMachine};
 ghost use Rattle.fam_machine.specs.Operations.{machine, operated};
 ghost use Rattle.fam_media.specs.Causes.{HasCause, IsSteady, Rose};
 ghost use Rattle.fam_media.specs.Outside.{IfModelled, IsTorn};
+ghost use Rattle.fam_media.specs.Plans.{count_if};
 ghost use Rattle.fam_media.specs.Runs.{IsRunTorn, line_in, run_written};
 ghost use Rattle.fam_cache.specs.Effects.{FailsTo, FromMemory};
+ghost use Rattle.fam_cache.specs.Faults.{is_failed};
 ghost use Rattle.fam_cache.specs.Operations.{CleansSome, cleaned_lines, rest_stored};
 ghost use Rattle.fam_cache.specs.Blocks.{AskedWithin, IsBlockOf, IsKept, IsSpot, lines_of};
 ghost use Rattle.fam_cache.specs.Shed.{IsShed};
@@ -85,6 +87,7 @@ fn bring_absent<M: Media>(
 
     ensures image { (M.state media.new).image ≡ (M.state media.old).image }
     ensures steady { IsSteady M.size M.state media.old media.new }
+    ensures counted { M.exact ≡ true → (M.state media.new).faults ≡ count_if (is_failed result) (M.state media.old).faults }
     ensures kept { IsKept places.new }
     ensures one { places.old.room ≤ places.new.room + 1 }
     ensures kept_room { OnErr result (places.new.room ≡ places.old.room) }
@@ -123,6 +126,7 @@ fn bring<M: Media>(
 
     ensures image { (M.state media.new).image ≡ (M.state media.old).image }
     ensures steady { IsSteady M.size M.state media.old media.new }
+    ensures counted { M.exact ≡ true → (M.state media.new).faults ≡ count_if (is_failed result) (M.state media.old).faults }
     ensures kept { IsKept places.new }
     ensures one { places.old.room ≤ places.new.room + 1 }
     ensures none { IsHeld (cell_at (lines_of places.old) line.0) → places.new.room ≡ places.old.room }
@@ -161,6 +165,7 @@ fn refresh<M: Media>(
 
     ensures image { (M.state media.new).image ≡ (M.state media.old).image }
     ensures steady { IsSteady M.size M.state media.old media.new }
+    ensures counted { M.exact ≡ true → (M.state media.new).faults ≡ count_if (is_failed result) (M.state media.old).faults }
     ensures kept { IsKept places.new }
     ensures one { places.old.room ≤ places.new.room + 1 }
     ensures none { IsHeld (cell_at (lines_of places.old) line.0) → places.new.room ≡ places.old.room }
@@ -200,6 +205,7 @@ fn drop_line<M: Media>(
     ensures idle { ¬ (IsDirty (cell_at (lines_of places.old) line.0)) → IsOk result }
     ensures same { ¬ (IsDirty (cell_at (lines_of places.old) line.0)) → media.new ≡ media.old }
     ensures cause { HasCause (M.state media.old).faults (M.state media.new).faults result }
+    ensures counted { M.exact ≡ true → (M.state media.new).faults ≡ count_if (is_err result) (M.state media.old).faults }
     ensures size { M.size media.new ≡ M.size media.old }
     ensures kept { IsKept places.new }
     ensures room { places.new.room ≡ places.old.room }
@@ -236,6 +242,7 @@ fn leak_line<M: Media>(
     ensures idle { ¬ (IsDirty (cell_at (lines_of places.now) line.0)) → IsOk result }
     ensures same { ¬ (IsDirty (cell_at (lines_of places.now) line.0)) → media.new ≡ media.old }
     ensures cause { HasCause (M.state media.old).faults (M.state media.new).faults result }
+    ensures counted { M.exact ≡ true → (M.state media.new).faults ≡ count_if (is_err result) (M.state media.old).faults }
     ensures size { M.size media.new ≡ M.size media.old }
 {
     let spot = seek(places, last, line.0);
@@ -352,6 +359,7 @@ impl HostCache {
 
         ensures image { (M.state media.new).image ≡ (M.state media.old).image }
         ensures steady { IsSteady M.size M.state media.old media.new }
+        ensures counted { M.exact ≡ true → (M.state media.new).faults ≡ count_if (is_failed result) (M.state media.old).faults }
 
         // Only a line that was brought takes a place.
         ensures spare { self.old.spare ≤ self.new.spare + 1 }
@@ -393,6 +401,7 @@ impl HostCache {
 
         ensures image { (M.state media.new).image ≡ (M.state media.old).image }
         ensures steady { IsSteady M.size M.state media.old media.new }
+        ensures counted { M.exact ≡ true → (M.state media.new).faults ≡ count_if (is_failed result) (M.state media.old).faults }
 
         // Only a line that was brought takes a place.
         ensures spare { self.old.spare ≤ self.new.spare + 1 }
@@ -650,6 +659,7 @@ impl HostCache {
 
         ensures image { (M.state media.new).image ≡ (M.state media.old).image }
         ensures steady { IsSteady M.size M.state media.old media.new }
+        ensures counted { M.exact ≡ true → (M.state media.new).faults ≡ count_if (is_failed result) (M.state media.old).faults }
 
         // Only a line that was brought takes a place.
         ensures spare { self.old.spare ≤ self.new.spare + 1 }
@@ -694,6 +704,7 @@ impl HostCache {
         ensures same { ((line : ℕ) → ¬ (IsAsked (cell_at self.old.lines line))) → media.new ≡ media.old }
 
         ensures cause { HasCause (M.state media.old).faults (M.state media.new).faults result }
+        ensures counted { M.exact ≡ true → (M.state media.new).faults ≡ count_if (is_err result) (M.state media.old).faults }
         ensures size { M.size media.new ≡ M.size media.old }
         ensures spare { self.new.spare ≡ self.old.spare }
     {
@@ -727,6 +738,7 @@ impl HostCache {
         ensures same { ¬ (IsDirty (cell_at self.old.lines line.0)) → media.new ≡ media.old }
 
         ensures cause { HasCause (M.state media.old).faults (M.state media.new).faults result }
+        ensures counted { M.exact ≡ true → (M.state media.new).faults ≡ count_if (is_err result) (M.state media.old).faults }
         ensures size { M.size media.new ≡ M.size media.old }
         ensures spare { self.old.spare ≤ self.new.spare }
     {
@@ -754,6 +766,7 @@ impl HostCache {
         ensures same { ¬ (IsDirty (cell_at self.old.lines line.0)) → media.new ≡ media.old }
 
         ensures cause { HasCause (M.state media.old).faults (M.state media.new).faults result }
+        ensures counted { M.exact ≡ true → (M.state media.new).faults ≡ count_if (is_err result) (M.state media.old).faults }
         ensures size { M.size media.new ≡ M.size media.old }
         ensures spare { self.old.spare ≤ self.new.spare }
     {
@@ -779,6 +792,7 @@ impl HostCache {
         ensures same { ¬ (IsDirty (cell_at self.old.lines line.0)) → media.new ≡ media.old }
 
         ensures cause { HasCause (M.state media.old).faults (M.state media.new).faults result }
+        ensures counted { M.exact ≡ true → (M.state media.new).faults ≡ count_if (is_err result) (M.state media.old).faults }
         ensures size { M.size media.new ≡ M.size media.old }
     {
         self.last = leak_line(&self.places, self.last, media, line, mask)?;

@@ -1,11 +1,12 @@
 //! One line against memory: what each operation asks of the media, and what becomes of the copy.
 
-ghost use Rattle.std.specs.Prelude.{◌≡◌, ◌<◌, IsOk, IfOk, OnOk, OnErr};
+ghost use Rattle.std.specs.Prelude.{◌≡◌, ◌<◌, IsOk, IfOk, OnOk, OnErr, is_err, true};
 ghost use Rattle.std.specs.Option.{option_map};
 ghost use Rattle.fam_machine.specs.Caches.{line_changed};
 ghost use Rattle.fam_machine.specs.OneLine.{IsDirty, IsHeld, brought, failed_leak, failed_send, fetched, leaked, sent};
 ghost use Rattle.fam_media.specs.Causes.{HasCause};
 ghost use Rattle.fam_media.specs.Outside.{IfModelled};
+ghost use Rattle.fam_media.specs.Plans.{count_if};
 ghost use Rattle.fam_cache.specs.Effects.{FailsTo, FromMemory};
 ghost use Rattle.fam_cache.specs.Blocks.{normal};
 
@@ -23,6 +24,7 @@ fn bring_copy<M: Media>(copy: Cell, media: &mut M, line: LineNo) -> Result<Cell,
     ensures image { (M.state media.new).image ≡ (M.state media.old).image }
     ensures size { M.size media.new ≡ M.size media.old }
     ensures cause { HasCause (M.state media.old).faults (M.state media.new).faults result }
+    ensures counted { M.exact ≡ true → (M.state media.new).faults ≡ count_if (is_err result) (M.state media.old).faults }
 {
     match copy {
         Cell::Absent => match media.read(line) {
@@ -49,6 +51,7 @@ pub(crate) fn fetch_copy<M: Media>(
     ensures image { (M.state media.new).image ≡ (M.state media.old).image }
     ensures size { M.size media.new ≡ M.size media.old }
     ensures cause { HasCause (M.state media.old).faults (M.state media.new).faults result }
+    ensures counted { M.exact ≡ true → (M.state media.new).faults ≡ count_if (is_err result) (M.state media.old).faults }
 {
     match copy {
         Cell::Absent => bring_copy(copy, media, line),
@@ -71,6 +74,7 @@ pub(crate) fn send_copy<M: Media>(copy: Cell, media: &mut M, line: LineNo) -> Re
     ensures same { ¬ (IsDirty (normal copy)) → media.new ≡ media.old }
     ensures size { M.size media.new ≡ M.size media.old }
     ensures cause { HasCause (M.state media.old).faults (M.state media.new).faults result }
+    ensures counted { M.exact ≡ true → (M.state media.new).faults ≡ count_if (is_err result) (M.state media.old).faults }
 {
     match copy {
         Cell::Absent => Ok(()),
@@ -95,6 +99,7 @@ pub(crate) fn leak_copy<M: Media>(
     ensures same { ¬ (IsDirty (normal copy)) → media.new ≡ media.old }
     ensures size { M.size media.new ≡ M.size media.old }
     ensures cause { HasCause (M.state media.old).faults (M.state media.new).faults result }
+    ensures counted { M.exact ≡ true → (M.state media.new).faults ≡ count_if (is_err result) (M.state media.old).faults }
 {
     match copy {
         Cell::Clean(_) | Cell::Absent => Ok(()),

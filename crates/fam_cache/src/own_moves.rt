@@ -1,6 +1,6 @@
 //! The moves that a cache makes by itself, as the machine may at any time.
 
-ghost use Rattle.std.specs.Prelude.{◌≡◌, ◌⊎◌, ◌<◌, ℕ, IsErrOf, OnErr, OnOk};
+ghost use Rattle.std.specs.Prelude.{◌≡◌, ◌⊎◌, ◌<◌, ℕ, IsErrOf, OnErr, OnOk, true};
 ghost use Rattle.fam_machine.specs.Caches.{cell_at};
 ghost use Rattle.fam_machine.specs.Cuts.{IsMachine};
 ghost use Rattle.fam_machine.specs.HostMoves.{failed_move, moved};
@@ -8,7 +8,9 @@ ghost use Rattle.fam_machine.specs.OneLine.{IsHeld};
 ghost use Rattle.fam_machine.specs.Operations.{machine};
 ghost use Rattle.fam_media.specs.Causes.{IsSteady, Rose};
 ghost use Rattle.fam_media.specs.Outside.{IfModelled};
+ghost use Rattle.fam_media.specs.Plans.{count_if};
 ghost use Rattle.fam_cache.specs.Effects.{FailsTo};
+ghost use Rattle.fam_cache.specs.Faults.{is_failed};
 ghost use Rattle.fam_cache.specs.OwnMoves.{move_of, send_fault};
 
 use crate::cache::HostCache;
@@ -59,6 +61,7 @@ impl HostCache {
         ensures undone { IsErrOf result CacheFault.OutOfMemory → media.new ≡ media.old }
         ensures unchanged { IsErrOf result CacheFault.OutOfMemory → self.new ≡ self.old }
         ensures steady { IsSteady M.size M.state media.old media.new }
+        ensures counted { M.exact ≡ true → (M.state media.new).faults ≡ count_if (is_failed result) (M.state media.old).faults }
     {
         match what {
             OwnMove::Evict => sends(self.evict(media, line)),

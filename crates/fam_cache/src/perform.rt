@@ -3,12 +3,13 @@
 //! One call does any of those that a task asks for, and its fault names the line, so that a runner looks at no
 //! operation itself. A Digest does nothing here, since only the task can say what it thinks.
 
-ghost use Rattle.std.specs.Prelude.{◌≡◌, ◌+◌, ◌<◌, ◌≤◌, IsOk, IfErr, IfOk, OnErr, OnOk, IsErrOf};
+ghost use Rattle.std.specs.Prelude.{◌≡◌, ◌+◌, ◌<◌, ◌≤◌, IsOk, IfErr, IfOk, OnErr, OnOk, IsErrOf, true};
 ghost use Rattle.fam_machine.specs.Cuts.{HasFailed, IsMachine};
 ghost use Rattle.fam_machine.specs.Operations.{IsWithin, given, machine, operated};
 ghost use Rattle.fam_media.specs.Causes.{IsSteady, Rose};
 ghost use Rattle.fam_media.specs.Outside.{IfModelled};
-ghost use Rattle.fam_cache.specs.Faults.{IfMediaFault};
+ghost use Rattle.fam_media.specs.Plans.{count_if};
+ghost use Rattle.fam_cache.specs.Faults.{IfMediaFault, is_media_fault};
 ghost use Rattle.fam_cache.specs.Operations.{AsksNothing, BringsNone, IsAtLine, LeavesCache, LeavesFailed, SendsWithin, word_of};
 
 use crate::cache::HostCache;
@@ -57,6 +58,7 @@ impl HostCache {
         ensures unchanged { IsErrOf result OperationFault.OutOfMemory → self.new ≡ self.old }
 
         ensures steady { IsSteady M.size M.state media.old media.new }
+        ensures counted { M.exact ≡ true → (M.state media.new).faults ≡ count_if (is_media_fault result) (M.state media.old).faults }
 
         // Only a line that was brought takes a place.
         ensures spare { self.old.spare ≤ self.new.spare + 1 }

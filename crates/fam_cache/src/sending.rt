@@ -5,7 +5,7 @@
 //! look at every line would make an append on a long log dearer. Asked lines of a block that stand one behind another,
 //! such as a slot's, are sent by one call.
 
-ghost use Rattle.std.specs.Prelude.{ℕ, ◌≡◌, ◌+◌, ◌/◌, ◌%◌, ◌<◌, ◌≤◌, IsOk, IfOk, IfErr, OnOk, OnErr};
+ghost use Rattle.std.specs.Prelude.{ℕ, ◌≡◌, ◌+◌, ◌/◌, ◌%◌, ◌<◌, ◌≤◌, IsOk, IfOk, IfErr, OnOk, OnErr, is_err, true};
 ghost use Rattle.fam_machine.specs.Caches.{asked_lines, cell_at};
 ghost use Rattle.fam_machine.specs.OneLine.{IsAsked};
 ghost use Rattle.fam_machine.specs.declared.op.Op.{Op};
@@ -13,6 +13,7 @@ ghost use Rattle.fam_machine.specs.Cuts.{HasFailed, IsMachine};
 ghost use Rattle.fam_machine.specs.Operations.{machine, operated};
 ghost use Rattle.fam_media.specs.Causes.{HasCause};
 ghost use Rattle.fam_media.specs.Outside.{IfModelled};
+ghost use Rattle.fam_media.specs.Plans.{count_if};
 ghost use Rattle.fam_cache.specs.Operations.{CleansSome, cleaned_lines};
 ghost use Rattle.fam_cache.specs.Blocks.{AskedWithin, IsBlockOf, IsKept, lines_of};
 ghost use Rattle.fam_cache.specs.Runs.{over};
@@ -57,6 +58,7 @@ fn send_run<M: Media>(
     ensures failed { IfErr result (λ fault. BreaksOff first.0 fault.0.0
         (over (M.state media.old).image (lines_of places.old)) (over (M.state media.new).image (lines_of places.new))) }
     ensures cause { HasCause (M.state media.old).faults (M.state media.new).faults result }
+    ensures counted { M.exact ≡ true → (M.state media.new).faults ≡ count_if (is_err result) (M.state media.old).faults }
     ensures size { M.size media.new ≡ M.size media.old }
     ensures kept { IsKept places.new }
     ensures room { places.new.room ≡ places.old.room }
@@ -101,6 +103,7 @@ pub(crate) fn send_asked<M: Media>(
     ensures same { ((line : ℕ) → ¬ (IsAsked (cell_at (lines_of places.old) line))) →
         media.new ≡ media.old }
     ensures cause { HasCause (M.state media.old).faults (M.state media.new).faults result }
+    ensures counted { M.exact ≡ true → (M.state media.new).faults ≡ count_if (is_err result) (M.state media.old).faults }
     ensures size { M.size media.new ≡ M.size media.old }
     ensures kept { IsKept places.new }
     ensures room { places.new.room ≡ places.old.room }

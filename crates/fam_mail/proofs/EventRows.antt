@@ -1,7 +1,7 @@
 -- What a call of a world makes of it, and of a media, is what its event has as its row.
 use Rattle.std.proofs.Common.{◌≡◌, ◌+◌, ◌≤◌, ◌⊎◌, ℕ, inl, inr, List, [], ◌∷◌, ◌++◌, refl, sym, ap, subst, ◌∙◌, arith}
 use Prim.Native.Nat.{suc}
-use Rattle.std.specs.Prelude.{Bool, true, false, cond, nat_le, nat_lt, is_some, slice_get, Option, Some, None, Result, Ok, Err, IsErrOf, option_map}
+use Rattle.std.specs.Prelude.{Bool, true, false, cond, nat_le, is_some, slice_get, Option, Some, None, Result, Ok, Err, IsErrOf, option_map}
 use Rattle.std.specs.FinMap as finmap
 use Rattle.std.proofs.lemmas.List.{append-nil, append_assoc}
 use Rattle.std.proofs.lemmas.Option.{same_Some}
@@ -14,20 +14,20 @@ use Rattle.fam_media.specs.States.{MediaChange, MediaState}
 use Rattle.fam_cache.specs.Effects.{FailsTo}
 use Rattle.fam_rules.specs.Written.{file_line}
 use Rattle.fam_mail.specs.declared.ask.Ask.{Ask}
-use Rattle.fam_mail.specs.declared.ask.Ask.TheVariants.{Post, Take}
 use Rattle.fam_mail.specs.declared.note.MailFault.{MailFault}
 use Rattle.fam_mail.specs.declared.note.MailFault.TheVariants as fault
 use Rattle.fam_mail.specs.declared.note.MailNote.{MailNote}
 use Rattle.fam_mail.specs.declared.note.MailNote.TheVariants as note
 use Rattle.fam_mail.specs.declared.note.MailRefusal.{MailRefusal}
 use Rattle.fam_mail.specs.declared.note.MailRefusal.TheVariants as why
-use Rattle.fam_mail.specs.Calls.{MailBegins, ChangesHost, CountEnds, MailDeclares, MoveFailsAt, FinishEnds, Finishes, HostBecomes, HostFinishes, HostMoves, HostStays, IsTurnedDown, MailHalts, IfMailAnswered, MoveDoneAt, MovesLine, MailRefuses, Stays, MailStops, ask_refusal, begin_refusal, capacity_in, declare_refusal, host_at, no_task_refusal, file_line_refusal, no_refusal, refusal_named, named_host_refusal, second_writer}
+use Rattle.fam_mail.specs.Calls.{MailBegins, ChangesHost, CountEnds, MailDeclares, MoveFailsAt, FinishEnds, Finishes, HostBecomes, HostFinishes, HostMoves, HostStays, IsTurnedDown, MailHalts, IfMailAnswered, MoveDoneAt, MovesLine, MailRefuses, Stays, MailStops, begin_refusal, capacity_in, declare_refusal, host_at, no_task_refusal, file_line_refusal, no_refusal, refusal_named, named_host_refusal, second_writer}
 use Rattle.fam_mail.specs.Follows.{BeginsPart, MailByRefusal, CompletesTask, BeginsAndDoes, DoesSteps, IsTaskBegun, IsDeclared, IsHostGiven, IsMoveCut, IsMoved, IsNothing, IsUnfinished, Moves, OfNamedHost, world_of}
 use Rattle.fam_mail.specs.Happens.{AreByWords, MailAdds, HasMailCounted, IsByWords, SaysBy, mail_cause_faults, mail_faults, mail_outcome}
 use Rattle.fam_mail.specs.Machines.{MailMachines, MailOperations, has_task_at, has_own_task, none}
 use Rattle.fam_mail.specs.Tasks.{new_task}
 use Rattle.fam_mail.specs.World.{MailHost, MailView, changed_member, member_place, is_named, is_writer, mail_noted}
 use Rattle.fam_mail.proofs.Calling.{has_task, put_own}
+use Rattle.fam_mail.proofs.Counting.{cause_count, no_faults, quiet_begin, quiet_declare, quiet_idle, quiet_line, quiet_named, quiet_none}
 use Rattle.fam_mail.proofs.Members.{changed_here, index_changed}
 use Rattle.fam_mail.proofs.Outcomes.{changed_alike}
 use Rattle.fam_mail.proofs.Rows.{Along, along, along_more, finished_counted, finished_words, quiet_counted, quiet_runs, rose_counted, runs_busy, runs_words, task_left}
@@ -65,55 +65,6 @@ same_host (Some at) v m = refl
 -- so is why a call for a host is refused
 pub same_named : (name : List ℕ) (cause : MailHost → Option MailRefusal) (v : MailView) (m : Image) → refusal_named name cause (world_of v.entry (machines_of m v)) ≡ refusal_named name cause v
 same_named name cause v m = ap (named_host_refusal cause) (same_host (member_place (is_named name) v.hosts) v m)
-
--- no first refusal tells a fault
-abbrev pub cause_count : Option MailRefusal → ℕ
-cause_count None = 0
-cause_count (Some cause) = mail_cause_faults cause
-
-quiet_when : (b : Bool) (cause : MailRefusal) (rest : Option MailRefusal) → mail_cause_faults cause ≡ 0 → cause_count rest ≡ 0 → cause_count (cond b (Some cause) rest) ≡ 0
-quiet_when true cause rest now later = now
-quiet_when false cause rest now later = later
-
-quiet_unless : (b : Bool) (cause : MailRefusal) → mail_cause_faults cause ≡ 0 → cause_count (cond b None (Some cause)) ≡ 0
-quiet_unless true cause now = refl
-quiet_unless false cause now = now
-
-quiet_of : (cause : MailHost → Option MailRefusal) → ((h : MailHost) → cause_count (cause h) ≡ 0) → (o : Option MailHost) → cause_count (named_host_refusal cause o) ≡ 0
-quiet_of cause quiet None = refl
-quiet_of cause quiet (Some h) = quiet h
-
-quiet_ask : (ask : Ask) (h : MailHost) → cause_count (ask_refusal ask h) ≡ 0
-quiet_ask (Post numbers) h = quiet_unless h.writer why.NotWriter refl
-quiet_ask Take h = refl
-
-quiet_second : (writer : Bool) (o : Option ℕ) (v : MailView) → cause_count (second_writer writer o v) ≡ 0
-quiet_second false o v = refl
-quiet_second true None v = refl
-quiet_second true (Some at) v = refl
-
-no_faults : (first : Option MailRefusal) (cause : MailRefusal) → cause_count first ≡ 0 → first ≡ Some cause → mail_cause_faults cause ≡ 0
-no_faults first cause quiet is = sym (ap cause_count is) ∙ quiet
-
-quiet_named : (name : List ℕ) (cause : MailHost → Option MailRefusal) → ((h : MailHost) → cause_count (cause h) ≡ 0) → (v : MailView) → cause_count (refusal_named name cause v) ≡ 0
-quiet_named name cause quiet v = quiet_of cause quiet (host_at (member_place (is_named name) v.hosts) v)
-
-quiet_idle : (h : MailHost) → cause_count (no_task_refusal h) ≡ 0
-quiet_idle h = quiet_unless (is_some h.task) why.Idle refl
-
-quiet_begin : (ask : Ask) (h : MailHost) → cause_count (begin_refusal ask h) ≡ 0
-quiet_begin ask h = quiet_when (is_some h.task) why.Busy (ask_refusal ask h) refl (quiet_ask ask h)
-
-quiet_line : (line capacity : ℕ) (h : MailHost) → cause_count (file_line_refusal line capacity h) ≡ 0
-quiet_line line capacity h = quiet_when (nat_lt capacity line) (why.NoLine line (capacity + 1)) None refl refl
-
-quiet_none : (h : MailHost) → cause_count (no_refusal h) ≡ 0
-quiet_none h = refl
-
-quiet_declare : (name : List ℕ) (writer : Bool) (v : MailView) → cause_count (declare_refusal name writer v) ≡ 0
-quiet_declare name writer v =
-    quiet_when (is_some (member_place (is_named name) v.hosts)) (why.SameHost name) _ refl
-    (quiet_when (nat_le 64 (Rattle.std.proofs.Common.length v.hosts)) why.TooManyHosts _ refl (quiet_second writer (member_place is_writer v.hosts) v))
 
 -- a call that is refused at once
 module _ (name : List ℕ) (told : MediaChange) (old new : MailView) (same : told.new ≡ told.old) where

@@ -10,6 +10,7 @@ pub mod Events
 pub mod Boxing
 pub mod Members
 pub mod Calling
+pub mod Counting
 pub mod Standing
 pub mod Outcomes
 pub mod Readying

@@ -1,10 +1,11 @@
 -- What comes of an event in a world with a mailbox, over any media; and how a run of events stands, where the media tells its image.
 -- docs/MODEL.md, "The mailbox".
-use Rattle.std.specs.Prelude.{ℕ, ⊤, ◌≡◌, ◌+◌, ◌-◌, ◌^◌, ◌<◌, ◌≤◌, ◌++◌, min, List, [], ◌∷◌, length, map, slice_get, Option, Some, None, Result, Ok, Err}
+use Rattle.std.specs.Prelude.{ℕ, ⊤, ◌≡◌, ◌==◌, ◌+◌, ◌-◌, ◌^◌, ◌<◌, ◌≤◌, ◌++◌, min, List, [], ◌∷◌, length, map, slice_get, Option, Some, None, Result, Ok, Err}
 use Rattle.fam_base.specs.Image.{Image, eight, line_at}
 use Rattle.fam_base.specs.declared.entry.Entry.{Entry}
 use Rattle.fam_base.specs.declared.line.OutOfMemory.{OutOfMemory}
 use Rattle.fam_media.specs.Outside.{IfModelled}
+use Rattle.fam_media.specs.Plans.{count_if}
 use Rattle.fam_media.specs.States.{MediaChange}
 use Rattle.fam_rules.specs.Written.{file_line}
 use Rattle.fam_mail.specs.declared.event.MailEvent.{MailEvent}
@@ -62,6 +63,17 @@ mail_faults (note ∷ notes) = mail_note_faults note + mail_faults notes
 -- a count of 64 bits rose by at least as many faults as these notes have, or stands at its last value
 abbrev pub HasMailCounted : ℕ → ℕ → List MailNote → Type 0
 HasMailCounted before now notes = min (before + mail_faults notes) (2 ^ 64 - 1) ≤ now
+
+-- a count behind these notes: it rose by one at each fault that they tell, as a media that counts exactly has it
+abbrev pub counted_behind : ℕ → List MailNote → ℕ
+counted_behind count [] = count
+counted_behind count (note ∷ notes) = counted_behind (count_if (mail_note_faults note == 1) count) notes
+
+-- some notes came behind a journal, and a count is the one behind them
+pub record IsCountedIn (before after : List MailNote) (old now : ℕ) : Type 0 where
+  pub notes : List MailNote
+  pub joined : after ≡ before ++ notes
+  pub count : now ≡ counted_behind old notes
 
 -- Boxes and records that are none.
 

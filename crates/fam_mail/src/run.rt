@@ -1,7 +1,9 @@
 //! One operation of a task, on its host's cache and the one memory.
 
-ghost use Rattle.std.specs.Prelude.{ℕ, ◌≡◌, ◌*◌, ◌<◌, ◌≤◌, IsErrOf, IfOk, OnErr, false};
+ghost use Rattle.std.specs.Prelude.{ℕ, ◌≡◌, ◌*◌, ◌<◌, ◌≤◌, IsErrOf, IfOk, OnErr, false, true};
+ghost use Rattle.fam_cache.specs.Faults.{is_media_fault};
 ghost use Rattle.fam_media.specs.Causes.{IsSteady};
+ghost use Rattle.fam_media.specs.Plans.{count_if};
 ghost use Rattle.fam_rules.specs.Place.{IsProperEntry, line_bytes};
 ghost use Rattle.fam_rules.specs.Written.{file_line};
 ghost use Rattle.fam_mail.specs.Running.{LinesFit, TaskOperated, around};
@@ -37,6 +39,7 @@ pub(crate) fn operate<M: Media>(
     ensures falls { IfOk result (λ turn. ends_mail_task turn ≡ false → left_of task.new < left_of task.old) }
     ensures fits { LinesFit (M.size media.new) cache.new.lines }
     ensures steady { IsSteady M.size M.state media.old media.new }
+    ensures counted { M.exact ≡ true → (M.state media.new).faults ≡ count_if (is_media_fault result) (M.state media.old).faults }
 {
     task.is_sound();
     if task.counts() {

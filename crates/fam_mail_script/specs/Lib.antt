@@ -3,3 +3,4 @@ pub mod Lines
 pub mod Scripts
 pub mod Texts
 pub mod Statuses
+pub mod Meanings

@@ -1,5 +1,5 @@
 -- What a run over a mailbox leaves.
-use Rattle.std.proofs.Common.{◌≡◌, List, ℕ, Option, Some, Ok, inl, inr, sym, subst, ◌∙◌}
+use Rattle.std.proofs.Common.{◌≡◌, Bool, List, ℕ, Option, Some, Ok, inl, inr, sym, subst, ◌∙◌}
 use Rattle.std.proofs.lemmas.Option.{same_Some}
 use Rattle.fam_base.specs.Image.{Image, line_at}
 use Rattle.fam_base.specs.declared.entry.Entry.{Entry}
@@ -45,9 +45,9 @@ done_left WantsMemory events v start image records now told (inl first) = run_le
 done_left WantsMemory events v start image records now told (inr first) = part_left _ first.event v start image records now told first.run
 
 -- what a run leaves, however it ends
-pub ran_left : (entry : Entry) (events : List MailEvent) (media : MediaChange) (s : SinkChange) (given : Status) (start image : Image) (ran : MailRan entry events media s given)
+pub ran_left : (exact : Bool) (entry : Entry) (events : List MailEvent) (media : MediaChange) (s : SinkChange) (given : Status) (start image : Image) (ran : MailRan exact entry events media s given)
     → media.old.image ≡ Some start → media.new.image ≡ Some image → IsMailLeft entry start image ran.journal
-ran_left entry events media s given start image ran first last =
+ran_left exact entry events media s given start image ran first last =
     let t = ran.told start first in
     subst (λ (ns : List MailNote). IsMailLeft entry start image ns) t.journal_is
     (subst (λ (e : Entry). IsMailLeft e start image t.world.journal) t.entry_is (done_left ran.ending events t.world start image t.records media.new.image last t.done))

@@ -1,7 +1,8 @@
 -- A run behind the look at its box, and the script's own faults.
-use Rattle.std.proofs.Common.{◌≡◌, ◌≤◌, List, Result, Ok, Err, inl, inr, ◌∙◌, arith}
+use Rattle.std.proofs.Common.{◌≡◌, ◌≤◌, ℕ, Bool, true, List, Result, Ok, Err, inl, inr, ◌∙◌, ap, arith}
 use Rattle.fam_base.specs.declared.entry.Entry.{Entry}
 use Rattle.fam_base.specs.declared.line.OutOfMemory.{OutOfMemory as Full}
+use Rattle.fam_mail.specs.Happens.{counted_behind}
 use Rattle.fam_mail.specs.declared.event.MailEvent.{MailEvent}
 use Rattle.fam_mail.specs.declared.note.MailNote.{MailNote}
 use Rattle.fam_media.specs.States.{MediaState, SinkChange}
@@ -33,13 +34,14 @@ module _ (entry : Entry) (events : List MailEvent) (journal : List MailNote) (fi
   each_before WantsMemory given (inl each) = inl (ends_before (Ok tt) (PutsFirst given) each)
   each_before WantsMemory given (inr each) = inr (ends_before (Err (record {})) (PutsFirst given) each)
 
--- a run, from before the look: the media's count was no higher then
-pub ran_before : (entry : Entry) (events : List MailEvent) (first before behind : MediaState) (s : SinkChange) (given : Status) → before.image ≡ first.image → first.faults ≤ before.faults
-    → MailRan entry events (record { old = before; new = behind }) s given → MailRan entry events (record { old = first; new = behind }) s given
-ran_before entry events first before behind s given same later x = record {
+-- a run, from before the look: the media's count was no higher then, and as high where it counts exactly
+pub ran_before : (exact : Bool) (entry : Entry) (events : List MailEvent) (first before behind : MediaState) (s : SinkChange) (given : Status) → before.image ≡ first.image → first.faults ≤ before.faults → (exact ≡ true → before.faults ≡ first.faults)
+    → MailRan exact entry events (record { old = before; new = behind }) s given → MailRan exact entry events (record { old = first; new = behind }) s given
+ran_before exact entry events first before behind s given same later quiet x = record {
   ending = x.ending;
   journal = x.journal;
   counted = let counted = x.counted in omega (arith, counted, later);
+  exactly = λ is. x.exactly is ∙ ap (λ (n : ℕ). counted_behind n x.journal) (quiet is);
   by_words = x.by_words;
   told = λ start is. x.told start (same ∙ is);
   put = x.put;

@@ -1,5 +1,5 @@
 -- What the loop over a run's events knows before each of them, and behind it.
-use Rattle.std.proofs.Common.{◌≡◌, ℕ, suc, ◌+◌, ◌≤◌, List, [], ◌∷◌, ◌++◌, length, take, drop, Option, Some, Result, Ok, Err, refl, ap, sym, ◌∙◌, subst, inl, inr, arith}
+use Rattle.std.proofs.Common.{◌≡◌, Bool, true, ℕ, suc, ◌+◌, ◌≤◌, List, [], ◌∷◌, ◌++◌, length, take, drop, Option, Some, Result, Ok, Err, refl, ap, sym, ◌∙◌, subst, inl, inr, arith}
 use Rattle.std.specs.Prelude.{slice_get}
 use Rattle.std.proofs.lemmas.List.{length-append, take_all}
 use Rattle.fam_base.specs.Image.{Image, IsNormal, line_at}
@@ -7,7 +7,7 @@ use Rattle.fam_base.specs.declared.entry.Entry.{Entry}
 use Rattle.fam_base.specs.declared.line.OutOfMemory.{OutOfMemory}
 use Rattle.fam_mail.specs.Boxes.{IsBox, box_of, capacity_of}
 use Rattle.fam_mail.specs.Calls.{MailWorldFits}
-use Rattle.fam_mail.specs.Happens.{MailAdds, AreByWords, MailEventSays, HasMailCounted, HasRunMail, MailRunsOn, mail_faults}
+use Rattle.fam_mail.specs.Happens.{MailAdds, AreByWords, IsCountedIn, MailEventSays, counted_behind, HasMailCounted, HasRunMail, MailRunsOn, mail_faults}
 use Rattle.fam_mail.specs.Machines.{MailMachines}
 use Rattle.fam_mail.specs.World.{MailView}
 use Rattle.fam_mail.specs.declared.event.MailEvent.{MailEvent}
@@ -64,6 +64,10 @@ take_front (x ∷ xs) ys = ap (λ zs. x ∷ zs) (take_front xs ys)
 drop_front : {A : Type 0} (xs ys : List A) → drop (length xs) (xs ++ ys) ≡ ys
 drop_front [] ys = refl
 drop_front (x ∷ xs) ys = drop_front xs ys
+
+-- what was counted behind all notes of a journal
+pub counted_whole : (journal : List MailNote) (old now : ℕ) → IsCountedIn [] journal old now → now ≡ counted_behind old journal
+counted_whole journal old now c = c.count ∙ ap (counted_behind old) (sym c.joined)
 
 -- a world by its fields
 fresh : (v : MailView) (e : Entry) → v.entry ≡ e → v.hosts ≡ [] → v.journal ≡ [] → v ≡ record { entry = e; hosts = []; journal = [] }
@@ -190,15 +194,16 @@ module _ {M : Type 0} (size : M → ℕ) (state : M → MediaState) (entry : Ent
 
   -- How the run ends.
 
-  module _ {K : Type 0} (sink_state : K → SinkState) (out last : K) where
-    ended : (ending : MailEnding) (next : M) (w : MailView) (given : Status) → w.entry ≡ entry → HasMailCounted (state media).faults (state next).faults w.journal → AreByWords w.journal
+  module _ {K : Type 0} (sink_state : K → SinkState) (out last : K) (exact : Bool) where
+    ended : (ending : MailEnding) (next : M) (w : MailView) (given : Status) → w.entry ≡ entry → HasMailCounted (state media).faults (state next).faults w.journal → AreByWords w.journal → (exact ≡ true → (state next).faults ≡ counted_behind (state media).faults w.journal)
         → ((start : Image) → (state media).image ≡ Some start → (records : List (List ℕ)) × (box_of (file_line w.entry) (capacity_of w.entry.size) (line_at start) ≡ Ok records) × HasDoneMail ending start records events w (state next).image)
         → Rattle.fam_mailbox.specs.Runs.PutsMail ending w.journal (change sink_state out last) given
-        → PutsByEvent ending entry events w.journal (change state media next) (change sink_state out last) given → MailRan entry events (change state media next) (change sink_state out last) given
-    ended ending next w given entry_is counted words done puts each = record {
+        → PutsByEvent ending entry events w.journal (change state media next) (change sink_state out last) given → MailRan exact entry events (change state media next) (change sink_state out last) given
+    ended ending next w given entry_is counted words exactly done puts each = record {
       ending = ending;
       journal = w.journal;
       counted = counted;
+      exactly = exactly;
       by_words = words;
       told = λ start is.
           let d = done start is in
@@ -215,39 +220,39 @@ module _ {M : Type 0} (size : M → ℕ) (state : M → MediaState) (entry : Ent
     }
 
     -- all events are done
-    pub all_ran : (count : ℕ) (next : M) (w : MailView) (given : Status) → length events ≤ count → Going size state entry events count media next w → given ≡ good_status (is_good_mail w.journal)
-        → PutWhole (mail_text w.journal) (change sink_state out last) → MailRan entry events (change state media next) (change sink_state out last) given
-    all_ran count next w given all going good put =
-        ended AllDone next w given going.entry_is going.counted going.by_words
+    pub all_ran : (count : ℕ) (next : M) (w : MailView) (given : Status) → (exact ≡ true → (state next).faults ≡ counted_behind (state media).faults w.journal) → length events ≤ count → Going size state entry events count media next w → given ≡ good_status (is_good_mail w.journal)
+        → PutWhole (mail_text w.journal) (change sink_state out last) → MailRan exact entry events (change state media next) (change sink_state out last) given
+    all_ran count next w given exactly all going good put =
+        ended AllDone next w given going.entry_is going.counted going.by_words exactly
         (λ start is.
         let t = going.told start is in
         (t.records, t.run.reads, subst (λ (es : List MailEvent). HasRunMail start t.records es w (state next).image) (take_all count events all) t.run))
         (good, put) tt
 
     -- the sink failed behind an event
-    pub sink_ran : (count : ℕ) (next : M) (w : MailView) → Going size state entry events count media next w → PutPart (mail_text w.journal) (change sink_state out last)
+    pub sink_ran : (count : ℕ) (next : M) (w : MailView) → (exact ≡ true → (state next).faults ≡ counted_behind (state media).faults w.journal) → Going size state entry events count media next w → PutPart (mail_text w.journal) (change sink_state out last)
         → EndsIn entry (Ok tt) PutsPart events w.journal (change state media next) (change sink_state out last)
-        → MailRan entry events (change state media next) (change sink_state out last) status.SinkFault
-    sink_ran count next w going put each =
-        ended SinkFails next w status.SinkFault going.entry_is going.counted going.by_words
+        → MailRan exact entry events (change state media next) (change sink_state out last) status.SinkFault
+    sink_ran count next w exactly going put each =
+        ended SinkFails next w status.SinkFault going.entry_is going.counted going.by_words exactly
         (λ start is. let t = going.told start is in (t.records, t.run.reads, record { count = count; run = t.run })) (refl, put) each
 
     -- no memory was left behind an event
-    pub short_ran : (count : ℕ) (next : M) (w : MailView) (given : Status) → Going size state entry events count media next w → PutShortMail w.journal (change sink_state out last) given
+    pub short_ran : (count : ℕ) (next : M) (w : MailView) (given : Status) → (exact ≡ true → (state next).faults ≡ counted_behind (state media).faults w.journal) → Going size state entry events count media next w → PutShortMail w.journal (change sink_state out last) given
         → EndsIn entry (Ok tt) (PutsFirst given) events w.journal (change state media next) (change sink_state out last)
-        → MailRan entry events (change state media next) (change sink_state out last) given
-    short_ran count next w given going put each =
-        ended WantsMemory next w given going.entry_is going.counted going.by_words
+        → MailRan exact entry events (change state media next) (change sink_state out last) given
+    short_ran count next w given exactly going put each =
+        ended WantsMemory next w given going.entry_is going.counted going.by_words exactly
         (λ start is. let t = going.told start is in (t.records, t.run.reads, inl record { count = count; run = t.run })) put (inl each)
 
     -- or in it
-    pub cut_ran : (count : ℕ) (here next : M) (v w : MailView) (given : Status) (e : MailEvent) (full : OutOfMemory) → Going size state entry events count media here v → Noted state here next v w
+    pub cut_ran : (count : ℕ) (here next : M) (v w : MailView) (given : Status) (e : MailEvent) (full : OutOfMemory) → (exact ≡ true → (state next).faults ≡ counted_behind (state media).faults w.journal) → Going size state entry events count media here v → Noted state here next v w
         → slice_get events count ≡ Some e
         → ((start : Image) (records : List (List ℕ)) (done : List MailEvent) → HasRunMail start records done v (state here).image → MailRunsOn start records done e w (state next).image (Err full))
         → PutShortMail w.journal (change sink_state out last) given → EndsIn entry (Err (record {})) (PutsFirst given) events w.journal (change state media next) (change sink_state out last)
-        → MailRan entry events (change state media next) (change sink_state out last) given
-    cut_ran count here next v w given e full going n is runs put each =
-        ended WantsMemory next w given (entry_here count here next v w going n) (joined_counted count here next v w going n) (joined_words count here next v w going n)
+        → MailRan exact entry events (change state media next) (change sink_state out last) given
+    cut_ran count here next v w given e full exactly going n is runs put each =
+        ended WantsMemory next w given (entry_here count here next v w going n) (joined_counted count here next v w going n) (joined_words count here next v w going n) exactly
         (λ start is_start.
         let t = going.told start is_start in
         let part = runs start t.records (take count events) t.run in

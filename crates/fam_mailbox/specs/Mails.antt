@@ -33,17 +33,18 @@ pub record LookEnds (exact : Bool) (script path : List ℕ) (out : Outside) (giv
   pub same : out.media.new.image ≡ out.media.old.image
   pub put : PutMade (look_status fault) (look_text fault) out.sink given
 
--- the script's events ran on the box in the file at the path
-pub record MailRuns (script path : List ℕ) (out : Outside) (given : Status) : Type 0 where
+-- the script's events ran on the box in the file at the path, and the look for it failed in no line: a media that counts exactly has
+-- failed once for each fault that the journal tells, and never else
+pub record MailRuns (exact : Bool) (script path : List ℕ) (out : Outside) (given : Status) : Type 0 where
   pub events : List MailEvent
   pub holds : HoldsMail out.shelf script events
   pub entry : Entry
   pub proper : IsProperEntry entry
   pub room : 128 ≤ entry.size
   pub at : IfModelled out.media.old.image (λ image. HasFile path image entry)
-  pub ran : MailRan entry events out.media out.sink given
+  pub ran : MailRan exact entry events out.media out.sink given
 
 -- what is put of a mailbox's script, and what is left of the image, by whether the media counts exactly; no count falls
 pub record MailTop (exact : Bool) (script path : List ℕ) (out : Outside) (given : Status) : Type 0 where
-  pub shows : ScriptEnds script out given ⊎ LookEnds exact script path out given ⊎ MailRuns script path out given
+  pub shows : ScriptEnds script out given ⊎ LookEnds exact script path out given ⊎ MailRuns exact script path out given
   pub later : NoneFalls out

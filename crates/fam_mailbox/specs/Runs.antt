@@ -1,12 +1,12 @@
 -- How a run of a mailbox's events ends, and what is put of it.
-use Rattle.std.specs.Prelude.{ℕ, ⊤, ◌≡◌, ◌⊎◌, ◌≤◌, ◌++◌, List, take, slice_get, Option, Some, Result, Ok, Err}
+use Rattle.std.specs.Prelude.{ℕ, ⊤, ◌≡◌, ◌⊎◌, ◌≤◌, ◌++◌, Bool, true, List, take, slice_get, Option, Some, Result, Ok, Err}
 use Rattle.fam_base.specs.Image.{Image, line_at}
 use Rattle.fam_base.specs.declared.entry.Entry.{Entry}
 use Rattle.fam_base.specs.declared.line.OutOfMemory.{OutOfMemory}
 use Rattle.fam_mail.specs.Boxes.{box_of, capacity_of}
 use Rattle.fam_mail.specs.declared.event.MailEvent.{MailEvent}
 use Rattle.fam_mail.specs.declared.note.MailNote.{MailNote}
-use Rattle.fam_mail.specs.Happens.{AreByWords, HasMailCounted, HasRunMail, HasRunMailPart, MailRunsOn}
+use Rattle.fam_mail.specs.Happens.{AreByWords, counted_behind, HasMailCounted, HasRunMail, HasRunMailPart, MailRunsOn}
 use Rattle.fam_mail.specs.Legal.{LegalMail, mail_state}
 use Rattle.fam_mail.specs.RunLaws.{IsBoxLeft}
 use Rattle.fam_mail.specs.World.{MailView}
@@ -108,11 +108,13 @@ PutsByEvent WantsMemory entry events journal media s given =
     EndsIn entry (Ok tt) (PutsFirst given) events journal media s ⊎ EndsIn entry (Err (record {})) (PutsFirst given) events journal media s
 
 -- events ran on the box in the file of an entry: one journal, of which the media's count rose by at least as many faults as it tells,
--- and which is put
-pub record MailRan (entry : Entry) (events : List MailEvent) (media : MediaChange) (s : SinkChange) (given : Status) : Type 0 where
+-- and where it counts exactly by just as many, and which is put. Where no memory was left this is so of all notes that were made, also
+-- of those that were not put
+pub record MailRan (exact : Bool) (entry : Entry) (events : List MailEvent) (media : MediaChange) (s : SinkChange) (given : Status) : Type 0 where
   pub ending : MailEnding
   pub journal : List MailNote
   pub counted : HasMailCounted media.old.faults media.new.faults journal
+  pub exactly : exact ≡ true → media.new.faults ≡ counted_behind media.old.faults journal
   pub by_words : AreByWords journal
   pub told : IfModelled media.old.image (λ start. HasMailed ending entry events journal start media.new.image)
   pub put : PutsMail ending journal s given

@@ -4,7 +4,7 @@ use fam_base::LineNo;
 use fam_format::{LogField, Reason, SuperField};
 
 /// Why no event is run on the file at a path: the first of these that is so.
-#[derive(Clone, Copy, Debug, PartialEq, Eq)]
+#[derive(Clone, Copy)]
 pub enum LookFault {
     /// The image has so many lines, too few for a log.
     ImageSmall(u64),

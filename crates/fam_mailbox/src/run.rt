@@ -48,7 +48,7 @@ pub fn run_mail<M: Media, K: Sink>(
     requires reads { IfModelled (M.state media.old).image (λ image.
         IsBox (file_line entry.now) (capacity_of entry.now.size) (line_at image)) }
 
-    ensures ran { MailRan entry.now events.now (change M.state media.old media.new) (change K.state out.old out.new) result }
+    ensures ran { MailRan M.exact entry.now events.now (change M.state media.old media.new) (change K.state out.old out.new) result }
     ensures steady { IsSteady M.size M.state media.old media.new }
     ensures later { (K.state out.old).faults ≤ (K.state out.new).faults }
 {

@@ -1,12 +1,12 @@
 //! Events of a mailbox's script, done one by one.
 
-ghost use Rattle.std.specs.Prelude.{◌≡◌, List, ℕ};
+ghost use Rattle.std.specs.Prelude.{◌≡◌, List, true, ℕ};
 ghost use Rattle.fam_base.specs.Image.{Image};
 ghost use Rattle.fam_media.specs.Causes.{IsSteady};
 ghost use Rattle.fam_media.specs.States.{change};
 ghost use Rattle.fam_mail.specs.Calls.{MailWorldFits};
 ghost use Rattle.fam_mail.specs.Follows.{IsSoundMailEvent, IsSoundMailAsk};
-ghost use Rattle.fam_mail.specs.Happens.{MailEventSays, HasRunMail, MailRunsOn, mail_outcome};
+ghost use Rattle.fam_mail.specs.Happens.{IsCountedIn, MailEventSays, HasRunMail, MailRunsOn, mail_outcome};
 ghost use Rattle.fam_mail.specs.declared.event.MailEvent.{MailEvent as Event};
 ghost use Rattle.fam_mail.specs.declared.event.MailEvent.TheVariants as event;
 
@@ -60,6 +60,7 @@ fn run<M: Media>(
     ensures says { MailEventSays (event.Run name.now ask.now) (change M.state media.old media.new) world.old world.new result }
     ensures fits { MailWorldFits (M.size media.new) world.new }
     ensures steady { IsSteady M.size M.state media.old media.new }
+    ensures counted { M.exact ≡ true → IsCountedIn world.old.journal world.new.journal (M.state media.old).faults (M.state media.new).faults }
 {
     match world.begin(name, ask) {
         Ok(()) => noted(world.finish(media, name)),
@@ -79,6 +80,7 @@ fn do_event<M: Media>(
     ensures says { MailEventSays event.now (change M.state media.old media.new) world.old world.new result }
     ensures fits { MailWorldFits (M.size media.new) world.new }
     ensures steady { IsSteady M.size M.state media.old media.new }
+    ensures counted { M.exact ≡ true → IsCountedIn world.old.journal world.new.journal (M.state media.old).faults (M.state media.new).faults }
 {
     match event {
         MailEvent::Writer(name) => noted(world.host(name, true)),
@@ -112,6 +114,9 @@ impl MailWorld {
 
         ensures fits { MailWorldFits (M.size media.new) self.new }
         ensures steady { IsSteady M.size M.state media.old media.new }
+
+        // A media that counts exactly has failed once where a note tells it, and never else.
+        ensures counted { M.exact ≡ true → IsCountedIn self.old.journal self.new.journal (M.state media.old).faults (M.state media.new).faults }
     {
         is_sound(event);
         do_event(self, media, event)

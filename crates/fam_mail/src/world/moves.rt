@@ -1,11 +1,12 @@
 //! Moves that a host's cache makes by itself, as the machine may, at lines of the file.
 
-ghost use Rattle.std.specs.Prelude.{◌≡◌, ◌<◌, IsErrOf};
+ghost use Rattle.std.specs.Prelude.{◌≡◌, ◌<◌, IsErrOf, true};
 ghost use Rattle.fam_machine.specs.Operations.{machine};
 ghost use Rattle.fam_media.specs.Causes.{IsSteady};
 ghost use Rattle.fam_media.specs.States.{change};
 ghost use Rattle.fam_machine.specs.HostMoves as how;
 ghost use Rattle.fam_mail.specs.Calls.{IfMailAnswered, MovesLine, MailWorldFits};
+ghost use Rattle.fam_mail.specs.Happens.{IsCountedIn};
 ghost use Rattle.fam_cache.specs.OwnMoves.{move_of};
 
 use super::{MailWorld, capacity};
@@ -34,6 +35,7 @@ impl MailWorld {
         ensures undone { IsErrOf result MailFault.OutOfMemory → media.new ≡ media.old }
         ensures err { IsErrOf result MailFault.OutOfMemory → self.new ≡ self.old }
         ensures steady { IsSteady M.size M.state media.old media.new }
+        ensures counted { M.exact ≡ true → IsCountedIn self.old.journal self.new.journal (M.state media.old).faults (M.state media.new).faults }
     {
         self.move_line(media, name, line, OwnMove::Evict)
     }
@@ -55,6 +57,7 @@ impl MailWorld {
         ensures undone { IsErrOf result MailFault.OutOfMemory → media.new ≡ media.old }
         ensures err { IsErrOf result MailFault.OutOfMemory → self.new ≡ self.old }
         ensures steady { IsSteady M.size M.state media.old media.new }
+        ensures counted { M.exact ≡ true → IsCountedIn self.old.journal self.new.journal (M.state media.old).faults (M.state media.new).faults }
     {
         self.move_line(media, name, line, OwnMove::Leak(mask))
     }
@@ -76,6 +79,7 @@ impl MailWorld {
         ensures undone { IsErrOf result MailFault.OutOfMemory → media.new ≡ media.old }
         ensures err { IsErrOf result MailFault.OutOfMemory → self.new ≡ self.old }
         ensures steady { IsSteady M.size M.state media.old media.new }
+        ensures counted { M.exact ≡ true → IsCountedIn self.old.journal self.new.journal (M.state media.old).faults (M.state media.new).faults }
     {
         self.move_line(media, name, line, OwnMove::Fetch(mask))
     }
@@ -96,6 +100,7 @@ impl MailWorld {
         ensures undone { IsErrOf result MailFault.OutOfMemory → media.new ≡ media.old }
         ensures err { IsErrOf result MailFault.OutOfMemory → self.new ≡ self.old }
         ensures steady { IsSteady M.size M.state media.old media.new }
+        ensures counted { M.exact ≡ true → IsCountedIn self.old.journal self.new.journal (M.state media.old).faults (M.state media.new).faults }
     {
         if make_room(&mut self.journal).is_err() {
             return Err(MailFault::OutOfMemory);

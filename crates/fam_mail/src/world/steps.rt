@@ -8,6 +8,7 @@ ghost use Rattle.fam_rules.specs.Written.{file_line};
 ghost use Rattle.fam_mail.specs.Boxes.{capacity_of};
 ghost use Rattle.std.specs.Prelude.{OnOk, false};
 ghost use Rattle.fam_mail.specs.Calls.{CountEnds, FinishEnds, HostCounts, HostFinishes, HostNotes, HostStays, HostStepped, MailHostFits, IfMailStepped, MailSteps, MailWorldFits, left_in, notes_of_turn};
+ghost use Rattle.fam_mail.specs.Happens.{IsCountedIn};
 ghost use Rattle.fam_mail.specs.Tasks.{ends_mail_task};
 ghost use Rattle.fam_mail.specs.World.{mail_host};
 
@@ -96,6 +97,7 @@ fn step_of<M: Media>(
     ensures kept { OnErr result (mail_host host.new ≡ mail_host host.old) }
     ensures quiet { OnErr result (journal.new.items ≡ journal.old.items) }
     ensures steady { IsSteady M.size M.state media.old media.new }
+    ensures counted { M.exact ≡ true → IsCountedIn journal.old.items journal.new.items (M.state media.old).faults (M.state media.new).faults }
 {
     let Some(task) = &mut host.task else {
         unreachable!();
@@ -138,6 +140,7 @@ fn finish_of<M: Media>(
         (change M.state media.old media.new) (mail_host host.new)) journal.old.items journal.new.items) }
     ensures fits { MailHostFits (M.size media.new) (capacity_of entry.now.size) (mail_host host.new) }
     ensures steady { IsSteady M.size M.state media.old media.new }
+    ensures counted { M.exact ≡ true → IsCountedIn journal.old.items journal.new.items (M.state media.old).faults (M.state media.new).faults }
 {
     'operations: loop {
         if two_rooms(journal).is_err() {
@@ -171,6 +174,7 @@ fn steps_of<M: Media>(
         (mail_host host.new) journal.old.items journal.new.items result }
     ensures fits { MailHostFits (M.size media.new) (capacity_of entry.now.size) (mail_host host.new) }
     ensures steady { IsSteady M.size M.state media.old media.new }
+    ensures counted { M.exact ≡ true → IsCountedIn journal.old.items journal.new.items (M.state media.old).faults (M.state media.new).faults }
 {
     for _done in 0..count {
         if two_rooms(journal).is_err() {
@@ -198,6 +202,7 @@ impl MailWorld {
         ensures undone { IsErrOf result MailFault.OutOfMemory → media.new ≡ media.old }
         ensures err { IsErrOf result MailFault.OutOfMemory → self.new ≡ self.old }
         ensures steady { IsSteady M.size M.state media.old media.new }
+        ensures counted { M.exact ≡ true → IsCountedIn self.old.journal self.new.journal (M.state media.old).faults (M.state media.new).faults }
     {
         if two_rooms(&mut self.journal).is_err() {
             return Err(MailFault::OutOfMemory);
@@ -230,6 +235,7 @@ impl MailWorld {
         ensures ends { CountEnds count (M.size media.old) name.now (change M.state media.old media.new) self.old self.new result }
         ensures fits { MailWorldFits (M.size media.new) self.new }
         ensures steady { IsSteady M.size M.state media.old media.new }
+        ensures counted { M.exact ≡ true → IsCountedIn self.old.journal self.new.journal (M.state media.old).faults (M.state media.new).faults }
     {
         if two_rooms(&mut self.journal).is_err() {
             return Err(MailFault::OutOfMemory);
@@ -257,6 +263,7 @@ impl MailWorld {
         ensures ends { FinishEnds (M.size media.old) name.now (change M.state media.old media.new) self.old self.new result }
         ensures fits { MailWorldFits (M.size media.new) self.new }
         ensures steady { IsSteady M.size M.state media.old media.new }
+        ensures counted { M.exact ≡ true → IsCountedIn self.old.journal self.new.journal (M.state media.old).faults (M.state media.new).faults }
     {
         if two_rooms(&mut self.journal).is_err() {
             return Err(MailFault::OutOfMemory);

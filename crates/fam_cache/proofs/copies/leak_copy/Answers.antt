@@ -1,4 +1,7 @@
+use Rattle.std.proofs.Common.{◌∙◌, ap}
+use Rattle.std.specs.Prelude.{is_err}
 use Rattle.std.proofs.lemmas.Result.{on_ok_weaker, on_err_weaker}
+use Rattle.fam_media.specs.Plans.{count_if}
 use Rattle.fam_cache.proofs.MemoryLemmas.{leaked_image, torn_leak, unread_leak}
 use Rattle.fam_cache.proofs.copies.leak_copy.Goals as goal
 
@@ -18,3 +21,6 @@ pub returns-in-Err-clause-torn : goal.returns-in-Err-clause-torn
 returns-in-Err-clause-torn g c =
     unread_leak (g.M.Media.state c.args.media.now).image (g.M.Media.state c.read.new.self).image c.args.line.0 c.args.mask.0 c.in-Dirty.words c.args.copy
     (g.met.M.Media.normal c.args.media.now) c.in-Dirty.is c.in-Err.ensures.same
+
+pub returns-in-Ok-clause-counted : goal.returns-in-Ok-clause-counted
+returns-in-Ok-clause-counted g c = λ exact. c.write.ensures.counted exact ∙ ap (count_if (is_err c.write.result)) (c.in-Ok.ensures.counted exact)

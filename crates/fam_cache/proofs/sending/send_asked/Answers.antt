@@ -1,4 +1,5 @@
-use Rattle.std.proofs.Common.{◌∙◌, refl, arith}
+use Rattle.std.proofs.Common.{◌∙◌, refl, ap, arith}
+use Rattle.fam_media.specs.Plans.{one_more}
 use Rattle.fam_cache.specs.Blocks.{lines_of}
 use Rattle.fam_cache.specs.Runs.{over}
 use Rattle.fam_cache.proofs.AskedLines.{none_more}
@@ -13,6 +14,7 @@ loop-at-init g c = record {
   sent = none_sent (over (g.M.Media.state c.args.media.now).image (lines_of c.args.places.now));
   same = λ none. refl;
   steady = record { size = refl; later = omega arith };
+  quiet = λ exact. refl;
   room = refl;
 }
 
@@ -42,6 +44,9 @@ returns-in-Err-clause-idle g c = λ none. absurd (none c.in-Err.fault.0.0 (retur
 pub returns-in-Err-clause-same : goal.returns-in-Err-clause-same
 returns-in-Err-clause-same g c = λ none. absurd (none c.in-Err.fault.0.0 (returns-in-Err-clause-line g c))
 
+pub returns-in-Err-clause-counted : goal.returns-in-Err-clause-counted
+returns-in-Err-clause-counted g c = λ exact. c.in-Err.ensures.counted exact ∙ ap one_more (c.loop-at.invariant.quiet exact)
+
 pub loop-at-preserved : goal.loop-at-preserved
 loop-at-preserved g c =
     let v = c.loop-at.invariant in
@@ -53,6 +58,7 @@ loop-at-preserved g c =
       sent = run_sent _ _ c.loop-at.from c.args.last c.in-Some.number v.sent v.range c.in-Some.ensures.asked c.in-Ok.count now e.sent;
       same = λ none. absurd (none c.in-Some.number (still_asked c.args.first c.args.last _ (over (g.M.Media.state c.loop-at.media).image (lines_of c.loop-at.places)) c.requires.range v.sent c.in-Some.number c.in-Some.ensures.asked.asked));
       steady = record { size = e.size ∙ v.steady.size; later = omega (arith, e.cause.later, v.steady.later) };
+      quiet = λ exact. e.counted exact ∙ v.quiet exact;
       room = e.room ∙ v.room;
     }
 

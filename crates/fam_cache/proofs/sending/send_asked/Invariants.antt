@@ -1,4 +1,4 @@
-use Rattle.std.proofs.Common.{◌≡◌, ℕ, ◌+◌, ◌-◌}
+use Rattle.std.proofs.Common.{◌≡◌, ℕ, ◌+◌, ◌-◌, true}
 use Rattle.fam_machine.specs.Caches.{cell_at}
 use Rattle.fam_machine.specs.OneLine.{IsAsked}
 use Rattle.fam_media.specs.Causes.{IsSteady}
@@ -14,6 +14,7 @@ invariant-loop-at g l = record {
   sent : HasSent (over (g.M.Media.state l.fn.media).image (lines_of l.fn.places)) (over (g.M.Media.state l.media).image (lines_of l.places));
   same : ((line : ℕ) → IsAsked (cell_at (lines_of l.fn.places) line) → ⊥) → l.media ≡ l.fn.media;
   steady : IsSteady g.M.Media.size g.M.Media.state l.fn.media l.media;
+  quiet : g.M.Media.exact ≡ true → (g.M.Media.state l.media).faults ≡ (g.M.Media.state l.fn.media).faults;
   room : l.places.room ≡ l.fn.places.room;
 }
 

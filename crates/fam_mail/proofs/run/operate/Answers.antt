@@ -123,3 +123,15 @@ returns-in-Ok-clause-steady g c = record { size = refl; later = le_refl _ }
 
 pub returns-in-Err-clause-steady : goal.returns-in-Err-clause-steady
 returns-in-Err-clause-steady g c = record { size = refl; later = le_refl _ }
+
+pub returns-in-Ok-clause-counted : goal.returns-in-Ok-clause-counted
+returns-in-Ok-clause-counted g c exact = refl
+
+pub returns-in-Err-clause-counted : goal.returns-in-Err-clause-counted
+returns-in-Err-clause-counted g c exact = refl
+
+pub returns-in-Ok-perform-clause-counted : goal.returns-in-Ok-perform-clause-counted
+returns-in-Ok-perform-clause-counted g c = c.in-Ok-perform.ensures.counted
+
+pub returns-in-Err-perform-clause-counted : goal.returns-in-Err-perform-clause-counted
+returns-in-Err-perform-clause-counted g c = c.in-Err-perform.ensures.counted

@@ -1,13 +1,14 @@
-use Rattle.std.proofs.Common.{◌≡◌, ◌+◌, List, length, drop, Some, Ok, Err, arith, ap, subst, sym, ◌∙◌}
+use Rattle.std.proofs.Common.{◌≡◌, ◌+◌, List, length, drop, Some, Ok, Err, refl, arith, ap, subst, sym, ◌∙◌}
 use Rattle.std.specs.Prelude.{slice_get}
 use Rattle.std.proofs.lemmas.Option.{slice_get-get_or}
+use Rattle.fam_mail.proofs.Counting.{both_counted, none_counted}
 use Rattle.fam_mail.specs.declared.note.MailNote.{MailNote}
 use Rattle.fam_mail_script.specs.Texts.{mail_text}
 use Rattle.fam_media.specs.States.{change}
 use Rattle.fam_program.specs.Puts.{PutWhole}
 use Rattle.fam_program.proofs.Texts.Pieces.{nothing_put}
 use Rattle.fam_mailbox.proofs.Found.{proper_entry}
-use Rattle.fam_mailbox.proofs.Running.{all_ran, cut_ran, first_going, from_within, goes_on, noted, part_put, short_put, short_ran, sink_ran, text_put}
+use Rattle.fam_mailbox.proofs.Running.{all_ran, counted_whole, cut_ran, first_going, from_within, goes_on, noted, part_put, short_put, short_ran, sink_ran, text_put}
 use Rattle.fam_mailbox.specs.Runs.{PutsFirst, PutsPart}
 use Rattle.fam_mailbox.proofs.LastEvents.{ends_in}
 use Rattle.fam_mailbox.proofs.Rendering.{short_some}
@@ -22,6 +23,7 @@ events-init g c = record {
       first_going g.M.Media.size g.M.Media.state c.args.entry.now c.args.events.now c.args.media.now c.new-world.result c.new-world.ensures.entry c.new-world.ensures.hosts
       c.new-world.ensures.journal c.requires.placed c.requires.room (g.met.M.Media.normal c.args.media.now)
       (λ image is. sym (g.met.M.Media.modelled c.args.media.now image is)) c.requires.reads;
+  exactly = λ exact. none_counted _ _ _ _ c.new-world.ensures.journal refl;
   put = subst (λ (ns : List MailNote). PutWhole (mail_text ns) (change g.K.Sink.state c.args.out.now c.args.out.now)) (sym c.new-world.ensures.journal)
       (nothing_put (g.K.Sink.state c.args.out.now).bytes);
   later = omega arith;
@@ -55,6 +57,7 @@ events-preserved g c =
     record {
       going = goes_on g.M.Media.size g.M.Media.state c.args.entry.now c.args.events.now c.args.media.now c.events.event-index c.events.media c.happen.new.media c.events.world c.happen.new.self
           inv.going n c.event-item.result is c.happen.ensures.steady c.happen.ensures.fits c.in-Ok.ensures.runs;
+      exactly = λ exact. both_counted _ _ _ _ _ _ (inv.exactly exact) (c.happen.ensures.counted exact);
       put =
           text_put g.M.Media.size g.M.Media.state c.args.entry.now c.args.events.now c.args.media.now c.events.event-index c.events.media c.happen.new.media c.events.world c.happen.new.self
           inv.going n (length c.journal-from.result.now) (ap (λ (ns : List MailNote). length ns) c.journal-from.ensures)
@@ -70,8 +73,10 @@ returns-in-Err g c =
     let inv = c.events.invariant in
     record {
       ran =
-          cut_ran g.M.Media.size g.M.Media.state c.args.entry.now c.args.events.now c.args.media.now g.K.Sink.state c.args.out.now c.put_cut.new.out c.events.event-index c.events.media
-          c.happen.new.media c.events.world c.happen.new.self c.put_cut.result c.event-item.result (record {}) inv.going n is c.in-Err.ensures.runs
+          cut_ran g.M.Media.size g.M.Media.state c.args.entry.now c.args.events.now c.args.media.now g.K.Sink.state c.args.out.now c.put_cut.new.out g.M.Media.exact c.events.event-index c.events.media
+          c.happen.new.media c.events.world c.happen.new.self c.put_cut.result c.event-item.result (record {})
+          (λ exact. counted_whole _ _ _ (both_counted _ _ _ _ _ _ (inv.exactly exact) (c.happen.ensures.counted exact)))
+          inv.going n is c.in-Err.ensures.runs
           (short_put g.M.Media.size g.M.Media.state c.args.entry.now c.args.events.now c.args.media.now c.events.event-index c.events.media c.happen.new.media c.events.world c.happen.new.self
           inv.going n (length c.journal-from.result.now) (ap (λ (ns : List MailNote). length ns) c.journal-from.ensures)
           (g.K.Sink.state c.args.out.now) (g.K.Sink.state c.events.out) (g.K.Sink.state c.put_cut.new.out) inv.later inv.put c.put_cut.result c.put_cut.ensures.says)
@@ -91,8 +96,9 @@ returns-in-Err-Sink g c =
     let inv = c.events.invariant in
     record {
       ran =
-          sink_ran g.M.Media.size g.M.Media.state c.args.entry.now c.args.events.now c.args.media.now g.K.Sink.state c.args.out.now c.put_notes.new.out (c.events.event-index + 1)
+          sink_ran g.M.Media.size g.M.Media.state c.args.entry.now c.args.events.now c.args.media.now g.K.Sink.state c.args.out.now c.put_notes.new.out g.M.Media.exact (c.events.event-index + 1)
           c.happen.new.media c.happen.new.self
+          (λ exact. counted_whole _ _ _ (both_counted _ _ _ _ _ _ (inv.exactly exact) (c.happen.ensures.counted exact)))
           (goes_on g.M.Media.size g.M.Media.state c.args.entry.now c.args.events.now c.args.media.now c.events.event-index c.events.media c.happen.new.media c.events.world c.happen.new.self
           inv.going n c.event-item.result is c.happen.ensures.steady c.happen.ensures.fits c.in-Ok.ensures.runs)
           (part_put g.M.Media.size g.M.Media.state c.args.entry.now c.args.events.now c.args.media.now c.events.event-index c.events.media c.happen.new.media c.events.world c.happen.new.self
@@ -115,8 +121,9 @@ returns-in-Err-OutOfMemory g c =
     let inv = c.events.invariant in
     record {
       ran =
-          short_ran g.M.Media.size g.M.Media.state c.args.entry.now c.args.events.now c.args.media.now g.K.Sink.state c.args.out.now c.put_memory.new.out (c.events.event-index + 1)
+          short_ran g.M.Media.size g.M.Media.state c.args.entry.now c.args.events.now c.args.media.now g.K.Sink.state c.args.out.now c.put_memory.new.out g.M.Media.exact (c.events.event-index + 1)
           c.happen.new.media c.happen.new.self c.put_memory.result
+          (λ exact. counted_whole _ _ _ (both_counted _ _ _ _ _ _ (inv.exactly exact) (c.happen.ensures.counted exact)))
           (goes_on g.M.Media.size g.M.Media.state c.args.entry.now c.args.events.now c.args.media.now c.events.event-index c.events.media c.happen.new.media c.events.world c.happen.new.self
           inv.going n c.event-item.result is c.happen.ensures.steady c.happen.ensures.fits c.in-Ok.ensures.runs)
           (short_put g.M.Media.size g.M.Media.state c.args.entry.now c.args.events.now c.args.media.now c.events.event-index c.events.media c.happen.new.media c.events.world c.happen.new.self
@@ -141,8 +148,8 @@ returns g c =
     let inv = c.events.invariant in
     record {
       ran =
-          all_ran g.M.Media.size g.M.Media.state c.args.entry.now c.args.events.now c.args.media.now g.K.Sink.state c.args.out.now c.events.out c.events.event-index c.events.media c.events.world
-          c.end_status.result (omega (arith, c.events-test.false)) inv.going c.end_status.ensures inv.put;
+          all_ran g.M.Media.size g.M.Media.state c.args.entry.now c.args.events.now c.args.media.now g.K.Sink.state c.args.out.now c.events.out g.M.Media.exact c.events.event-index c.events.media c.events.world
+          c.end_status.result (λ exact. counted_whole _ _ _ (inv.exactly exact)) (omega (arith, c.events-test.false)) inv.going c.end_status.ensures inv.put;
       steady = record { size = inv.going.size_is; later = inv.going.later };
       later = inv.later;
     }

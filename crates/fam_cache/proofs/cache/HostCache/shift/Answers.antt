@@ -8,7 +8,7 @@ use Rattle.fam_machine.specs.Caches.{cell_at}
 use Rattle.fam_machine.specs.HostMoves.{failed_move}
 use Rattle.fam_cache.specs.declared.own_moves.OwnMove.{OwnMove}
 use Rattle.fam_cache.specs.OwnMoves.{move_of}
-use Rattle.fam_cache.proofs.Shifting.{evict_held, failed_sent, fetch_failed, fetch_held, fetch_moved, leak_done}
+use Rattle.fam_cache.proofs.Shifting.{evict_held, failed_sent, fetch_failed, fetch_held, fetch_moved, leak_done, sent_counted}
 use Rattle.fam_cache.proofs.cache.HostCache.shift.Goals as goal
 
 pub returns-in-Evict-clause-failed : goal.returns-in-Evict-clause-failed
@@ -36,3 +36,12 @@ returns-in-Fetch-clause-failed g c is = fetch_failed c.fetch.result c.args.what 
 
 pub returns-in-Fetch-clause-held : goal.returns-in-Fetch-clause-held
 returns-in-Fetch-clause-held g c = fetch_held c.fetch.result _ c.args.line.0 _ _ _ c.fetch.ensures.cache c.fetch.ensures.err
+
+pub returns-in-Evict-clause-counted : goal.returns-in-Evict-clause-counted
+returns-in-Evict-clause-counted g c exact = sent_counted c.evict.result c.sends.result _ _ c.sends.ensures (c.evict.ensures.counted exact)
+
+pub returns-in-Leak-clause-counted : goal.returns-in-Leak-clause-counted
+returns-in-Leak-clause-counted g c exact = sent_counted c.leak.result c.sends-in-Leak.result _ _ c.sends-in-Leak.ensures (c.leak.ensures.counted exact)
+
+pub returns-in-Fetch-clause-counted : goal.returns-in-Fetch-clause-counted
+returns-in-Fetch-clause-counted g c = c.fetch.ensures.counted

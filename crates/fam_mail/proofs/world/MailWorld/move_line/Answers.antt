@@ -21,6 +21,9 @@ use Rattle.fam_mail.specs.declared.note.MailNote.TheVariants as note
 use Rattle.fam_mail.specs.declared.note.MailRefusal.TheVariants as why
 use Rattle.fam_mail.proofs.Calling.{fits_noted, fits_set, free_call, host_fits, not_full}
 use Rattle.fam_mail.proofs.Members.{map_at, map_same, map_set}
+use Rattle.fam_mail.specs.Calls.{refusal_named}
+use Rattle.fam_mail.specs.Happens.{IsCountedIn}
+use Rattle.fam_mail.proofs.Counting.{failure_counted, fault_counted, from_counted, none_counted, quiet_line, quiet_named, refusal_counted, unfailed_counted}
 use Rattle.fam_mail.proofs.world.MailWorld.move_line.Goals as goal
 
 pub returns-then-is_err-clause-fits : goal.returns-then-is_err-clause-fits
@@ -217,3 +220,35 @@ returns-in-Err-OutOfMemory-clause-err g c = λ full.
 
 pub returns-in-Err-OutOfMemory-clause-steady : goal.returns-in-Err-OutOfMemory-clause-steady
 returns-in-Err-OutOfMemory-clause-steady g c = c.shift.ensures.steady
+
+pub returns-then-is_err-clause-counted : goal.returns-then-is_err-clause-counted
+returns-then-is_err-clause-counted g c exact =
+    subst (λ (w : MailView). IsCountedIn w.journal c.make_room.new.journal.items (g.M.Media.state c.args.media.now).faults (g.M.Media.state c.args.media.now).faults) c.self.view_is
+    (none_counted _ _ _ _ c.make_room.ensures.same refl)
+
+pub returns-in-Err-clause-counted : goal.returns-in-Err-clause-counted
+returns-in-Err-clause-counted g c exact =
+    let i = c.self.inside in
+    let v : MailView = mail_view i.entry i.hosts.items i.journal.items in
+    let refusal = file_line_refusal c.args.line c.capacity.result in
+    subst (λ (w : MailView). IsCountedIn w.journal c.refused.new.journal.items (g.M.Media.state c.args.media.now).faults (g.M.Media.state c.args.media.now).faults) c.self.view_is
+    (from_counted _ _ _ _ _ c.make_room.ensures.same
+    (refusal_counted c.args.name.now (refusal_named c.args.name.now refusal v) c.in-Err.cause _ _ _ (quiet_named c.args.name.now refusal (quiet_line c.args.line c.capacity.result) v)
+    (c.in-Err.ensures.placed i.entry i.journal.items) c.refused.ensures.noted))
+
+pub returns-in-Ok-shift-clause-counted : goal.returns-in-Ok-shift-clause-counted
+returns-in-Ok-shift-clause-counted g c exact =
+    subst (λ (w : MailView). IsCountedIn w.journal c.make_room.new.journal.items (g.M.Media.state c.args.media.now).faults (g.M.Media.state c.shift.new.media).faults) c.self.view_is
+    (none_counted _ _ _ _ c.make_room.ensures.same (c.in-Ok-shift.ensures.counted exact))
+
+pub returns-in-Err-Failed-clause-counted : goal.returns-in-Err-Failed-clause-counted
+returns-in-Err-Failed-clause-counted g c exact =
+    subst (λ (w : MailView). IsCountedIn w.journal c.refused-in-Err-Failed.new.journal.items (g.M.Media.state c.args.media.now).faults (g.M.Media.state c.shift.new.media).faults) c.self.view_is
+    (from_counted _ _ _ _ _ c.make_room.ensures.same
+    (fault_counted _ _ (note.Refused c.args.name.now (why.MediaFault c.file_line-place.result)) _ _ refl c.refused-in-Err-Failed.ensures.noted
+    (failure_counted _ _ _ c.in-Err-Failed.field-0-is (c.in-Err-Failed.ensures.counted exact))))
+
+pub returns-in-Err-OutOfMemory-clause-counted : goal.returns-in-Err-OutOfMemory-clause-counted
+returns-in-Err-OutOfMemory-clause-counted g c exact =
+    subst (λ (w : MailView). IsCountedIn w.journal c.make_room.new.journal.items (g.M.Media.state c.args.media.now).faults (g.M.Media.state c.shift.new.media).faults) c.self.view_is
+    (none_counted _ _ _ _ c.make_room.ensures.same (unfailed_counted _ _ _ c.in-Err-OutOfMemory.field-0-is (c.in-Err-OutOfMemory.ensures.counted exact)))

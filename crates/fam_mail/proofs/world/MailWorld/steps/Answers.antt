@@ -8,6 +8,9 @@ use Rattle.fam_mail.specs.World.{MailHost, MailView, mail_host, mail_view, mail_
 use Rattle.fam_mail.specs.declared.note.MailNote.{MailNote}
 use Rattle.fam_mail.proofs.Calling.{count_said, fits_noted, fits_set, runs}
 use Rattle.fam_mail.proofs.Members.{map_at, map_set}
+use Rattle.fam_mail.specs.Calls.{no_task_refusal, refusal_named}
+use Rattle.fam_mail.specs.Happens.{IsCountedIn}
+use Rattle.fam_mail.proofs.Counting.{from_counted, none_counted, quiet_idle, quiet_named, refusal_counted}
 use Rattle.fam_mail.proofs.world.MailWorld.steps.Goals as goal
 
 pub returns-in-Err-clause-fits : goal.returns-in-Err-clause-fits
@@ -69,3 +72,22 @@ steps_of-requires-clause-within g c =
     let fits : MailWorldFits (g.M.Media.size c.args.media.now) (mail_view i.entry i.hosts.items i.journal.items) = subst (MailWorldFits (g.M.Media.size c.args.media.now)) (sym c.self.view_is)
     c.requires.fits in
     fits.place
+
+pub returns-then-is_err-clause-counted : goal.returns-then-is_err-clause-counted
+returns-then-is_err-clause-counted g c exact =
+    subst (λ (w : MailView). IsCountedIn w.journal c.two_rooms.new.journal.items (g.M.Media.state c.args.media.now).faults (g.M.Media.state c.args.media.now).faults) c.self.view_is
+    (none_counted _ _ _ _ c.two_rooms.ensures.same refl)
+
+pub returns-in-Err-clause-counted : goal.returns-in-Err-clause-counted
+returns-in-Err-clause-counted g c exact =
+    let i = c.self.inside in
+    let v : MailView = mail_view i.entry i.hosts.items i.journal.items in
+    subst (λ (w : MailView). IsCountedIn w.journal c.refused.new.journal.items (g.M.Media.state c.args.media.now).faults (g.M.Media.state c.args.media.now).faults) c.self.view_is
+    (from_counted _ _ _ _ _ c.two_rooms.ensures.same
+    (refusal_counted c.args.name.now (refusal_named c.args.name.now no_task_refusal v) c.in-Err.cause _ _ _ (quiet_named c.args.name.now no_task_refusal quiet_idle v)
+    (c.in-Err.ensures.placed i.entry i.journal.items) c.refused.ensures.noted))
+
+pub returns-clause-counted : goal.returns-clause-counted
+returns-clause-counted g c exact =
+    subst (λ (w : MailView). IsCountedIn w.journal c.steps_of.new.journal.items (g.M.Media.state c.args.media.now).faults (g.M.Media.state c.steps_of.new.media).faults) c.self.view_is
+    (from_counted _ _ _ _ _ c.two_rooms.ensures.same (c.steps_of.ensures.counted exact))

@@ -8,6 +8,11 @@ use Rattle.fam_mail.specs.declared.event.MailEvent.TheVariants as event
 use Rattle.fam_mail.specs.Happens.{MailEventSays}
 use Rattle.fam_mail.proofs.EventRows.{begins_says, declared_says, finish_says, halts_says, moves_says, steps_says, stops_says}
 use Rattle.fam_mail.proofs.Fitting.{begins_fits, declares_fits, halts_fits, stops_fits}
+use Rattle.std.specs.FinMap as finmap
+use Rattle.std.specs.Prelude.{None}
+use Rattle.fam_mail.specs.Calls.{no_refusal, no_task_refusal}
+use Rattle.fam_mail.specs.declared.note.MailNote.TheVariants as note
+use Rattle.fam_mail.proofs.Counting.{begun_counted, changed_counted, declared_counted, quiet_idle, quiet_none}
 use Rattle.fam_mail.proofs.world.events.do_event.Goals as goal
 
 pub returns-in-Writer-clause-says : goal.returns-in-Writer-clause-says
@@ -106,3 +111,40 @@ returns-in-Fetch-clause-says g c =
     (subst (λ (r : Result (Unit {0}) OutOfMemory). MailEventSays (event.Fetch c.in-Fetch.name c.in-Fetch.line c.in-Fetch.mask) told c.args.world.now c.fetch.new.self r) (sym c.noted-in-Fetch.ensures)
     (moves_says c.in-Fetch.name c.in-Fetch.line (how.Fetch c.in-Fetch.mask.0) told c.args.world.now c.fetch.new.self c.fetch.result c.fetch.ensures.answered c.fetch.ensures.err
     (λ e. ap g.M.Media.state (c.fetch.ensures.undone e))))
+
+pub returns-in-Writer-clause-counted : goal.returns-in-Writer-clause-counted
+returns-in-Writer-clause-counted g c exact = declared_counted c.in-Writer.name c.args.world.now c.host.new.self _ true c.host.result c.host.ensures.answered c.host.ensures.err
+
+pub returns-in-Reader-clause-counted : goal.returns-in-Reader-clause-counted
+returns-in-Reader-clause-counted g c exact = declared_counted c.in-Reader.name c.args.world.now c.host-in-Reader.new.self _ false c.host-in-Reader.result c.host-in-Reader.ensures.answered c.host-in-Reader.ensures.err
+
+pub returns-in-Begin-clause-counted : goal.returns-in-Begin-clause-counted
+returns-in-Begin-clause-counted g c exact = begun_counted c.in-Begin.name c.args.world.now c.begin.new.self _ c.in-Begin.ask c.begin.result c.begin.ensures.answered c.begin.ensures.err
+
+pub returns-in-Stop-clause-counted : goal.returns-in-Stop-clause-counted
+returns-in-Stop-clause-counted g c exact =
+    changed_counted c.in-Stop.name c.args.world.now c.stop.new.self _ no_task_refusal quiet_idle (λ h. record h { task = None }) (note.Stop c.in-Stop.name) refl c.stop.result c.stop.ensures.answered
+    c.stop.ensures.err
+
+pub returns-in-Halt-clause-counted : goal.returns-in-Halt-clause-counted
+returns-in-Halt-clause-counted g c exact =
+    changed_counted c.in-Halt.name c.args.world.now c.halt.new.self _ no_refusal quiet_none (λ h. record h { cache = finmap.empty; task = None }) (note.Halt c.in-Halt.name) refl c.halt.result
+    c.halt.ensures.answered c.halt.ensures.err
+
+pub returns-in-Run-clause-counted : goal.returns-in-Run-clause-counted
+returns-in-Run-clause-counted g c = c.run.ensures.counted
+
+pub returns-in-Step-clause-counted : goal.returns-in-Step-clause-counted
+returns-in-Step-clause-counted g c = c.steps.ensures.counted
+
+pub returns-in-Finish-clause-counted : goal.returns-in-Finish-clause-counted
+returns-in-Finish-clause-counted g c = c.finish.ensures.counted
+
+pub returns-in-Evict-clause-counted : goal.returns-in-Evict-clause-counted
+returns-in-Evict-clause-counted g c = c.evict.ensures.counted
+
+pub returns-in-Leak-clause-counted : goal.returns-in-Leak-clause-counted
+returns-in-Leak-clause-counted g c = c.leak.ensures.counted
+
+pub returns-in-Fetch-clause-counted : goal.returns-in-Fetch-clause-counted
+returns-in-Fetch-clause-counted g c = c.fetch.ensures.counted

@@ -9,6 +9,7 @@ use Rattle.fam_mail.specs.Calls.{MailBegins, IfMailAnswered}
 use Rattle.fam_mail.specs.Happens.{MailEventSays}
 use Rattle.fam_mail.proofs.EventRows.{run_begun, run_refused, run_undone}
 use Rattle.fam_mail.proofs.Fitting.{begins_fits}
+use Rattle.fam_mail.proofs.Counting.{begun_counted, both_counted}
 use Rattle.fam_mail.proofs.world.events.run.Goals as goal
 
 pub finish-requires : goal.finish-requires
@@ -37,3 +38,13 @@ returns-in-Err-OutOfMemory-clause-says g c =
     let told : MediaChange = change g.M.Media.state c.args.media.now c.args.media.now in
     let is : c.begin.result ≡ Err fault.OutOfMemory = c.in-Err-OutOfMemory.is ∙ ap (λ (f : MailFault). Err f) c.in-Err-OutOfMemory.field-0-is in
     run_undone c.args.name.now c.args.ask.now told c.args.world.now c.begin.new.self refl (c.begin.ensures.err (subst (λ (r : Result (Unit {0}) MailFault). IsErrOf r fault.OutOfMemory) (sym is) refl))
+
+pub returns-in-Ok-clause-counted : goal.returns-in-Ok-clause-counted
+returns-in-Ok-clause-counted g c exact =
+    both_counted _ _ _ _ _ _ (begun_counted c.args.name.now c.args.world.now c.begin.new.self _ c.args.ask.now c.begin.result c.begin.ensures.answered c.begin.ensures.err) (c.finish.ensures.counted exact)
+
+pub returns-in-Err-Refused-clause-counted : goal.returns-in-Err-Refused-clause-counted
+returns-in-Err-Refused-clause-counted g c exact = begun_counted c.args.name.now c.args.world.now c.begin.new.self _ c.args.ask.now c.begin.result c.begin.ensures.answered c.begin.ensures.err
+
+pub returns-in-Err-OutOfMemory-clause-counted : goal.returns-in-Err-OutOfMemory-clause-counted
+returns-in-Err-OutOfMemory-clause-counted g c exact = begun_counted c.args.name.now c.args.world.now c.begin.new.self _ c.args.ask.now c.begin.result c.begin.ensures.answered c.begin.ensures.err

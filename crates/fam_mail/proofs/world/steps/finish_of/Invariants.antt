@@ -3,6 +3,7 @@ use Rattle.std.specs.Prelude.{is_some}
 use Rattle.fam_media.specs.States.{change}
 use Rattle.fam_mail.specs.Boxes.{capacity_of}
 use Rattle.fam_mail.specs.Calls.{HostNotes, HostStays, MailHostFits, left_in}
+use Rattle.fam_mail.specs.Happens.{IsCountedIn}
 use Rattle.fam_mail.specs.World.{mail_host}
 use Rattle.fam_mail.proofs.world.steps.finish_of.Given as goal
 
@@ -13,6 +14,7 @@ invariant-operations g l = record {
   fits : MailHostFits (g.M.Media.size l.fn.media) (capacity_of l.entry.size) (mail_host l.host);
   size : g.M.Media.size l.media ≡ g.M.Media.size l.fn.media;
   later : (g.M.Media.state l.fn.media).faults ≤ (g.M.Media.state l.media).faults;
+  counted : g.M.Media.exact ≡ true → IsCountedIn l.fn.journal.items l.journal.items (g.M.Media.state l.fn.media).faults (g.M.Media.state l.media).faults;
 }
 
 abbrev pub decreases-operations : goal.decreases-operations

@@ -9,6 +9,7 @@ use Rattle.fam_mail.specs.Tasks.{MailTask, ends_mail_task, next_task}
 use Rattle.fam_mail.specs.World.{MailHost, mail_host}
 use Rattle.fam_mail.specs.declared.note.MailNote.TheVariants as note
 use Rattle.fam_mail.specs.declared.turn.Turn.{Turn}
+use Rattle.fam_mail.proofs.Counting.{fault_counted, media_counted, none_counted, turn_counted, unmedia_counted}
 use Rattle.fam_mail.proofs.world.steps.step_of.Goals as goal
 
 -- what is left of a task that goes on is its next state
@@ -90,3 +91,17 @@ returns-in-Err-MediaFault-clause-stepped g c =
       };
       noted = c.add.ensures.noted;
     }
+
+pub returns-then-over-clause-counted : goal.returns-then-over-clause-counted
+returns-then-over-clause-counted g c exact = turn_counted c.args.name.now c.in-Ok.turn _ _ _ _ c.note_turn-over.ensures.noted (c.in-Ok.ensures.counted exact)
+
+pub returns-else-over-clause-counted : goal.returns-else-over-clause-counted
+returns-else-over-clause-counted g c exact = turn_counted c.args.name.now c.in-Ok.turn _ _ _ _ c.note_turn-over.ensures.noted (c.in-Ok.ensures.counted exact)
+
+pub returns-in-Err-MediaFault-clause-counted : goal.returns-in-Err-MediaFault-clause-counted
+returns-in-Err-MediaFault-clause-counted g c exact =
+    fault_counted _ _ (note.MediaFault c.args.name.now c.in-Err-MediaFault.line) _ _ refl c.add.ensures.noted
+    (media_counted _ c.in-Err-MediaFault.line _ _ c.in-Err-MediaFault.field-0-is (c.in-Err-MediaFault.ensures.counted exact))
+
+pub returns-in-Err-OutOfMemory-clause-counted : goal.returns-in-Err-OutOfMemory-clause-counted
+returns-in-Err-OutOfMemory-clause-counted g c exact = none_counted _ _ _ _ refl (unmedia_counted _ _ _ c.in-Err-OutOfMemory.field-0-is (c.in-Err-OutOfMemory.ensures.counted exact))

@@ -6,6 +6,7 @@ use Rattle.fam_mail.specs.Calls.{MailHostFits, HostStepped, IsTold, rests}
 use Rattle.fam_mail.specs.World.{mail_host}
 use Rattle.fam_mail.specs.declared.note.MailNote.{MailNote}
 use Rattle.fam_mail.proofs.Chaining.{finishes, stays_on, stays_same}
+use Rattle.fam_mail.proofs.Counting.{further_counted, none_counted, same_counted}
 use Rattle.fam_mail.proofs.world.steps.steps_of.Goals as goal
 
 pub loop-done-init : goal.loop-done-init
@@ -15,6 +16,7 @@ loop-done-init g c = record {
   fits = c.requires.fits;
   size = refl;
   later = omega arith;
+  counted = λ exact. none_counted _ _ _ _ refl refl;
 }
 
 pub returns-then-is_err-clause-counts : goal.returns-then-is_err-clause-counts
@@ -74,9 +76,22 @@ loop-done-preserved g c =
       fits = subst (λ (n : ℕ). MailHostFits n (capacity_of c.args.entry.now.size) (mail_host c.step_of.new.host)) (c.in-Ok-false.ensures.steady.size ∙ inv.size) c.in-Ok-false.ensures.fits;
       size = c.in-Ok-false.ensures.steady.size ∙ inv.size;
       later = omega (arith, inv.later, c.in-Ok-false.ensures.steady.later);
+      counted = λ exact. further_counted _ _ _ _ _ _ _ (inv.counted exact) c.two_rooms.ensures.same (c.in-Ok-false.ensures.counted exact);
     }
 
 pub returns-clause-counts : goal.returns-clause-counts
 returns-clause-counts g c =
     let inv = c.loop-done.invariant in
     (inv.stays.0, omega (arith, inv.stays.1, c.loop-done-test.false, c.loop-done.auto._done-end))
+
+pub returns-then-is_err-clause-counted : goal.returns-then-is_err-clause-counted
+returns-then-is_err-clause-counted g c exact = same_counted _ _ _ _ _ (c.loop-done.invariant.counted exact) c.two_rooms.ensures.same
+
+pub returns-in-Ok-true-clause-counted : goal.returns-in-Ok-true-clause-counted
+returns-in-Ok-true-clause-counted g c exact = further_counted _ _ _ _ _ _ _ (c.loop-done.invariant.counted exact) c.two_rooms.ensures.same (c.in-Ok-true.ensures.counted exact)
+
+pub returns-in-Err-clause-counted : goal.returns-in-Err-clause-counted
+returns-in-Err-clause-counted g c exact = further_counted _ _ _ _ _ _ _ (c.loop-done.invariant.counted exact) c.two_rooms.ensures.same (c.in-Err.ensures.counted exact)
+
+pub returns-clause-counted : goal.returns-clause-counted
+returns-clause-counted g c = c.loop-done.invariant.counted
