@@ -15,9 +15,11 @@
 //! where it ended. Where a call fails, the line that has the next byte is named and no line is written again: one
 //! behind it may be written already.
 
-ghost use Rattle.std.specs.Prelude.{◌≡◌, ◌≤◌, ◌<◌, ◌+◌, ◌-◌, ◌*◌, ◌↔◌, IsTrue, IfErr, IfSome, None, length, vec_len};
+ghost use Rattle.std.specs.Prelude.{◌≡◌, ◌⊎◌, ◌≤◌, ◌<◌, ◌+◌, ◌-◌, ◌*◌, ◌↔◌, IsTrue, IfErr, IfSome, None, OnOk, length, vec_len};
 ghost use Rattle.fam_media.specs.Causes.{HasCause};
 ghost use Rattle.fam_media.specs.declared.media.TheConstants.{MOST_LINES};
+ghost use Rattle.fam_format.specs.declared.layout.TheConstants.{GATE_LINE};
+ghost use Rattle.fam_files.specs.Ahead.{AreWritten, IsPast, IsPastUpTo, IsRead, IsWritten};
 
 use byteorder::{ByteOrder, LittleEndian};
 use fam_base::{Line, LineNo};
@@ -67,6 +69,7 @@ pub struct FileMedia {
     ghost bounded: { lines ≤ MOST_LINES },
     ghost from: { first ≤ next },
     ghost held: { 64 * (end - first) ≤ vec_len page },
+    ghost gate: { IsPast next end GATE_LINE },
 }
 
 /// How many whole lines a file or a block device has, at most those of 1 TiB, and none where its end can't be found. A
@@ -101,7 +104,7 @@ fn page(alloc: Global) -> Vec<u8> {
 fn read_lines(file: &File, page: &mut Vec<u8>, wanted: usize, line: u64) -> Option<u64>
     requires within { line < MOST_LINES }
     ensures len { vec_len page.new ≡ vec_len page.old }
-    ensures few { IfSome result (λ lines. 64 * lines ≤ vec_len page.old) }
+    ensures few { IfSome result (λ lines. (64 * lines ≤ wanted) × (64 * lines ≤ vec_len page.old)) }
 {
     if page.len() < wanted {
         return Some(0);
@@ -218,7 +221,11 @@ fn write_page(file: &File, page: &mut Vec<u8>, first: u64, lines: &[Line]) -> us
 impl FileMedia {
     /// The lines of a file. One that couldn't be opened, or that has fewer than 64 bytes, has no lines; nor has one whose
     /// end can't be found, and then that fault is counted.
-    pub fn new(alloc: Global, mut file: Option<File>) -> FileMedia {
+    pub fn new(alloc: Global, mut file: Option<File>) -> FileMedia
+        ensures none { file ≡ None → ⟦<FileMedia as Media>⟧.size result ≡ 0 }
+        ensures faults { (⟦<FileMedia as Media>⟧.state result).faults ≡ 0
+            ⊎ ((⟦<FileMedia as Media>⟧.state result).faults ≡ 1 × ⟦<FileMedia as Media>⟧.size result ≡ 0) }
+    {
         let (lines, faults) = match &mut file {
             Some(file) => match lines_of(file) {
                 Some(lines) => (lines, 0),
@@ -251,6 +258,8 @@ impl FileMedia {
     fn take(&mut self, line: u64) -> Line
         requires ahead { (self.old.next ≤ line) × (line < self.old.end) }
         requires within { line < MOST_LINES }
+        ensures next { self.new.next ≡ line + 1 }
+        ensures end { self.new.end ≡ self.old.end }
         ensures lines { self.new.lines ≡ self.old.lines }
         ensures faults { self.new.faults ≡ self.old.faults }
     {
@@ -263,7 +272,9 @@ impl FileMedia {
 
     /// How many bytes are read ahead from a line on: a superblock, or more where the reader comes from the lines that were
     /// read ahead before.
-    fn wanted(&self, line: u64) -> usize {
+    fn wanted(&self, line: u64) -> usize
+        ensures first { line ≡ 0 → result ≡ SUPERBLOCK_BYTES }
+    {
         if line == 0 {
             return SUPERBLOCK_BYTES;
         }
@@ -276,6 +287,8 @@ impl FileMedia {
     /// Reads ahead from a line on. Where that fails the fault is counted, and no line is ahead.
     fn fill(&mut self, line: u64)
         requires within { line < MOST_LINES }
+        requires gate { (line ≡ 0) ⊎ (GATE_LINE < line) }
+        ensures next { self.new.next ≡ line }
         ensures lines { self.new.lines ≡ self.old.lines }
         ensures faults { self.old.faults ≤ self.new.faults }
     {
@@ -298,6 +311,7 @@ impl FileMedia {
     #[inline(never)]
     fn read_other(&mut self, line: u64) -> Result<(), Failed>
         requires within { line < MOST_LINES }
+        ensures ahead { IsRead self.new.next self.new.end line }
         ensures lines { self.new.lines ≡ self.old.lines }
         ensures cause { HasCause self.old.faults self.new.faults result }
     {
@@ -322,6 +336,8 @@ impl FileMedia {
         ensures few { result ≤ length lines.old }
         ensures len { length lines.new ≡ length lines.old }
         ensures page { vec_len self.new.page ≡ vec_len self.old.page }
+        ensures ahead { self.new.end ≡ 0 }
+        ensures next { self.new.next ≡ self.old.next }
         ensures lines { self.new.lines ≡ self.old.lines }
         ensures faults { self.new.faults ≡ self.old.faults }
     {
@@ -340,6 +356,8 @@ impl FileMedia {
         requires room { PAGE_BYTES ≤ vec_len self.old.page }
         ensures few { result ≤ length lines.now }
         ensures page { vec_len self.new.page ≡ vec_len self.old.page }
+        ensures ahead { self.new.end ≡ 0 }
+        ensures next { self.new.next ≡ self.old.next }
         ensures lines { self.new.lines ≡ self.old.lines }
         ensures faults { self.new.faults ≡ self.old.faults }
     {
@@ -354,6 +372,7 @@ impl FileMedia {
     fn read_each(&mut self, first: u64, lines: &mut [Line]) -> Result<(), RunFailed>
         requires within { first + length lines.old ≤ self.old.lines }
         ensures before { IfErr result (λ failed. failed.done < length lines.old) }
+        ensures ahead { OnOk result (0 < length lines.old → IsPastUpTo self.new.next self.new.end (first + length lines.old)) }
         ensures len { length lines.new ≡ length lines.old }
         ensures lines { self.new.lines ≡ self.old.lines }
         ensures cause { HasCause self.old.faults self.new.faults result }
@@ -373,6 +392,7 @@ impl FileMedia {
         requires within { first + length lines.old ≤ self.old.lines }
         requires few { length lines.old ≤ ROW_LINES }
         ensures before { IfErr result (λ failed. failed.done < length lines.old) }
+        ensures ahead { OnOk result (0 < length lines.old → IsPastUpTo self.new.next self.new.end (first + length lines.old)) }
         ensures len { length lines.new ≡ length lines.old }
         ensures lines { self.new.lines ≡ self.old.lines }
         ensures cause { HasCause self.old.faults self.new.faults result }
@@ -390,6 +410,7 @@ impl FileMedia {
     /// Those of few lines that were read ahead aren't given any more, nor those before them.
     fn pass(&mut self, first: u64, end: u64)
         requires { first ≤ end }
+        ensures ahead { AreWritten self.old.next self.old.end self.new.next self.new.end first end }
         ensures lines { self.new.lines ≡ self.old.lines }
         ensures faults { self.new.faults ≡ self.old.faults }
     {
@@ -403,6 +424,7 @@ impl FileMedia {
         requires within { first + length lines.now ≤ self.old.lines }
         requires few { length lines.now ≤ FEW_LINES }
         ensures before { IfErr result (λ failed. failed.done < length lines.now) }
+        ensures ahead { AreWritten self.old.next self.old.end self.new.next self.new.end first (first + length lines.now) }
         ensures lines { self.new.lines ≡ self.old.lines }
         ensures cause { HasCause self.old.faults self.new.faults result }
     {
@@ -428,6 +450,7 @@ impl FileMedia {
     fn write_each(&mut self, first: u64, lines: &[Line]) -> Result<(), RunFailed>
         requires within { first + length lines.now ≤ self.old.lines }
         ensures before { IfErr result (λ failed. failed.done < length lines.now) }
+        ensures ahead { OnOk result (AreWritten self.old.next self.old.end self.new.next self.new.end first (first + length lines.now)) }
         ensures lines { self.new.lines ≡ self.old.lines }
         ensures cause { HasCause self.old.faults self.new.faults result }
     {
@@ -442,6 +465,8 @@ impl FileMedia {
     /// Reads a line by itself.
     fn read_one(&mut self, line: u64) -> Result<(), Failed>
         requires within { line < MOST_LINES }
+        ensures next { self.new.next ≡ self.old.next }
+        ensures end { self.new.end ≡ self.old.end }
         ensures lines { self.new.lines ≡ self.old.lines }
         ensures cause { HasCause self.old.faults self.new.faults result }
     {
@@ -461,6 +486,10 @@ impl Media for FileMedia {
     ghost size = { λ media. media.lines };
 
     ghost state = { λ media. record { image = None; faults = media.faults } };
+
+    ghost reads = { λ old line failed new. IsRead new.next new.end line };
+
+    ghost writes = { λ old line words failed new. IsWritten old.next old.end new.next new.end line };
 
     ghost normal = { λ m. tt };
 
