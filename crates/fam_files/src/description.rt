@@ -45,7 +45,10 @@ fn is_front(bytes: &[u8]) -> bool {
     }
     match bytes[known..].strip_suffix(b"\n") {
         Some(line) => words_of(line) == Some(WORDS),
-        None => words_of(&bytes[known..]).is_some_and(|words| words <= WORDS),
+        None => match words_of(&bytes[known..]) {
+            Some(words) => words <= WORDS,
+            None => false,
+        },
     }
 }
 

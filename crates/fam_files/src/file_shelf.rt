@@ -4,7 +4,7 @@
 //! socket and is asked for as `/dev/stdin`: it is read whole when its size is asked for. Whatever else a name stands for, be
 //! it a named pipe, a terminal or a closed standard input, has no size that can be known beforehand, and is a fault.
 
-ghost use Rattle.std.specs.Prelude.{◌≡◌, ◌≤◌, IfSome, None, drop, length};
+ghost use Rattle.std.specs.Prelude.{◌≡◌, ◌-◌, ◌<◌, ◌≤◌, IfSome, IsSomeAnd, IsTrue, None, OnSome, drop, length, min, take, vec_len};
 
 use crate::open_file::open_to_read;
 use fam_base::NameText;
@@ -63,7 +63,8 @@ fn is_stream(kind: fs::FileType) -> bool {
 
 /// Copies bytes from a place on, as many as there are and fit, and says how many.
 fn copied(bytes: &[u8], offset: u64, piece: &mut [u8]) -> usize
-    ensures within { result ≤ length piece.old }
+    ensures count { result ≡ min (length piece.old) (length bytes.now - offset) }
+    ensures bytes { take result piece.new ≡ take result (drop offset bytes.now) }
     ensures len { length piece.new ≡ length piece.old }
 {
     let start = offset.min(bytes.len() as u64) as usize;
@@ -73,13 +74,18 @@ fn copied(bytes: &[u8], offset: u64, piece: &mut [u8]) -> usize
 }
 
 /// Makes room for large reads where it is missing, and says whether there is memory for that.
-fn has_room(room: &mut Vec<u8>) -> bool {
+fn has_room(room: &mut Vec<u8>) -> bool
+    ensures { IsTrue result → vec_len room.new ≡ ROOM_BYTES }
+{
     room.len() == ROOM_BYTES || room.resize(ROOM_BYTES, 0).is_ok()
 }
 
 impl<'a> FileShelf<'a> {
     /// All files that the process may read.
-    pub fn new(rt: &'a HostRuntime) -> FileShelf<'a> {
+    pub fn new(rt: &'a HostRuntime) -> FileShelf<'a>
+        ensures faults { (⟦<FileShelf<'a> as Shelf>⟧.state result).faults ≡ 0 }
+        ensures shorts { (⟦<FileShelf<'a> as Shelf>⟧.state result).shorts ≡ 0 }
+    {
         FileShelf {
             rt,
             faults: 0,
@@ -90,7 +96,9 @@ impl<'a> FileShelf<'a> {
     }
 
     /// Whether this is what is being read.
-    fn is_open(&self, name: &str) -> bool {
+    fn is_open(&self, name: &str) -> bool
+        ensures { IsTrue result → IsSomeAnd self.now.«open» (λ source. source.0 ≡ name.now) }
+    {
         match &self.open {
             Some(open) => open.0.text() == name,
             None => false,
@@ -99,6 +107,7 @@ impl<'a> FileShelf<'a> {
 
     /// Opens a file in place of what was being read.
     fn open(&mut self, name: &str) -> Option<()>
+        ensures source { OnSome result (IsSomeAnd self.new.«open» (λ source. source.0 ≡ name.now)) }
         ensures faults { self.new.faults ≡ self.old.faults }
         ensures shorts { self.new.shorts ≡ self.old.shorts }
     {
@@ -163,6 +172,8 @@ impl<'a> FileShelf<'a> {
 
     /// Reads from a source, and says how many bytes.
     fn read(&mut self, name: &str, offset: u64, piece: &mut [u8]) -> Option<usize>
+        requires some { 0 < length piece.old }
+        ensures source { OnSome result (IsSomeAnd self.new.«open» (λ source. source.0 ≡ name.now)) }
         ensures within { IfSome result (λ count. count ≤ length piece.old) }
         ensures len { length piece.new ≡ length piece.old }
         ensures faults { self.new.faults ≡ self.old.faults }
@@ -187,6 +198,8 @@ impl<'a> FileShelf<'a> {
         offset: u64,
         into: &mut [u8],
     ) -> Option<usize>
+        requires some { (0 < length piece.old) × (0 < length into.old) }
+        ensures bytes { IfSome result (λ count. take count into.new ≡ take count piece.new) }
         ensures within { IfSome result (λ count. count ≤ length into.old) }
         ensures rest { IfSome result (λ count. drop count into.new ≡ drop count into.old) }
         ensures none { result ≡ None → into.new ≡ into.old }
@@ -201,6 +214,7 @@ impl<'a> FileShelf<'a> {
 
     /// As `read_through`, through a piece of its own.
     fn read_small(&mut self, name: &str, offset: u64, into: &mut [u8]) -> Option<usize>
+        requires some { 0 < length into.old }
         ensures within { IfSome result (λ count. count ≤ length into.old) }
         ensures rest { IfSome result (λ count. drop count into.new ≡ drop count into.old) }
         ensures none { result ≡ None → into.new ≡ into.old }
@@ -213,6 +227,7 @@ impl<'a> FileShelf<'a> {
 
     /// As `read_through`, through the shelf's room, or where there is no memory for that through a piece.
     fn read_large(&mut self, name: &str, offset: u64, into: &mut [u8]) -> Option<usize>
+        requires some { 0 < length into.old }
         ensures within { IfSome result (λ count. count ≤ length into.old) }
         ensures rest { IfSome result (λ count. drop count into.new ≡ drop count into.old) }
         ensures none { result ≡ None → into.new ≡ into.old }

@@ -68,7 +68,9 @@ fn is_short(name: &str) -> bool {
 
 impl<'a> FolderShade<'a> {
     /// The folder of this name, which should be there, for the tree of this image.
-    pub fn new(rt: &'a HostRuntime, folder: NameText, image: Option<&File>) -> FolderShade<'a> {
+    pub fn new(rt: &'a HostRuntime, folder: NameText, image: Option<&File>) -> FolderShade<'a>
+        ensures { (⟦<FolderShade<'a> as Shade>⟧.state result).faults ≡ 0 }
+    {
         let image = match image {
             Some(file) => id_of_open(file),
             None => None,
@@ -109,7 +111,10 @@ impl<'a> FolderShade<'a> {
     fn seen(&self, path: &str) -> Option<Look> {
         match fs::symlink_metadata(self.rt, path) {
             Ok(found) if found.is_dir() => Some(Look::Directory),
-            Ok(found) if found.is_file() => self.replaceable(path).map(|_| Look::File),
+            Ok(found) if found.is_file() => match self.replaceable(path) {
+                Some(_) => Some(Look::File),
+                None => None,
+            },
             Ok(_) => None,
             Err(error) if is_absent(error.kind()) => Some(Look::Nothing),
             Err(_) => None,

@@ -14,7 +14,9 @@ pub struct StdSink {
 
 impl StdSink {
     /// The output with no faults counted.
-    pub fn new(out: Stdout) -> StdSink {
+    pub fn new(out: Stdout) -> StdSink
+        ensures { (⟦<StdSink as Sink>⟧.state result).faults ≡ 0 }
+    {
         StdSink { out, faults: 0 }
     }
 }
