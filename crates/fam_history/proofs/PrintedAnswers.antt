@@ -33,7 +33,7 @@ use Rattle.fam_grammar.proofs.Respelled.{decimal_word, number-decimal, path-esca
 use Rattle.fam_outcomes.specs.Texts.{answer_text, byte_text, cause_text, fault_text, log_text, slot_text, super_text, bytes_text, checked_text, kind_text, line, log_field_text, log_state_text, name_text, number, overlap_text, bad_text, path_or_none, super_state_text, reason_text, super_field_text}
 use Rattle.fam_history.specs.declared.answer.ToldAnswer.{ToldAnswer}
 use Rattle.fam_history.specs.declared.answer.ToldAnswer.TheVariants as told
-use Rattle.fam_history.specs.Answers.{answer_line, answer_word, path_or_none as reads_path}
+use Rattle.fam_history.specs.Answers.{answer_line, answer_word, none_differs, path_or_none as reads_path}
 use Rattle.fam_history.specs.ByteWords.{bytes_of, paired}
 use Rattle.fam_history.specs.Faults.{kind_of, log_field_of, reason_line, reason_word, super_field_of}
 use Rattle.fam_history.specs.ToldAnswers.{IfTellingPath, IsTellingAnswer, IsTellingReason, answer_lines, answer_told, checked_told, first_told, told_answer_text}
@@ -217,9 +217,11 @@ abbrev first_word : Option (List ℕ) → List ℕ
 first_word None = codes "-"
 first_word (Some path) = escaped path
 
-first_is : (first : Option (List ℕ)) → IfTellingPath first → IsOneWord (first_word first)
-first_is None is = free (codes "-") refl
-first_is (Some path) is = path_word path is.0
+first_is : (same : Bool) (first : Option (List ℕ)) → IfTellingPath same first → IsOneWord (first_word first)
+first_is true None is = free (codes "-") refl
+first_is true (Some path) is = path_word path is.0
+first_is false None is = absurd is
+first_is false (Some path) is = path_word path is
 
 first_spaced : (first : Option (List ℕ)) → path_or_none first ≡ 32 ∷ first_word first
 first_spaced None = refl
@@ -377,7 +379,7 @@ answer_are (told.Checked m checked) is = (
           (
             free
                 (codes "changed") refl,
-            (decimal_word checked.changed is.1.changed, (free (codes "first") refl, (first_is checked.first is.1.first, tt))),
+            (decimal_word checked.changed is.1.changed, (free (codes "first") refl, (first_is (none_differs checked.missing checked.extra checked.changed) checked.first is.1.first, tt))),
           ),
         ),
       ),
@@ -403,9 +405,12 @@ not_dash path is other = cases (bytes_eq (escaped path) (45 ∷ [])) refl
     cases false e = e
     cases true e = absurd (other (only ((bytes_eq-Decides (escaped path) (45 ∷ [])).0 e)))
 
-first_reads : (first : Option (List ℕ)) (column end : ℕ) → IfTellingPath first → reads_path end (record { column = column; text = first_word first } ∷ []) ≡ Reads first []
-first_reads None column end is = refl
-first_reads (Some path) column end is = rw (not_dash path is.0 is.1, path-escaped path is.0) refl
+first_reads : (same : Bool) (first : Option (List ℕ)) (column end : ℕ) → IfTellingPath same first
+    → reads_path end same (record { column = column; text = first_word first } ∷ []) ≡ Reads first []
+first_reads true None column end is = refl
+first_reads true (Some path) column end is = rw (not_dash path is.0 is.1, path-escaped path is.0) refl
+first_reads false None column end is = absurd is
+first_reads false (Some path) column end is = rw (path-escaped path is) refl
 
 -- the column of the word behind a first one
 abbrev pub past : ℕ → List ℕ → ℕ
@@ -419,7 +424,7 @@ checked_reads m checked column end is =
     let extra : ℕ = past (past missing (codes "missing")) (decimal checked.missing) in
     let changed : ℕ = past (past extra (codes "extra")) (decimal checked.extra) in
     let first : ℕ = past (past changed (codes "changed")) (decimal checked.changed) in
-    rw (number-decimal m is.0, number-decimal checked.missing is.1.missing, number-decimal checked.extra is.1.extra, number-decimal checked.changed is.1.changed, first_reads checked.first (past first (codes "first")) end is.1.first) refl
+    rw (number-decimal m is.0, number-decimal checked.missing is.1.missing, number-decimal checked.extra is.1.extra, number-decimal checked.changed is.1.changed, first_reads (none_differs checked.missing checked.extra checked.changed) checked.first (past first (codes "first")) end is.1.first) refl
 
 slot_reads : (seq : ℕ) (why : Reason) (column end : ℕ) → IsTellingAnswer (told.BadSlot seq why)
     → answer_line end (placed column (answer_first (told.BadSlot seq why) ∷ answer_more (told.BadSlot seq why))) ≡ Reads (told.BadSlot seq why) []
@@ -467,12 +472,14 @@ answer_reads given column end is = ap (answer_line end) (answer_words given colu
 
 -- The text of an answer: its first line, and the lines that follow.
 
-first_same : (first : Option (List ℕ)) → path_or_none first ≡ path_or_none (first_told first)
+first_same : (same : Bool) (first : Option (List ℕ)) → path_or_none first ≡ path_or_none (first_told same first)
 unfolding escaped
-first_same None = refl
-first_same (Some []) = refl
-first_same (Some (a ∷ b ∷ rest)) = refl
-first_same (Some (a ∷ [])) = cases (a == 45) refl
+first_same false None = refl
+first_same false (Some path) = refl
+first_same true None = refl
+first_same true (Some []) = refl
+first_same true (Some (a ∷ b ∷ rest)) = refl
+first_same true (Some (a ∷ [])) = cases (a == 45) refl
   where
     cases : (t : Bool) → (a == 45) ≡ t → path_or_none (Some (a ∷ [])) ≡ path_or_none (cond (a == 45) None (Some (a ∷ [])))
     cases true e =
@@ -497,7 +504,7 @@ answer_prints (Replied (reply.NotFound m)) = alone (codes "not found" ++ number 
 answer_prints (Replied (reply.IsDirectory m)) = alone (codes "is a directory" ++ number m)
 answer_prints (Replied (reply.Checks m checked)) =
     ap (λ (l : List ℕ). line
-    (codes "checked" ++ number m ++ codes " missing" ++ number checked.missing ++ codes " extra" ++ number checked.extra ++ codes " changed" ++ number checked.changed ++ codes " first" ++ l)) (first_same checked.first)
+    (codes "checked" ++ number m ++ codes " missing" ++ number checked.missing ++ codes " extra" ++ number checked.extra ++ codes " changed" ++ number checked.changed ++ codes " first" ++ l)) (first_same (none_differs checked.missing checked.extra checked.changed) checked.first)
     ∙ alone (checked_text m (checked_told checked))
 answer_prints (Replied (reply.Reports r)) =
     eight (line (told_answer_text (answer_told (Replied (reply.Reports r))))) (line (super_state_text r.superblock)) (line (log_state_text r.log))

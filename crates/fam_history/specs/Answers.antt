@@ -1,5 +1,5 @@
 -- The grammar of an answer: the words of its first line behind the host's name, from left to right.
-use Rattle.std.specs.Prelude.{ℕ, true, false, if◌then◌else◌, List, codes, Option, Some, None}
+use Rattle.std.specs.Prelude.{ℕ, Bool, ◌==◌, ◌&&◌, true, false, if◌then◌else◌, List, codes, Option, Some, None}
 use Rattle.std.specs.Str.{bytes_eq}
 use Rattle.fam_format.specs.declared.faults.SuperFault.TheVariants.{NoSuper}
 use Rattle.fam_rules.specs.declared.answers.Checked.{Checked}
@@ -106,11 +106,18 @@ is_line end words =
 abbrev pub counted : ℕ → List ℕ → List Word → Reading ℕ
 counted end wanted words = then_reads (word_of (the_word wanted) end words) (λ it. word_of number_of_text end)
 
--- a path, or `-` for none
-abbrev pub path_or_none : ℕ → List Word → Reading (Option (List ℕ))
-path_or_none end words =
-    if begins_with (codes "-") words then Reads None (behind_first words)
-    else then_reads (word_of path_of end words) (λ path rest. Reads (Some path) rest)
+-- no path differs
+abbrev pub none_differs : ℕ → ℕ → ℕ → Bool
+none_differs missing extra changed = (missing == 0) && (extra == 0) && (changed == 0)
+
+-- a path
+abbrev pub some_path : ℕ → List Word → Reading (Option (List ℕ))
+some_path end words = then_reads (word_of path_of end words) (λ path rest. Reads (Some path) rest)
+
+-- a path; or `-` for none, where no path differs
+abbrev pub path_or_none : ℕ → Bool → List Word → Reading (Option (List ℕ))
+path_or_none end true words = if begins_with (codes "-") words then Reads None (behind_first words) else some_path end words
+path_or_none end false words = some_path end words
 
 -- how a tree differs: `missing`, `extra` and `changed` with a number each, and `first` with a path
 abbrev pub checked_words : ℕ → List Word → Reading Checked
@@ -119,7 +126,7 @@ checked_words end words =
     then_reads (counted end (codes "extra") rest) (λ extra rest.
     then_reads (counted end (codes "changed") rest) (λ changed rest.
     then_reads (word_of (the_word (codes "first")) end rest) (λ it rest.
-    then_reads (path_or_none end rest) (λ first. ends_with (record { missing = missing; extra = extra; changed = changed; first = first }))))))
+    then_reads (path_or_none end (none_differs missing extra changed) rest) (λ first. ends_with (record { missing = missing; extra = extra; changed = changed; first = first }))))))
 
 -- checked: how many entries, and how the tree differs
 abbrev pub checked_line : ℕ → List Word → Reading ToldAnswer

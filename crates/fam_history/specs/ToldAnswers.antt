@@ -1,5 +1,5 @@
 -- What the first line of an answer tells. A listing and the lines of a report follow it.
-use Rattle.std.specs.Prelude.{ℕ, ⊤, ◌==◌, ◌≢◌, ◌^◌, ◌<◌, IsTrue, if◌then◌else◌, List, [], ◌∷◌, ◌++◌, codes, Option, Some, None}
+use Rattle.std.specs.Prelude.{ℕ, ⊤, Bool, true, false, ◌==◌, ◌≢◌, ◌^◌, ◌<◌, IsTrue, if◌then◌else◌, List, [], ◌∷◌, ◌++◌, codes, Option, Some, None}
 use Rattle.fam_base.specs.Escapes.{AreBytes}
 use Rattle.fam_base.specs.Paths.{is_path}
 use Rattle.fam_format.specs.declared.faults.LogFault.{LogFault}
@@ -18,19 +18,30 @@ use Rattle.fam_rules.specs.Reply.{Reply}
 use Rattle.fam_tree.specs.Lines.{listing}
 use Rattle.fam_journal.specs.Notes.{Answer, Replied, MediaFault}
 use Rattle.fam_outcomes.specs.Texts.{bad_text, byte_text, bytes_text, cause_text, checked_text, fault_text, is_sound_report, line, log_state_text, log_text, number, overlap_text, slot_text, super_state_text, super_text}
+use Rattle.fam_history.specs.Answers.{none_differs}
 use Rattle.fam_history.specs.declared.answer.ToldAnswer.{ToldAnswer}
 use Rattle.fam_history.specs.declared.answer.ToldAnswer.TheVariants as told
 
--- a path, where its text doesn't say that there is none: one that is `-` is told as none
-abbrev pub first_told : Option (List ℕ) → Option (List ℕ)
-first_told None = None
-first_told (Some []) = Some []
-first_told (Some (a ∷ [])) = if a == 45 then None else Some (a ∷ [])
-first_told (Some (a ∷ b ∷ rest)) = Some (a ∷ b ∷ rest)
+-- the first path, where no path differs: its text `-` tells none
+abbrev pub none_told : Option (List ℕ) → Option (List ℕ)
+none_told None = None
+none_told (Some []) = Some []
+none_told (Some (a ∷ [])) = if a == 45 then None else Some (a ∷ [])
+none_told (Some (a ∷ b ∷ rest)) = Some (a ∷ b ∷ rest)
+
+-- and where one does: its text `-` tells the path `-`
+abbrev pub path_told : Option (List ℕ) → Option (List ℕ)
+path_told None = Some (45 ∷ [])
+path_told (Some path) = Some path
+
+-- the first path, where none differs or where one does
+abbrev pub first_told : Bool → Option (List ℕ) → Option (List ℕ)
+first_told true first = none_told first
+first_told false first = path_told first
 
 -- what is told of how a tree differs
 abbrev pub checked_told : Checked → Checked
-checked_told c = record c { first = first_told c.first }
+checked_told c = record c { first = first_told (none_differs c.missing c.extra c.changed) c.first }
 
 -- what the first line tells of a reply
 abbrev pub reply_told : Reply → ToldAnswer
@@ -142,17 +153,19 @@ IsTellingReason reason.NoParent = ⊤
 IsTellingReason reason.ParentIsFile = ⊤
 IsTellingReason (reason.Overlap unit) = unit < 2 ^ 64
 
--- a path, where there is one
-abbrev pub IfTellingPath : Option (List ℕ) → Type 0
-IfTellingPath None = ⊤
-IfTellingPath (Some path) = IsTrue (is_path path) × (path ≢ 45 ∷ [])
+-- a path, where one differs; else none, or a path that isn't `-`
+abbrev pub IfTellingPath : Bool → Option (List ℕ) → Type 0
+IfTellingPath true None = ⊤
+IfTellingPath true (Some path) = IsTrue (is_path path) × (path ≢ 45 ∷ [])
+IfTellingPath false None = ⊥
+IfTellingPath false (Some path) = IsTrue (is_path path)
 
--- how a tree differs; a path that is `-` isn't told
+-- how a tree differs
 pub record IsTellingChecked (c : Checked) : Type 0 where
   pub missing : c.missing < 2 ^ 64
   pub extra : c.extra < 2 ^ 64
   pub changed : c.changed < 2 ^ 64
-  pub first : IfTellingPath c.first
+  pub first : IfTellingPath (none_differs c.missing c.extra c.changed) c.first
 
 -- what is told of an answer
 abbrev pub IsTellingAnswer : ToldAnswer → Type 0

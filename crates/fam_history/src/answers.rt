@@ -5,12 +5,12 @@ ghost use Rattle.fam_grammar.specs.Cursor.{words_left, IsShort, Tells};
 ghost use Rattle.fam_history.specs.declared.answers.AnswerWord.TheVariants as word;
 ghost use Rattle.fam_grammar.specs.Reading.{word_of};
 ghost use Rattle.fam_history.specs.ByteWords.{one_byte};
-ghost use Rattle.fam_history.specs.Answers.{answer_behind, answer_line, answer_word, bad_answer, bytes_line, checked_line, checked_words, counted, differs_line, entry_line_of, fsck_line, is_line, length_line, no_answer, not_line, path_line, path_or_none};
+ghost use Rattle.fam_history.specs.Answers.{answer_behind, answer_line, answer_word, bad_answer, bytes_line, checked_line, checked_words, counted, differs_line, entry_line_of, fsck_line, is_line, length_line, no_answer, none_differs, not_line, path_line, path_or_none, some_path};
 
 use crate::answer::ToldAnswer;
 use crate::byte_words::{bytes_of, one_byte};
 use crate::faults::{is_a_file, kind_of, log_fault, numbered, reason, super_fault};
-use crate::literals::{is, last_number, last_two, literal, skip};
+use crate::literals::{last_number, last_two, literal, meaning, skip};
 use fam_base::Path;
 use fam_format::SuperFault;
 use fam_grammar::{Line, LineFault, Words, fitting};
@@ -40,50 +40,34 @@ pub(crate) enum AnswerWord {
     Media,
 }
 
+/// The words that answers begin with.
+const ANSWERS: [(&str, AnswerWord); 18] = [
+    ("ok", AnswerWord::Done),
+    ("not", AnswerWord::Not),
+    ("path", AnswerWord::Path),
+    ("bad", AnswerWord::Bad),
+    ("exists", AnswerWord::Exists),
+    ("no", AnswerWord::No),
+    ("parent", AnswerWord::Parent),
+    ("log", AnswerWord::Log),
+    ("played", AnswerWord::Played),
+    ("mounted", AnswerWord::Mounted),
+    ("same", AnswerWord::Same),
+    ("differs", AnswerWord::Differs),
+    ("length", AnswerWord::Length),
+    ("bytes", AnswerWord::Bytes),
+    ("is", AnswerWord::Is),
+    ("checked", AnswerWord::Checked),
+    ("fsck", AnswerWord::Fsck),
+    ("media", AnswerWord::Media),
+];
+
 /// The answers that a word begins.
 #[tactic(auto, unfolding(crate::specs::Answers::answer_word))]
 fn answer_word(word: &[u8]) -> Option<AnswerWord>
     ensures { result ≡ answer_word word.now }
 {
-    if is(word, "ok") {
-        Some(AnswerWord::Done)
-    } else if is(word, "not") {
-        Some(AnswerWord::Not)
-    } else if is(word, "path") {
-        Some(AnswerWord::Path)
-    } else if is(word, "bad") {
-        Some(AnswerWord::Bad)
-    } else if is(word, "exists") {
-        Some(AnswerWord::Exists)
-    } else if is(word, "no") {
-        Some(AnswerWord::No)
-    } else if is(word, "parent") {
-        Some(AnswerWord::Parent)
-    } else if is(word, "log") {
-        Some(AnswerWord::Log)
-    } else if is(word, "played") {
-        Some(AnswerWord::Played)
-    } else if is(word, "mounted") {
-        Some(AnswerWord::Mounted)
-    } else if is(word, "same") {
-        Some(AnswerWord::Same)
-    } else if is(word, "differs") {
-        Some(AnswerWord::Differs)
-    } else if is(word, "length") {
-        Some(AnswerWord::Length)
-    } else if is(word, "bytes") {
-        Some(AnswerWord::Bytes)
-    } else if is(word, "is") {
-        Some(AnswerWord::Is)
-    } else if is(word, "checked") {
-        Some(AnswerWord::Checked)
-    } else if is(word, "fsck") {
-        Some(AnswerWord::Fsck)
-    } else if is(word, "media") {
-        Some(AnswerWord::Media)
-    } else {
-        None
-    }
+    meaning(word, &ANSWERS)
 }
 
 fn not(words: &mut Words<'_>, line: Line) -> Result<ToldAnswer, LineFault>
@@ -236,16 +220,34 @@ pub(crate) fn counted(words: &mut Words<'_>, line: Line, wanted: &str) -> Result
     words.number(line)
 }
 
-/// A path, or `-` for none.
-fn path_or_none(words: &mut Words<'_>, line: Line) -> Result<Option<Path>, LineFault>
+/// Whether no path differs.
+fn none_differs(missing: u64, extra: u64, changed: u64) -> bool
+    ensures { result ≡ none_differs missing extra changed }
+{
+    missing == 0 && extra == 0 && changed == 0
+}
+
+fn some_path(words: &mut Words<'_>, line: Line) -> Result<Option<Path>, LineFault>
     requires short { IsShort words.old }
-    ensures value { Tells line (words_left words.new) result (path_or_none line.end (words_left words.old)) }
+    ensures value { Tells line (words_left words.new) result (some_path line.end (words_left words.old)) }
     ensures short { IsShort words.new }
 {
+    Ok(Some(words.path(line)?))
+}
+
+/// A path; or `-` for none, where no path differs.
+fn path_or_none(words: &mut Words<'_>, line: Line, same: bool) -> Result<Option<Path>, LineFault>
+    requires short { IsShort words.old }
+    ensures value { Tells line (words_left words.new) result (path_or_none line.end same (words_left words.old)) }
+    ensures short { IsShort words.new }
+{
+    if !same {
+        return some_path(words, line);
+    }
     if skip(words, "-") {
         return Ok(None);
     }
-    Ok(Some(words.path(line)?))
+    some_path(words, line)
 }
 
 /// How a tree differs from a listing.
@@ -258,7 +260,7 @@ fn differences(words: &mut Words<'_>, line: Line) -> Result<Checked, LineFault>
     let extra = counted(words, line, "extra")?;
     let changed = counted(words, line, "changed")?;
     literal(words, line, "first")?;
-    let first = path_or_none(words, line)?;
+    let first = path_or_none(words, line, none_differs(missing, extra, changed))?;
     words.ended(
         line,
         Checked {

@@ -5,7 +5,7 @@ ghost use Rattle.fam_grammar.specs.Cursor.{words_left, IsShort, Tells};
 ghost use Rattle.fam_history.specs.declared.faults.ReasonWord.TheVariants as word;
 ghost use Rattle.fam_history.specs.Faults.{is_a_file, kind_of, log_field_of, log_line, numbered, reason_behind, reason_line, reason_word, super_field_of, super_line};
 
-use crate::literals::{is, last_number, last_two, literal};
+use crate::literals::{is, last_number, last_two, literal, meaning};
 use fam_base::Kind;
 use fam_format::{LogFault, LogField, Reason, SuperFault, SuperField};
 use fam_grammar::{Line, LineFault, Words, fitting};
@@ -39,86 +39,66 @@ pub(crate) fn kind_of(word: &[u8]) -> Option<Kind>
     }
 }
 
+/// The words of a superblock's fields.
+const SUPER_FIELDS: [(&str, SuperField); 8] = [
+    ("crc", SuperField::Crc),
+    ("version", SuperField::Version),
+    ("offset", SuperField::Offset),
+    ("unit", SuperField::Unit),
+    ("length", SuperField::Length),
+    ("device", SuperField::Device),
+    ("small", SuperField::Small),
+    ("rest", SuperField::Rest),
+];
+
 /// A field of a superblock, by its word.
 #[tactic(auto, unfolding(crate::specs::Faults::super_field_of))]
 fn super_field_of(word: &[u8]) -> Option<SuperField>
     ensures { result ≡ super_field_of word.now }
 {
-    if is(word, "crc") {
-        Some(SuperField::Crc)
-    } else if is(word, "version") {
-        Some(SuperField::Version)
-    } else if is(word, "offset") {
-        Some(SuperField::Offset)
-    } else if is(word, "unit") {
-        Some(SuperField::Unit)
-    } else if is(word, "length") {
-        Some(SuperField::Length)
-    } else if is(word, "device") {
-        Some(SuperField::Device)
-    } else if is(word, "small") {
-        Some(SuperField::Small)
-    } else if is(word, "rest") {
-        Some(SuperField::Rest)
-    } else {
-        None
-    }
+    meaning(word, &SUPER_FIELDS)
 }
+
+/// The words of a log's fields.
+const LOG_FIELDS: [(&str, LogField); 7] = [
+    ("magic", LogField::Magic),
+    ("crc", LogField::Crc),
+    ("length", LogField::Length),
+    ("slots", LogField::Slots),
+    ("uuid", LogField::Uuid),
+    ("rest", LogField::Rest),
+    ("gate", LogField::Gate),
+];
 
 /// A field of a log, by its word.
 #[tactic(auto, unfolding(crate::specs::Faults::log_field_of))]
 fn log_field_of(word: &[u8]) -> Option<LogField>
     ensures { result ≡ log_field_of word.now }
 {
-    if is(word, "magic") {
-        Some(LogField::Magic)
-    } else if is(word, "crc") {
-        Some(LogField::Crc)
-    } else if is(word, "length") {
-        Some(LogField::Length)
-    } else if is(word, "slots") {
-        Some(LogField::Slots)
-    } else if is(word, "uuid") {
-        Some(LogField::Uuid)
-    } else if is(word, "rest") {
-        Some(LogField::Rest)
-    } else if is(word, "gate") {
-        Some(LogField::Gate)
-    } else {
-        None
-    }
+    meaning(word, &LOG_FIELDS)
 }
+
+/// The words that reasons begin with.
+const REASONS: [(&str, ReasonWord); 11] = [
+    ("crc", ReasonWord::Crc),
+    ("sequence", ReasonWord::Seq),
+    ("kind", ReasonWord::Kind),
+    ("attribute", ReasonWord::Attribute),
+    ("path", ReasonWord::Path),
+    ("map", ReasonWord::Map),
+    ("rest", ReasonWord::Rest),
+    ("exists", ReasonWord::Exists),
+    ("no", ReasonWord::No),
+    ("parent", ReasonWord::Parent),
+    ("overlap", ReasonWord::Overlap),
+];
 
 /// The reasons that a word begins.
 #[tactic(auto, unfolding(crate::specs::Faults::reason_word))]
 fn reason_word(word: &[u8]) -> Option<ReasonWord>
     ensures { result ≡ reason_word word.now }
 {
-    if is(word, "crc") {
-        Some(ReasonWord::Crc)
-    } else if is(word, "sequence") {
-        Some(ReasonWord::Seq)
-    } else if is(word, "kind") {
-        Some(ReasonWord::Kind)
-    } else if is(word, "attribute") {
-        Some(ReasonWord::Attribute)
-    } else if is(word, "path") {
-        Some(ReasonWord::Path)
-    } else if is(word, "map") {
-        Some(ReasonWord::Map)
-    } else if is(word, "rest") {
-        Some(ReasonWord::Rest)
-    } else if is(word, "exists") {
-        Some(ReasonWord::Exists)
-    } else if is(word, "no") {
-        Some(ReasonWord::No)
-    } else if is(word, "parent") {
-        Some(ReasonWord::Parent)
-    } else if is(word, "overlap") {
-        Some(ReasonWord::Overlap)
-    } else {
-        None
-    }
+    meaning(word, &REASONS)
 }
 
 /// A superblock's field, what was found and what was wanted.

@@ -4,7 +4,7 @@ ghost use Rattle.std.specs.Prelude.{◌≡◌};
 ghost use Rattle.fam_grammar.specs.Cursor.{words_left, IsShort, Tells};
 ghost use Rattle.fam_history.specs.Refusals.{bad_line, copy_line, has_line, image_line, media_line, no_line, refusal_behind, refusal_line, refusal_word, same_line, too_line};
 
-use crate::literals::{is, last_number, last_two, literal, skip};
+use crate::literals::{last_number, last_two, literal, meaning, skip};
 use crate::refusal::ToldRefusal;
 use fam_grammar::{Line, LineFault, Words, fitting};
 use std::alloc::Global;
@@ -27,40 +27,29 @@ pub(crate) enum RefusalWord {
     Media,
 }
 
+/// The words that refusals begin with.
+const REFUSALS: [(&str, RefusalWord); 13] = [
+    ("no", RefusalWord::No),
+    ("same", RefusalWord::Same),
+    ("too", RefusalWord::Too),
+    ("bad", RefusalWord::Bad),
+    ("image", RefusalWord::Image),
+    ("busy", RefusalWord::Busy),
+    ("dirty", RefusalWord::Dirty),
+    ("has", RefusalWord::Has),
+    ("idle", RefusalWord::Idle),
+    ("mounted", RefusalWord::Mounted),
+    ("not", RefusalWord::Not),
+    ("copy", RefusalWord::Copy),
+    ("media", RefusalWord::Media),
+];
+
 /// The refusals that a word begins.
 #[tactic(auto, unfolding(crate::specs::Refusals::refusal_word))]
 fn refusal_word(word: &[u8]) -> Option<RefusalWord>
     ensures { result ≡ refusal_word word.now }
 {
-    if is(word, "no") {
-        Some(RefusalWord::No)
-    } else if is(word, "same") {
-        Some(RefusalWord::Same)
-    } else if is(word, "too") {
-        Some(RefusalWord::Too)
-    } else if is(word, "bad") {
-        Some(RefusalWord::Bad)
-    } else if is(word, "image") {
-        Some(RefusalWord::Image)
-    } else if is(word, "busy") {
-        Some(RefusalWord::Busy)
-    } else if is(word, "dirty") {
-        Some(RefusalWord::Dirty)
-    } else if is(word, "has") {
-        Some(RefusalWord::Has)
-    } else if is(word, "idle") {
-        Some(RefusalWord::Idle)
-    } else if is(word, "mounted") {
-        Some(RefusalWord::Mounted)
-    } else if is(word, "not") {
-        Some(RefusalWord::Not)
-    } else if is(word, "copy") {
-        Some(RefusalWord::Copy)
-    } else if is(word, "media") {
-        Some(RefusalWord::Media)
-    } else {
-        None
-    }
+    meaning(word, &REFUSALS)
 }
 
 fn no(alloc: Global, words: &mut Words<'_>, line: Line) -> Result<ToldRefusal, LineFault>
