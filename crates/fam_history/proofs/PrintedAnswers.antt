@@ -1,7 +1,7 @@
 -- The words of an answer's first line, and that they read as what it tells.
-use Rattle.std.proofs.Common.{◌≡◌, ◌≢◌, ℕ, ◌+◌, ◌/◌, ◌%◌, ◌<◌, Bool, true, false, cond, List, [], ◌∷◌, ◌++◌, length, Option, Some, None, codes, refl, ap, ap₂, sym, ◌∙◌, arith, append-nil, append_assoc, decimal}
+use Rattle.std.proofs.Common.{◌≡◌, ◌≢◌, ℕ, suc, ◌+◌, ◌/◌, ◌%◌, ◌<◌, Bool, true, false, cond, List, [], ◌∷◌, ◌++◌, length, Option, Some, None, codes, refl, ap, ap₂, sym, ◌∙◌, arith, append-nil, append_assoc, decimal}
 use Rattle.std.specs.Prelude.{◌==◌, ◌&&◌}
-use Rattle.std.specs.List.{flat_map}
+use Rattle.std.specs.List.{flat_map, fold}
 use Rattle.std.specs.Str.{bytes_eq}
 use Rattle.std.proofs.lemmas.Bool.Decides.{nat_tests}
 use Rattle.std.proofs.lemmas.Bool.Decides.{Decides-eqb}
@@ -9,9 +9,11 @@ use Rattle.std.proofs.lemmas.Option.{same_Some}
 use Rattle.std.proofs.lemmas.Slice.Eq.{bytes_eq-Decides}
 use Rattle.std.proofs.lemmas.List.Elements.{All-head, All-tail}
 use Rattle.uuid.specs.Text.{hex_digit_value, hyphenated_text, lower}
+use Rattle.fam_base.specs.declared.entry.Entry.{Entry}
 use Rattle.fam_base.specs.declared.entry.Kind.{Kind}
 use Rattle.fam_base.specs.declared.entry.Kind.TheVariants.{File, Directory}
 use Rattle.fam_base.specs.Escapes.{AreBytes, escaped, hex_digit}
+use Rattle.fam_base.specs.PathOrder.{path_cmp}
 use Rattle.fam_base.specs.Paths.{is_path}
 use Rattle.fam_format.specs.declared.faults.LogFault.TheVariants.{BadLog}
 use Rattle.fam_format.specs.declared.faults.LogField.{LogField}
@@ -21,8 +23,10 @@ use Rattle.fam_format.specs.declared.faults.Reason.TheVariants as reason
 use Rattle.fam_format.specs.declared.faults.SuperFault.TheVariants.{NoSuper, BadSuper}
 use Rattle.fam_format.specs.declared.faults.SuperField.{SuperField}
 use Rattle.fam_format.specs.declared.faults.SuperField.TheVariants as super
+use Rattle.fam_format.specs.Tree.{Tree}
 use Rattle.fam_rules.specs.declared.answers.Checked.{Checked}
 use Rattle.fam_rules.specs.declared.answers.Refused.TheVariants as cause
+use Rattle.fam_rules.specs.Checks.{changed_in, checked, extra_in, least_path, lesser, lesser_by, missing_from}
 use Rattle.fam_rules.specs.Reply as reply
 use Rattle.fam_journal.specs.Notes.{Answer, Replied, MediaFault}
 use Rattle.fam_grammar.specs.Reading.{Reads}
@@ -36,7 +40,7 @@ use Rattle.fam_history.specs.declared.answer.ToldAnswer.TheVariants as told
 use Rattle.fam_history.specs.Answers.{answer_line, answer_word, none_differs, path_or_none as reads_path}
 use Rattle.fam_history.specs.ByteWords.{bytes_of, paired}
 use Rattle.fam_history.specs.Faults.{kind_of, log_field_of, reason_line, reason_word, super_field_of}
-use Rattle.fam_history.specs.ToldAnswers.{IfTellingPath, IsTellingAnswer, IsTellingReason, answer_lines, answer_told, checked_told, first_told, told_answer_text}
+use Rattle.fam_history.specs.ToldAnswers.{IfTellingPath, IsTellingAnswer, IsTellingReason, answer_lines, answer_told, checked_told, first_told, path_told, told_answer_text}
 use Rattle.fam_history.proofs.Spaced.{eight, four, free, placed_words, seven, spaced, ten, uuid_back, uuid_is_word}
 
 -- Words of kinds and fields.
@@ -485,6 +489,27 @@ first_same true (Some (a ∷ [])) = cases (a == 45) refl
     cases true e =
         ap (λ (b : ℕ). name_text (b ∷ [])) ((Decides-eqb a 45).0 e) ∙ ap (λ (t : Bool). path_or_none (cond t None (Some (a ∷ [])))) (sym e)
     cases false e = ap (λ (t : Bool). path_or_none (cond t None (Some (a ∷ [])))) (sym e)
+
+-- a first path of entries is told as it is
+found_told : (path : List ℕ) (entries : List Entry) → path_told (fold lesser (Some path) entries) ≡ fold lesser (Some path) entries
+found_told path [] = refl
+found_told path (e ∷ entries) = found_told (lesser_by (path_cmp path e.path) path e.path) entries
+
+some_count : (n : ℕ) → (suc n == 0) ≡ false
+some_count n = grind (arith, nat_tests)
+
+least_told : (a b c : List Entry) → first_told (none_differs (length a) (length b) (length c)) (least_path (a ++ b ++ c)) ≡ least_path (a ++ b ++ c)
+least_told [] [] [] = refl
+least_told (e ∷ a) b c =
+    ap (λ (t : Bool). first_told (t && (length b == 0) && (length c == 0)) (least_path (e ∷ a ++ b ++ c))) (some_count (length a)) ∙ found_told e.path (a ++ b ++ c)
+least_told [] (e ∷ b) c = ap (λ (t : Bool). first_told (t && (length c == 0)) (least_path (e ∷ b ++ c))) (some_count (length b)) ∙ found_told e.path (b ++ c)
+least_told [] [] (e ∷ c) = ap (λ (t : Bool). first_told t (least_path (e ∷ c))) (some_count (length c)) ∙ found_told e.path c
+
+-- what a check answers is told whole
+pub check_told : (tree : Tree) (listing : List Entry) → checked_told (checked tree listing) ≡ checked tree listing
+unfolding checked
+check_told tree listing =
+    ap (λ (first : Option (List ℕ)). record (checked tree listing) { first = first }) (least_told (missing_from tree listing) (extra_in tree listing) (changed_in tree listing))
 
 alone : (text : List ℕ) → line text ≡ line text ++ []
 alone text = sym (append-nil (line text))

@@ -2,13 +2,16 @@
 
 ghost use Rattle.std.specs.Prelude.{◌≡◌, ◌++◌, ◌<◌, ◌^◌, ℕ, [], List, Option, codes};
 ghost use Rattle.fam_base.specs.declared.cmd.Cmd.{Cmd};
+ghost use Rattle.fam_base.specs.declared.entry.Entry.{Entry};
+ghost use Rattle.fam_format.specs.Tree.{Tree};
+ghost use Rattle.fam_rules.specs.Checks.{checked};
 ghost use Rattle.fam_grammar.specs.Reading.{Reads};
 ghost use Rattle.fam_grammar.specs.Words.{words_from};
 ghost use Rattle.fam_history.specs.Commands.{told_line};
 ghost use Rattle.fam_history.specs.Told.{AreAlike, IsTelling, told_of, told_text};
 ghost use Rattle.fam_history.specs.Answers.{answer_line};
 ghost use Rattle.fam_history.specs.Refusals.{refusal_line};
-ghost use Rattle.fam_history.specs.ToldAnswers.{IsTellingAnswer, answer_lines, answer_told, told_answer_text};
+ghost use Rattle.fam_history.specs.ToldAnswers.{IsTellingAnswer, answer_lines, answer_told, checked_told, told_answer_text};
 ghost use Rattle.fam_history.specs.ToldRefusals.{IsTellingRefusal, refusal_told};
 ghost use Rattle.fam_history.specs.declared.answer.ToldAnswer.{ToldAnswer};
 ghost use Rattle.fam_journal.specs.Notes.{Answer};
@@ -37,12 +40,13 @@ pub fn a_printed_refusal_reads()
 {}
 
 /// The first line of an answer reads as what it tells (`reads`); and an answer's text is the line of what is told of it,
-/// and behind it those of a listing or of a report (`prints`).
+/// and behind it those of a listing or of a report (`prints`). All is told of what a check answers (`whole`).
 pub fn a_printed_answer_reads()
     ensures reads { (given : ToldAnswer) (column end : ℕ) → IsTellingAnswer given
         → answer_line end (words_from column (told_answer_text given)) ≡ Reads given [] }
     ensures prints { (answer : Answer)
         → answer_text answer ≡ line (told_answer_text (answer_told answer)) ++ answer_lines answer }
+    ensures whole { (tree : Tree) (listing : List Entry) → checked_told (checked tree listing) ≡ checked tree listing }
 {}
 
 /// Each line of a report behind the first reads, from its text, as what it tells.
