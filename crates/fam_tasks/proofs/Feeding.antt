@@ -88,5 +88,9 @@ check_wants r t turn is = subst (λ (x : turns.Turn). OnErr r (WantsMemory t x))
 other_phase : (i : ℕ) → at.Check i ≡ at.Decide → ⊥
 other_phase i is = cc
 
+-- and the other way
+pub checked_keeps : (t new : Task) (i : ℕ) → t.phase ≡ at.Check i → Keeps t (turn_of t None) new → new.kept ≡ t.kept
+checked_keeps t new i is kept = kept ∙ keeps_same t None (λ decides. other_phase i (sym is ∙ decides))
+
 pub check_keeps : (t new : Task) (i : ℕ) → t.phase ≡ at.Check i → new.kept ≡ t.kept → Keeps t (turn_of t None) new
 check_keeps t new i is kept = kept ∙ sym (keeps_same t None (λ decides. other_phase i (sym is ∙ decides)))

@@ -101,13 +101,6 @@ module _ (t : Task) (j : ℕ) (line : LineNo) (words : List ℕ) (sound : IsSoun
     lines = refl;
   }
 
--- Fewer lines of a row are one.
-pub fewer : (first j m n : ℕ) (t : Task) → n ≤ m → IsRow first j m t → IsRow first j n t
-fewer first j m n t few row = record {
-  below = λ k under. row.below k (omega (arith, under, few));
-  each = λ k under. row.each k (omega (arith, under, few));
-}
-
 module _ (t : Task) (j first n : ℕ) (lines : List (List ℕ)) (sound : IsSound t) (phase : t.phase ≡ at.StoreData j 0) (row : IsRow first j n t) (some : 0 < n) (words : (k : ℕ) → k < n → line_in lines k ≡ data_words t (j + k)) where
   stands : IsSoundAt (at.StoreData j 0) t
   stands = subst (λ (p : Phase). IsSoundAt p t) phase sound.stands

@@ -96,6 +96,17 @@ fn done(phase: &mut Phase, answer: Answer) -> Turn
     Turn::Done(answer)
 }
 
+/// The same, told by `turn`, before which the task went on.
+fn end(phase: &mut Phase, answer: Answer, turn: &mut Turn)
+    ensures turn { turn.new ≡ Done answer }
+    ensures last { phase.new ≡ at.FenceGate }
+{
+    let_go(replace(turn, done(phase, answer)));
+}
+
+/// Lets a value go. Of a large type that is taken apart in one place, and not at each exit that has one.
+fn let_go<T: Drop>(_value: T) {}
+
 /// Whether an answer is one behind which a host may keep what its task has read.
 fn is_keeping(answer: &Answer) -> bool
     ensures { result ≡ is_keeping answer.now }
@@ -239,7 +250,7 @@ impl Task {
     /// keeps something, with the parameters that the task read and the first entries, as many as the answer says. It takes no
     /// memory. A logplay of another host has moved its tree into its answer: who wants both mounts, by the same operations, and
     /// takes the tree from there (`Kept::tree`).
-    pub fn into_kept(mut self, answer: &Answer) -> Option<Kept>
+    pub fn into_kept(self, answer: &Answer) -> Option<Kept>
         ensures kept { is_keeping answer.now ≡ true → result ≡ self.kept }
         ensures none { is_keeping answer.now ≡ false → result ≡ None }
 
@@ -248,9 +259,19 @@ impl Task {
             → reply_of answer.now ≡ Some reply → KeepsAnew reply t result }
     {
         if !is_keeping(answer) {
+            let_go(self);
             return None;
         }
-        let (kept, _found) = self.take_parts();
+        self.into_all_kept()
+    }
+
+    /// What the host keeps behind the task.
+    fn into_all_kept(mut self) -> Option<Kept>
+        ensures { result ≡ self.kept }
+    {
+        let (kept, found) = self.take_parts();
+        let_go(found);
+        let_go(self);
         kept
     }
 

@@ -11,7 +11,7 @@ ghost use Rattle.fam_commands.specs.Classes.{IsRead, IsVerify};
 ghost use Rattle.fam_tasks.specs.declared.answer.Turn.TheVariants.{Go};
 ghost use Rattle.fam_tasks.specs.Tells.{Tells};
 
-use super::{Task, done};
+use super::{Task, done, end};
 use crate::answer::{Answer, Turn};
 use crate::wanted::{wanted_lines, wanted_start};
 use fam_base::{ByteText, Cmd, Line};
@@ -88,7 +88,7 @@ impl Task {
                     found,
                     wanted,
                 };
-                *turn = done(&mut self.phase, answer);
+                end(&mut self.phase, answer, turn);
             }
             None => {
                 if line + 1 < lines {
@@ -97,7 +97,7 @@ impl Task {
                         line: line + 1,
                     };
                 } else {
-                    *turn = done(&mut self.phase, Answer::Same { m });
+                    end(&mut self.phase, Answer::Same { m }, turn);
                 }
             }
         }

@@ -66,7 +66,7 @@ returns-in-Some-clause-turn c phase =
     let loaded : Task = record c.args.self.now { phase = phase; words = c.args.found.now } in
     let first : IsFirst c.args.found.now c.line.result.now (64 * c.args.line) c.file_size-size.result c.in-Some.offset c.in-Some.found c.in-Some.wanted = c.in-Some.ensures in
     differs_told loaded c.args.self.now.cmd c.args.line c.file_size-size.result c.args.found.now c.line.result.now c.requires.verify refl size wanted bytes
-    c.in-Some.offset c.in-Some.found c.in-Some.wanted c.count-m.result c.done.result _ first count c.done.ensures.turn
+    c.in-Some.offset c.in-Some.found c.in-Some.wanted c.count-m.result c.end.new.turn _ first count c.end.ensures.turn
 
 pub returns-then-line-lines-clause-turn : goal.returns-then-line-lines-clause-turn
 returns-then-line-lines-clause-turn c phase =
@@ -113,19 +113,19 @@ returns-else-line-lines-clause-turn c phase =
     let none : (o : ℕ) → DiffersAt c.args.found.now c.line.result.now (64 * c.args.line) c.file_size-size.result o → ⊥ = c.in-None.ensures in
     let told : file_turn c.args.self.now.cmd loaded c.args.line ≡ line_or (record loaded { words = [] }) File c.args.line (Ends (Same (length c.args.self.now.entries))) =
     same_told loaded c.args.self.now.cmd c.args.line c.file_size-size.result c.args.found.now c.line.result.now c.requires.verify refl size wanted bytes none in
-    replies _ c.done-else-line-lines.result _ (Same (length c.args.self.now.entries)) (answer.Same c.count-m.result)
+    replies _ c.end-else-line-lines.new.turn _ (Same (length c.args.self.now.entries)) (answer.Same c.count-m.result)
     (told ∙ last_line (record loaded { words = [] }) c.args.line c.wanted_lines-lines.result _ lines c.if-line-lines.false)
-    c.done-else-line-lines.ensures.turn (ap (λ (n : ℕ). Some (Same n)) count)
+    c.end-else-line-lines.ensures.turn (ap (λ (n : ℕ). Some (Same n)) count)
 
 pub invariant_of-self : goal.invariant_of-self
 invariant_of-self c =
     let sound = c.self.invariant.sound in
-    ended_task _ c.done.ensures.last sound.command sound.least sound.most sound.kept
+    ended_task _ c.end.ensures.last sound.command sound.least sound.most sound.kept
 
 pub invariant_of-self-else-line-lines : goal.invariant_of-self-else-line-lines
 invariant_of-self-else-line-lines c =
     let sound = c.self.invariant.sound in
-    ended_task _ c.done-else-line-lines.ensures.last sound.command sound.least sound.most sound.kept
+    ended_task _ c.end-else-line-lines.ensures.last sound.command sound.least sound.most sound.kept
 
 pub take-requires : goal.take-requires
 take-requires c =

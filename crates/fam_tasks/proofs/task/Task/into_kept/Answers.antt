@@ -8,5 +8,5 @@ returns-then-not-is_keeping-clause-anew c = λ t word reply ends keeps is.
 
 pub returns-clause-anew : goal.returns-clause-anew
 returns-clause-anew c = λ t word reply ends keeps is.
-    kept_anew t c.args.self word reply c.args.answer.now c.take_parts-kept.result.0 ends keeps is (λ keeping. c.take_parts-kept.ensures)
+    kept_anew t c.args.self word reply c.args.answer.now c.into_all_kept.result ends keeps is (λ keeping. c.into_all_kept.ensures)
     (λ other. absurd (let keeping = sym c.is_keeping.ensures ∙ c.if-not-is_keeping.false in cc))
