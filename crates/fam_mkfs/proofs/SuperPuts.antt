@@ -11,39 +11,7 @@ use Rattle.fam_format.specs.Super.{magic_line, super_words}
 use Rattle.fam_rules.specs.Written.{Put, zero_line}
 use Rattle.fam_machine.specs.declared.op.Op.{Op}
 use Rattle.fam_machine.specs.Mkfs.{put_ops, write_ops}
-use Rattle.fam_base.specs.declared.line.LineNo.{LineNo}
-use Rattle.fam_cache.specs.Runs.{CacheOver, AreDone, AreCut}
-use Rattle.fam_cache.proofs.Runs.{done_both, cut_first, cut_second}
-
--- Six rows of operations, joined.
-module _ (a b c d e f : List Op) where
-  abbrev pub six : List Op
-  six = a ++ (b ++ (c ++ (d ++ (e ++ f))))
-
-  pub six_done : (s t u v w x y : CacheOver) → AreDone a s t → AreDone b t u → AreDone c u v → AreDone d v w → AreDone e w x → AreDone f x y → AreDone six s y
-  six_done s t u v w x y pa pb pc pd pe pf =
-      done_both a _ s t y pa (done_both b _ t u y pb (done_both c _ u v y pc (done_both d _ v w y pd (done_both e f w x y pe pf))))
-
-  pub cut_1 : (line : LineNo) (s t : CacheOver) → AreCut a line s t → AreCut six line s t
-  cut_1 line s t cut = cut_first a _ line s t cut
-
-  pub cut_2 : (line : LineNo) (s t u : CacheOver) → AreDone a s t → AreCut b line t u → AreCut six line s u
-  cut_2 line s t u pa cut = cut_second a _ line s t u pa (cut_first b _ line t u cut)
-
-  pub cut_3 : (line : LineNo) (s t u v : CacheOver) → AreDone a s t → AreDone b t u → AreCut c line u v → AreCut six line s v
-  cut_3 line s t u v pa pb cut = cut_second a _ line s t v pa (cut_second b _ line t u v pb (cut_first c _ line u v cut))
-
-  pub cut_4 : (line : LineNo) (s t u v w : CacheOver) → AreDone a s t → AreDone b t u → AreDone c u v → AreCut d line v w → AreCut six line s w
-  cut_4 line s t u v w pa pb pc cut =
-      cut_second a _ line s t w pa (cut_second b _ line t u w pb (cut_second c _ line u v w pc (cut_first d _ line v w cut)))
-
-  pub cut_5 : (line : LineNo) (s t u v w x : CacheOver) → AreDone a s t → AreDone b t u → AreDone c u v → AreDone d v w → AreCut e line w x → AreCut six line s x
-  cut_5 line s t u v w x pa pb pc pd cut =
-      cut_second a _ line s t x pa (cut_second b _ line t u x pb (cut_second c _ line u v x pc (cut_second d _ line v w x pd (cut_first e f line w x cut))))
-
-  pub cut_6 : (line : LineNo) (s t u v w x y : CacheOver) → AreDone a s t → AreDone b t u → AreDone c u v → AreDone d v w → AreDone e w x → AreCut f line x y → AreCut six line s y
-  cut_6 line s t u v w x y pa pb pc pd pe cut =
-      cut_second a _ line s t y pa (cut_second b _ line t u y pb (cut_second c _ line u v y pc (cut_second d _ line v w y pd (cut_second e f line w x y pe cut))))
+use Rattle.fam_mkfs.specs.Parts.{header_puts, word_puts}
 
 -- lines 0, 1 and 2 and the header are those of these parameters
 pub record Spelled (p : Params) (lines : List (List ℕ)) (header : List ℕ) : Type 0 where
@@ -61,8 +29,7 @@ puts_of header words magic =
 
 -- the operations of these six puts
 abbrev pub puts : List (List ℕ) → List ℕ → List Op
-puts lines header =
-    six (put_ops (0, zero_line)) (put_ops (gate_line, zero_line)) (put_ops (log_line, header)) (put_ops (1, element lines 1)) (put_ops (2, element lines 2)) (put_ops (0, element lines 0))
+puts lines header = put_ops (0, zero_line) ++ (header_puts header ++ word_puts (element lines 0) (element lines 1) (element lines 2))
 
 -- only the eight words of each line count
 as_puts : (lines : List (List ℕ)) (header : List ℕ) → flat_map put_ops (puts_of header (line_at lines 1 ++ line_at lines 2) (line_at lines 0)) ≡ puts lines header
@@ -87,35 +54,33 @@ front_both zero (x ∷ a) b = ap (λ (k : ℕ). take k b) (let e : 0 ≡ 0 - suc
 front_both (suc n) (x ∷ a) b =
     ap (λ (ops : List Op). x ∷ ops) (front_both n a b ∙ ap (λ (k : ℕ). take n a ++ take k b) (let e : n - length a ≡ suc n - suc (length a) = omega arith in e))
 
--- of a put and what is left: nine operations put a line
-front_put : (n m : ℕ) (put : Put) (b : List Op) → m ≡ n - 9 → take n (put_ops put) ++ take m b ≡ take n (put_ops put ++ b)
+-- of a row of so many operations, and what is left of the rows behind it
+front_row : (n m k : ℕ) (a b : List Op) → length a ≡ k → m ≡ n - k → take n a ++ take m b ≡ take n (a ++ b)
+front_row n m k a b size is = ap (λ (j : ℕ). take n a ++ take j b) (is ∙ ap (λ (j : ℕ). n - j) (sym size)) ∙ sym (front_both n a b)
+
+put_size : (put : Put) → length (put_ops put) ≡ 9
 unfolding put_ops
-front_put n m put b is = ap (λ (k : ℕ). take n (put_ops put) ++ take k b) is ∙ sym (front_both n (put_ops put) b)
+put_size put = refl
 
--- how many operations are left before each of the six puts
-pub record Left (n0 n1 n2 n3 n4 n5 : ℕ) : Type 0 where
-  pub second : n1 ≡ n0 - 9
-  pub third : n2 ≡ n1 - 9
-  pub fourth : n3 ≡ n2 - 9
-  pub fifth : n4 ≡ n3 - 9
-  pub sixth : n5 ≡ n4 - 9
+header_size : (header : List ℕ) → length (header_puts header) ≡ 18
+unfolding put_ops
+header_size header = refl
 
--- six fronts are the front of all
-pub front_written : (p : Params) (lines : List (List ℕ)) (header : List ℕ) (n0 n1 n2 n3 n4 n5 : ℕ) → Left n0 n1 n2 n3 n4 n5 → Spelled p lines header
-    → six (take n0 (put_ops (0, zero_line))) (take n1 (put_ops (gate_line, zero_line))) (take n2 (put_ops (log_line, header))) (take n3 (put_ops (1, element lines 1))) (take n4 (put_ops (2, element lines 2))) (take n5 (put_ops (0, element lines 0))) ≡ take n0 (write_ops p)
-front_written p lines header n0 n1 n2 n3 n4 n5 left spelled =
-    let a = put_ops (0, zero_line) in
-    let b = put_ops (gate_line, zero_line) in
-    let c = put_ops (log_line, header) in
-    let d = put_ops (1, element lines 1) in
-    let e = put_ops (2, element lines 2) in
-    let f = put_ops (0, element lines 0) in
-    ap (λ (x : List Op). take n0 a ++ (take n1 b ++ (take n2 c ++ (take n3 d ++ x)))) (front_put n4 n5 (2, element lines 2) f left.sixth)
-    ∙ ap (λ (x : List Op). take n0 a ++ (take n1 b ++ (take n2 c ++ x))) (front_put n3 n4 (1, element lines 1) (e ++ f) left.fifth)
-    ∙ ap (λ (x : List Op). take n0 a ++ (take n1 b ++ x)) (front_put n2 n3 (log_line, header) (d ++ (e ++ f)) left.fourth)
-    ∙ ap (λ (x : List Op). take n0 a ++ x) (front_put n1 n2 (gate_line, zero_line) (c ++ (d ++ (e ++ f))) left.third)
-    ∙ front_put n0 n1 (0, zero_line) (b ++ (c ++ (d ++ (e ++ f)))) left.second
-    ∙ ap (λ (ops : List Op). take n0 ops) (as_written p lines header spelled)
+pub header_front : (header : List ℕ) (n m : ℕ) → m ≡ n - 9 → take n (put_ops (gate_line, zero_line)) ++ take m (put_ops (log_line, header)) ≡ take n (header_puts header)
+header_front header n m is = front_row n m 9 (put_ops (gate_line, zero_line)) (put_ops (log_line, header)) (put_size (gate_line, zero_line)) is
+
+pub words_front : (magic first second : List ℕ) (n m k : ℕ) → m ≡ n - 9 → k ≡ m - 9 → take n (put_ops (1, first)) ++ (take m (put_ops (2, second)) ++ take k (put_ops (0, magic))) ≡ take n (word_puts magic first second)
+words_front magic first second n m k is next =
+    ap (λ (ops : List Op). take n (put_ops (1, first)) ++ ops) (front_row m k 9 (put_ops (2, second)) (put_ops (0, magic)) (put_size (2, second)) next)
+    ∙ front_row n m 9 (put_ops (1, first)) (put_ops (2, second) ++ put_ops (0, magic)) (put_size (1, first)) is
+
+pub all_front : (p : Params) (lines : List (List ℕ)) (header : List ℕ) (n m k : ℕ) → m ≡ n - 9 → k ≡ m - 18 → Spelled p lines header
+    → take n (put_ops (0, zero_line)) ++ (take m (header_puts header) ++ take k (word_puts (element lines 0) (element lines 1) (element lines 2))) ≡ take n (write_ops p)
+all_front p lines header n m k is next spelled =
+    let words = word_puts (element lines 0) (element lines 1) (element lines 2) in
+    ap (λ (ops : List Op). take n (put_ops (0, zero_line)) ++ ops) (front_row m k 18 (header_puts header) words (header_size header) next)
+    ∙ front_row n m 9 (put_ops (0, zero_line)) (header_puts header ++ words) (put_size (0, zero_line)) is
+    ∙ ap (λ (ops : List Op). take n ops) (as_written p lines header spelled)
 
 -- 54 operations are all of them
 pub all_written : (p : Params) → write_ops p ≡ take 54 (write_ops p)

@@ -1,6 +1,10 @@
 -- A whole line, by its operations.
 use Prim.Native.Nat.{zero, suc}
 use Rattle.std.proofs.Common.{ℕ, ◌≡◌, ◌≢◌, ◌+◌, ◌-◌, ◌<◌, ◌≤◌, Option, Some, take, set, get_or-set_other, get_or-set_same, below_more, List, [], ◌∷◌, ◌++◌, length, map, get_or, Result, append_assoc, refl, sym, ap, subst, ◌∙◌, arith, IsErr, IsErrAnd, IfErr, OnOk, Ok, Err}
+use Rattle.std.specs.Prelude.{OnErr}
+use Rattle.fam_media.specs.Causes.{IsSteady, Rose}
+use Rattle.fam_media.specs.States.{MediaState}
+use Rattle.fam_mkfs.proofs.Ending.{rose_since}
 use Rattle.std.specs.List.{range_with_len}
 use Rattle.std.proofs.lemmas.List.{take-append-le, take_all}
 use Rattle.std.proofs.lemmas.List.FromFn.{map-range_with_len_more, take-map-range_with_len}
@@ -35,6 +39,39 @@ done_on a b s t (Err x) is done = tt
 pub cut_as_told : {T : Type 0} (a b : List Op) (s t : CacheOver) (r : Result T FailedAt) → a ≡ b → IfErr r (λ x. AreCut a x.0 s t) → IfErr r (λ x. AreCut b x.0 s t)
 cut_as_told a b s t (Ok x) is cut = tt
 cut_as_told a b s t (Err x) is cut = cut_as a b x.0 s t is cut
+
+-- an error that is handed on: nothing was done to the end, it names a line within, and the count of faults rose
+pub none_done : {T : Type 0} (P : Type 0) (r : Result T FailedAt) → IsErr r → OnOk r P
+none_done P (Ok x) is = absurd (false≢true is)
+none_done P (Err x) is = tt
+
+pub within_on : {T : Type 0} (size : ℕ) (at : FailedAt) (r : Result T FailedAt) → IsErr r × IsErrAnd r (λ x. x ≡ at) → at.0.0 < size → IfErr r (λ x. x.0.0 < size)
+within_on size at (Ok x) is below = tt
+within_on size at (Err x) is below = subst (λ (x : FailedAt). x.0.0 < size) (sym is.1) below
+
+pub rose_on : {T : Type 0} (before now : ℕ) (r : Result T FailedAt) → Rose before now → OnErr r (Rose before now)
+rose_on before now (Ok x) rose = tt
+rose_on before now (Err x) rose = rose
+
+-- operations behind others that were done
+pub done_behind : {T : Type 0} (a b whole : List Op) (s t u : CacheOver) (r : Result T FailedAt) → a ++ b ≡ whole → AreDone a s t → OnOk r (AreDone b t u) → OnOk r (AreDone whole s u)
+done_behind a b whole s t u (Ok x) is p q = done_as (a ++ b) whole s u is (done_both a b s t u p q)
+done_behind a b whole s t u (Err x) is p q = tt
+
+pub cut_behind : {T : Type 0} (a b whole : List Op) (s t u : CacheOver) (r : Result T FailedAt) → a ++ b ≡ whole → AreDone a s t → IfErr r (λ x. AreCut b x.0 t u) → IfErr r (λ x. AreCut whole x.0 s u)
+cut_behind a b whole s t u (Ok x) is p q = tt
+cut_behind a b whole s t u (Err x) is p q = cut_as (a ++ b) whole x.0 s u is (cut_second a b x.0 s t u p q)
+
+pub rose_behind : {T : Type 0} (first before now : ℕ) (r : Result T FailedAt) → first ≤ before → OnErr r (Rose before now) → OnErr r (Rose first now)
+rose_behind first before now (Ok x) upto rose = tt
+rose_behind first before now (Err x) upto rose = rose_since first before now upto rose
+
+-- the counts of one operation and of those behind it
+pub steady_both : {M : Type 0} (lines : M → ℕ) (state : M → MediaState) (a b c : M) → IsSteady lines state a b → IsSteady lines state b c → IsSteady lines state a c
+steady_both lines state a b c p q = record {
+  size = q.size ∙ p.size;
+  later = omega arith;
+}
 
 -- eight operations: those before one of them, it, and those behind it
 split : (f : ℕ → Op) (k : ℕ) → k < 8 → map f (range_with_len 0 k) ++ ((f k ∷ []) ++ map f (range_with_len (k + 1) (7 - k))) ≡ map f (range_with_len 0 8)

@@ -1,5 +1,5 @@
 -- What the parts of making a file system promise.
-use Rattle.std.specs.Prelude.{ℕ, ◌≡◌, ◌≢◌, Bool, false, List, Result, Ok, get_or, map}
+use Rattle.std.specs.Prelude.{ℕ, ◌≡◌, ◌≢◌, ◌++◌, Bool, false, List, Result, Ok, get_or, map}
 use Rattle.std.specs.List.{range_with_len}
 use Rattle.fam_base.specs.declared.entry.Params.{Params}
 use Rattle.fam_format.specs.declared.faults.SuperFault.{SuperFault}
@@ -9,6 +9,8 @@ use Rattle.fam_machine.specs.OneLine.{IsHeld}
 use Rattle.fam_machine.specs.declared.op.Op.{Op}
 use Rattle.fam_machine.specs.declared.op.Op.TheVariants.{Store}
 use Rattle.fam_machine.specs.Operations.{line_no}
+use Rattle.fam_machine.specs.Mkfs.{put_ops}
+use Rattle.fam_rules.specs.Written.{zero_line}
 
 -- lines 0, 1 and 2 are held
 pub record HeldLines (cache : Cache) : Type 0 where
@@ -34,3 +36,11 @@ pub record IsElsewhere (line : ℕ) : Type 0 where
 -- the stores of the first so many words of a line
 abbrev pub stores : ℕ → List ℕ → ℕ → List Op
 stores line words count = map (λ k. Store (line_no line) k (get_or words k 0)) (range_with_len 0 count)
+
+-- the gate's line with zeros, and the log's first line
+abbrev pub header_puts : List ℕ → List Op
+header_puts header = put_ops (gate_line, zero_line) ++ put_ops (log_line, header)
+
+-- the words of the superblock, and then its magic
+abbrev pub word_puts : List ℕ → List ℕ → List ℕ → List Op
+word_puts magic first second = put_ops (1, first) ++ (put_ops (2, second) ++ put_ops (0, magic))

@@ -1,8 +1,8 @@
 //! Making a file system: what is refused, what is read, and what is written.
 
-ghost use Rattle.std.specs.Prelude.{◌≡◌, ◌*◌, ◌+◌, ◌++◌, ◌≤◌, ◌<◌, IfOk, IfErr, IfSome, OnOk, OnErr, Some, None, Ok, take, true, ℕ};
+ghost use Rattle.std.specs.Prelude.{◌≡◌, ◌≢◌, ◌*◌, ◌+◌, ◌++◌, ◌≤◌, ◌<◌, IfOk, IfErr, IfSome, OnOk, OnErr, Some, None, Ok, take, true, ℕ};
 ghost use Rattle.fam_base.specs.Image.{Image, line_at};
-ghost use Rattle.fam_format.specs.Layout.{least_lines};
+ghost use Rattle.fam_format.specs.Layout.{gate_line, least_lines, log_line};
 ghost use Rattle.fam_format.specs.Reading.{super_in};
 ghost use Rattle.fam_machine.specs.Caches.{cell_at};
 ghost use Rattle.fam_machine.specs.Operations.{machine, operated_all};
@@ -10,7 +10,8 @@ ghost use Rattle.fam_rules.specs.Place.{line_bytes};
 ghost use Rattle.fam_machine.specs.Mkfs as spec;
 ghost use Rattle.fam_machine.specs.Mkfs.{expected_by};
 ghost use Rattle.fam_mkfs.specs.Ends.{MkfsEnds, done_end};
-ghost use Rattle.fam_mkfs.specs.Parts.{HeldLines, IsElsewhere, Stands};
+ghost use Rattle.fam_mkfs.specs.Parts.{HeldLines, IsElsewhere, Stands, header_puts, word_puts};
+ghost use Rattle.fam_machine.specs.OneLine.{IsHeld};
 ghost use Rattle.fam_mkfs.specs.Refusals as refusals;
 ghost use Rattle.fam_media.specs.Causes.{IsSteady, Rose};
 ghost use Rattle.fam_cache.specs.Runs.{AreCut, AreDone, over};
@@ -36,6 +37,9 @@ const PUTS: u64 = 9;
 
 /// How many operations write.
 const WRITES: u64 = 54;
+
+/// How many of them put gate and header.
+const HEADER_WRITES: u64 = 18;
 
 /// After how many operations a maker halts at most: one is always left.
 const MOST_HALTED: u64 = 80;
@@ -147,6 +151,63 @@ fn writes(halt: Option<u64>) -> u64
     }
 }
 
+/// Puts the gate's line with zeros and the log's first line, by the first so many of 18 operations.
+fn write_header<M: Media>(
+    cache: &mut HostCache,
+    media: &mut M,
+    header: &Line,
+    most: u64,
+) -> Result<(), FailedAt>
+    requires within { least_lines ≤ M.size media.old }
+    requires room { 2 ≤ cache.old.spare }
+
+    ensures done { OnOk result (AreDone (take most (header_puts header.now))
+        (over (M.state media.old).image cache.old.lines) (over (M.state media.new).image cache.new.lines)) }
+    ensures cut { IfErr result (λ at. AreCut (take most (header_puts header.now)) at.0
+        (over (M.state media.old).image cache.old.lines) (over (M.state media.new).image cache.new.lines)) }
+    ensures others { (line : ℕ) → line ≢ gate_line → line ≢ log_line
+        → cell_at cache.new.lines line ≡ cell_at cache.old.lines line }
+    ensures spare { cache.old.spare ≤ cache.new.spare + 2 }
+    ensures within { IfErr result (λ at. at.0.0 < M.size media.old) }
+    ensures rose { OnErr result (Rose (M.state media.old).faults (M.state media.new).faults) }
+    ensures steady { IsSteady M.size M.state media.old media.new }
+{
+    write_line(cache, media, LineNo(GATE_LINE), &[0; 8], most)?;
+    let most = most.saturating_sub(PUTS);
+    write_line(cache, media, LineNo(LOG_LINE), header, most)
+}
+
+/// Puts lines 1 and 2, and then line 0, by the first so many of 27 operations.
+fn write_words<M: Media>(
+    cache: &mut HostCache,
+    media: &mut M,
+    magic: &Line,
+    first: &Line,
+    second: &Line,
+    most: u64,
+) -> Result<(), FailedAt>
+    requires within { 2 < M.size media.old }
+    requires prefix { IsHeld (cell_at cache.old.lines 1) }
+    requires rest { IsHeld (cell_at cache.old.lines 2) }
+    requires room { 1 ≤ cache.old.spare }
+
+    ensures done { OnOk result (AreDone (take most (word_puts magic.now first.now second.now))
+        (over (M.state media.old).image cache.old.lines) (over (M.state media.new).image cache.new.lines)) }
+    ensures cut { IfErr result (λ at. AreCut (take most (word_puts magic.now first.now second.now)) at.0
+        (over (M.state media.old).image cache.old.lines) (over (M.state media.new).image cache.new.lines)) }
+    ensures others { (line : ℕ) → line ≢ 0 → line ≢ 1 → line ≢ 2
+        → cell_at cache.new.lines line ≡ cell_at cache.old.lines line }
+    ensures within { IfErr result (λ at. at.0.0 < M.size media.old) }
+    ensures rose { OnErr result (Rose (M.state media.old).faults (M.state media.new).faults) }
+    ensures steady { IsSteady M.size M.state media.old media.new }
+{
+    write_line(cache, media, LineNo(1), first, most)?;
+    let most = most.saturating_sub(PUTS);
+    write_line(cache, media, LineNo(2), second, most)?;
+    let most = most.saturating_sub(PUTS);
+    write_line(cache, media, LineNo(0), magic, most)
+}
+
 /// Writes superblock, header and gate, by the first so many of 54 operations. Line 0 is cleared first, and has the magic
 /// last.
 fn write_super<M: Media>(
@@ -173,16 +234,9 @@ fn write_super<M: Media>(
     let header = spell_log(params);
     write_line(cache, media, LineNo(0), &[0; 8], most)?;
     let most = most.saturating_sub(PUTS);
-    write_line(cache, media, LineNo(GATE_LINE), &[0; 8], most)?;
-    let most = most.saturating_sub(PUTS);
-    write_line(cache, media, LineNo(LOG_LINE), &header, most)?;
-    let most = most.saturating_sub(PUTS);
-    write_line(cache, media, LineNo(1), &first, most)?;
-    let most = most.saturating_sub(PUTS);
-    write_line(cache, media, LineNo(2), &second, most)?;
-    let most = most.saturating_sub(PUTS);
-    write_line(cache, media, LineNo(0), &magic, most)?;
-    Ok(())
+    write_header(cache, media, &header, most)?;
+    let most = most.saturating_sub(HEADER_WRITES);
+    write_words(cache, media, &magic, &first, &second, most)
 }
 
 /// How it ends where all that was expected was done.
