@@ -12,6 +12,7 @@ ghost use Rattle.fam_run.specs.Checked.{IsChecked};
 ghost use Rattle.fam_run.specs.Operation.{Operated, said_of};
 ghost use Rattle.fam_run.specs.Room.{LacksRoom, WantsRoom};
 
+use crate::operation::say;
 use fam_cache::OperationFault;
 use fam_format::Reason;
 use fam_tasks::{Answer, Due, Task, Turn};
@@ -21,7 +22,7 @@ use fam_tasks::{Answer, Due, Task, Turn};
 fn answer_bad(turn: &mut Turn, seq: u64, reason: Reason)
     ensures { turn.new ≡ Done (BadEntry seq reason) }
 {
-    *turn = Turn::Done(Answer::BadEntry { seq, reason });
+    say(turn, Turn::Done(Answer::BadEntry { seq, reason }));
 }
 
 /// Looks at the words of a slot, which is the Digest that comes next, and takes the turn with it. `OutOfMemory` comes where it

@@ -21,6 +21,17 @@ use fam_cache::{HostCache, OperationFault};
 use fam_machine::Op;
 use fam_media::Media;
 use fam_tasks::{Due, Task, Turn};
+use std::mem::replace;
+
+/// Lets a value go. Of a large type that is taken apart here alone.
+fn let_go<T: Drop>(_value: T) {}
+
+/// Puts what a task says in the place of what it said before.
+pub(crate) fn say(turn: &mut Turn, said: Turn)
+    ensures { turn.new ≡ said }
+{
+    let_go(replace(turn, said));
+}
 
 /// Tells a task what an operation gave, and what it says then. It stands apart, since what a task says may be large, and
 /// behind most operations it says nothing.
@@ -31,7 +42,7 @@ fn take_word(task: &mut Task, word: Option<u64>, turn: &mut Turn)
     ensures kept { Keeps task.old (turn_of task.old word) task.new }
     ensures own { (line : LineNo) → turn.new ≢ Done (MediaFault line) }
 {
-    *turn = task.feed(word);
+    say(turn, task.feed(word));
 }
 
 /// Does a task's Digest, and what it says then. It stands apart too. Where no memory was found nothing was done.
@@ -44,7 +55,7 @@ fn take_digest(task: &mut Task, turn: &mut Turn) -> Result<(), OutOfMemory>
     ensures err { OnErr result (task.new ≡ task.old) }
     ensures want { OnErr result (WantsMemory task.old (turn_of task.old None)) }
 {
-    *turn = task.digest()?;
+    say(turn, task.digest()?);
     Ok(())
 }
 

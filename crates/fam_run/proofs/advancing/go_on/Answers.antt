@@ -65,3 +65,30 @@ returns-in-Checked-clause-want g c =
 pub returns-in-Other-clause-want : goal.returns-in-Other-clause-want
 returns-in-Other-clause-want g c =
     λ full. inl (c.operate.ensures.want full)
+
+pub returns-in-Slot-clause-want : goal.returns-in-Slot-clause-want
+returns-in-Slot-clause-want g c = c.load_slot.ensures.want
+
+pub returns-in-Slot-clause-steady : goal.returns-in-Slot-clause-steady
+returns-in-Slot-clause-steady g c = c.load_slot.ensures.steady
+
+pub returns-in-Stored-clause-advanced : goal.returns-in-Stored-clause-advanced
+returns-in-Stored-clause-advanced g c = c.store_lines.ensures.advanced
+
+pub returns-in-Stored-clause-want : goal.returns-in-Stored-clause-want
+returns-in-Stored-clause-want g c = c.store_lines.ensures.want
+
+pub returns-in-Stored-clause-places : goal.returns-in-Stored-clause-places
+returns-in-Stored-clause-places g c = c.store_lines.ensures.places
+
+pub returns-in-Stored-clause-steady : goal.returns-in-Stored-clause-steady
+returns-in-Stored-clause-steady g c = c.store_lines.ensures.steady
+
+pub returns-in-Compared-clause-want : goal.returns-in-Compared-clause-want
+returns-in-Compared-clause-want g c = c.compare_line.ensures.want
+
+pub returns-in-Compared-clause-steady : goal.returns-in-Compared-clause-steady
+returns-in-Compared-clause-steady g c = c.compare_line.ensures.steady
+
+pub returns-in-Other-clause-steady : goal.returns-in-Other-clause-steady
+returns-in-Other-clause-steady g c = c.operate.ensures.steady

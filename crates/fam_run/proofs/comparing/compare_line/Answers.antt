@@ -39,3 +39,12 @@ returns-in-Ok-None-clause-advanced g c =
     let media : c.renew_line.new.media ≡ c.args.media.now = b.ensures.same b.field-0-is in
     from_same a (said_of c.operate.result c.operate.new.turn) c.args.task.now c.renew_line.new.self.lines (m.state c.renew_line.new.media) (m.size c.renew_line.new.media) refl (ap (λ (s : CacheState). s.lines) cache) (ap m.state media) (ap m.size media)
     (alone (record a { task = c.args.task.now; old = c.renew_line.new.self.lines; lines = m.size c.renew_line.new.media; media = record { old = m.state c.renew_line.new.media; new = a.media.new } }) (said_of c.operate.result c.operate.new.turn) c.operate.ensures.operated)
+
+pub returns-in-Ok-Some-clause-steady : goal.returns-in-Ok-Some-clause-steady
+returns-in-Ok-Some-clause-steady g c = c.renew_line.ensures.steady
+
+pub returns-in-Err-Failed-clause-steady : goal.returns-in-Err-Failed-clause-steady
+returns-in-Err-Failed-clause-steady g c = c.renew_line.ensures.steady
+
+pub returns-in-Err-OutOfMemory-clause-steady : goal.returns-in-Err-OutOfMemory-clause-steady
+returns-in-Err-OutOfMemory-clause-steady g c = c.renew_line.ensures.steady

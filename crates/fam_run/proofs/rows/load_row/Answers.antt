@@ -54,3 +54,21 @@ returns-else-at-gt0-clause-advanced g c =
     f.new.task c.load_lines_of_slot.new.self c.check_loaded.new.task c.check_loaded.new.turn (f.ensures.same none) c.load_lines_of_slot.ensures.loads lacks
     (λ image is k less. r.ensures.words image is k (omega (arith, less, all))) w.new.self.lines (ap (λ (s : CacheState). s.lines) w.ensures)
     (c.check_loaded.ensures w.new.self.lines (m.size c.args.media.now) new)
+
+pub returns-then-breaks_off-clause-image : goal.returns-then-breaks_off-clause-image
+returns-then-breaks_off-clause-image g c = c.read_lines-read.ensures.image
+
+pub returns-then-breaks_off-clause-steady : goal.returns-then-breaks_off-clause-steady
+returns-then-breaks_off-clause-steady g c = c.read_lines-read.ensures.steady
+
+pub returns-then-at-gt0-clause-image : goal.returns-then-at-gt0-clause-image
+returns-then-at-gt0-clause-image g c = c.read_lines-read.ensures.image
+
+pub returns-then-at-gt0-clause-steady : goal.returns-then-at-gt0-clause-steady
+returns-then-at-gt0-clause-steady g c = c.read_lines-read.ensures.steady
+
+pub returns-else-at-gt0-clause-image : goal.returns-else-at-gt0-clause-image
+returns-else-at-gt0-clause-image g c = c.read_lines-read.ensures.image
+
+pub returns-else-at-gt0-clause-steady : goal.returns-else-at-gt0-clause-steady
+returns-else-at-gt0-clause-steady g c = c.read_lines-read.ensures.steady

@@ -38,3 +38,21 @@ returns-in-Err-clause-failed g c =
     (λ k below. e.failed_clean k (omega (arith, below, e.before))) e.failed_words e.failed
     (omega (arith, at, e.before, c.requires.all, c.if-due-size.false, c.if-due-size-2.false, c.lines-size.ensures.count))
     c.bring_run.new.self.lines e.failed_lines
+
+pub returns-in-Ok-true-clause-image : goal.returns-in-Ok-true-clause-image
+returns-in-Ok-true-clause-image g c = c.bring_run.ensures.image
+
+pub returns-in-Ok-true-clause-steady : goal.returns-in-Ok-true-clause-steady
+returns-in-Ok-true-clause-steady g c = c.bring_run.ensures.steady
+
+pub returns-in-Ok-false-clause-image : goal.returns-in-Ok-false-clause-image
+returns-in-Ok-false-clause-image g c = c.bring_run.ensures.image
+
+pub returns-in-Ok-false-clause-steady : goal.returns-in-Ok-false-clause-steady
+returns-in-Ok-false-clause-steady g c = c.bring_run.ensures.steady
+
+pub returns-in-Err-clause-image : goal.returns-in-Err-clause-image
+returns-in-Err-clause-image g c = c.bring_run.ensures.image
+
+pub returns-in-Err-clause-steady : goal.returns-in-Err-clause-steady
+returns-in-Err-clause-steady g c = c.bring_run.ensures.steady

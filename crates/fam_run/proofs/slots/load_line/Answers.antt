@@ -27,3 +27,27 @@ returns-in-Err-Failed-clause-failed g c =
     let within : line.0 < g.M.Media.size c.args.media.now = subst (λ (n : ℕ). line.0 < n) c.requires.lines c.line_of_slot_due-line.ensures.within in
     line_unread line c.args.task.now c.drop_line_of_slot.new.self (g.M.Media.state c.args.media.now).image c.args.cache.now.lines (g.met.M.Media.normal c.args.media.now) c.is_sound.ensures c.drop_line_of_slot.ensures (f.failed_clean is) c.is_sound-in-Err-Failed.ensures
     _ _ _ c.renew_line.new.self.lines (g.M.Media.state c.renew_line.new.media).image f.image (f.failed_lines is) (f.failed is) within
+
+pub returns-in-Ok-None-clause-image : goal.returns-in-Ok-None-clause-image
+returns-in-Ok-None-clause-image g c = c.renew_line.ensures.image
+
+pub returns-in-Ok-None-clause-steady : goal.returns-in-Ok-None-clause-steady
+returns-in-Ok-None-clause-steady g c = c.renew_line.ensures.steady
+
+pub returns-in-Ok-Some-clause-image : goal.returns-in-Ok-Some-clause-image
+returns-in-Ok-Some-clause-image g c = c.renew_line.ensures.image
+
+pub returns-in-Ok-Some-clause-steady : goal.returns-in-Ok-Some-clause-steady
+returns-in-Ok-Some-clause-steady g c = c.renew_line.ensures.steady
+
+pub returns-in-Err-Failed-clause-image : goal.returns-in-Err-Failed-clause-image
+returns-in-Err-Failed-clause-image g c = c.renew_line.ensures.image
+
+pub returns-in-Err-Failed-clause-steady : goal.returns-in-Err-Failed-clause-steady
+returns-in-Err-Failed-clause-steady g c = c.renew_line.ensures.steady
+
+pub returns-in-Err-OutOfMemory-clause-image : goal.returns-in-Err-OutOfMemory-clause-image
+returns-in-Err-OutOfMemory-clause-image g c = c.renew_line.ensures.image
+
+pub returns-in-Err-OutOfMemory-clause-steady : goal.returns-in-Err-OutOfMemory-clause-steady
+returns-in-Err-OutOfMemory-clause-steady g c = c.renew_line.ensures.steady

@@ -43,3 +43,12 @@ returns-in-Ok-false-clause-advanced g c =
     let media : c.put_line.new.media ≡ c.args.media.now = b.ensures.same b.field-0-test in
     from_same a (said_of c.operate.result c.operate.new.turn) c.args.task.now c.put_line.new.self.lines (m.state c.put_line.new.media) (m.size c.put_line.new.media) refl (ap (λ (s : CacheState). s.lines) cache) (ap m.state media) (ap m.size media)
     (alone (record a { task = c.args.task.now; old = c.put_line.new.self.lines; lines = m.size c.put_line.new.media; media = record { old = m.state c.put_line.new.media; new = a.media.new } }) (said_of c.operate.result c.operate.new.turn) c.operate.ensures.operated)
+
+pub returns-in-Ok-true-clause-steady : goal.returns-in-Ok-true-clause-steady
+returns-in-Ok-true-clause-steady g c = c.put_line.ensures.steady
+
+pub returns-in-Err-Failed-clause-steady : goal.returns-in-Err-Failed-clause-steady
+returns-in-Err-Failed-clause-steady g c = c.put_line.ensures.steady
+
+pub returns-in-Err-OutOfMemory-clause-steady : goal.returns-in-Err-OutOfMemory-clause-steady
+returns-in-Err-OutOfMemory-clause-steady g c = c.put_line.ensures.steady

@@ -26,3 +26,9 @@ returns-in-Err-clause-failed g c =
     c.requires.absent
     _ _ _ q.new.self c.put_run.new.self.lines (g.M.Media.state c.put_run.new.media).image (chain_kept c.args.first.0 q.new.lines c.args.task.now q.new.self (length c.args.lines.now) q.ensures) e.failed_lines e.torn e.failed
     (omega (arith, before, c.requires.fits))
+
+pub returns-in-Ok-clause-steady : goal.returns-in-Ok-clause-steady
+returns-in-Ok-clause-steady g c = c.put_run.ensures.steady
+
+pub returns-in-Err-clause-steady : goal.returns-in-Err-clause-steady
+returns-in-Err-clause-steady g c = c.put_run.ensures.steady
