@@ -1,8 +1,8 @@
 -- What becomes of a run's places.
-use Rattle.std.proofs.Common.{◌≡◌, ℕ, zero, suc, ◌+◌, ◌<◌, ◌⊎◌, ⊎_elim, Bool, true, false, List, [], ◌∷◌, ◌++◌, length, get_or, set, map as list_map, take, drop, Result, Ok, Err, IsOk, OnOk, if◌then◌else◌, refl, sym, ap, subst, ◌∙◌, arith, length-append}
+use Rattle.std.proofs.Common.{◌≡◌, ℕ, zero, suc, ◌+◌, ◌<◌, Bool, true, false, List, [], ◌∷◌, ◌++◌, length, get_or, set, map as list_map, take, drop, Result, Ok, Err, IsOk, if◌then◌else◌, sym, ap, subst, ◌∙◌, arith, length-append}
 use Rattle.std.specs.Bool.{OnTrue}
-use Rattle.std.specs.Result.{is_err, is_ok}
-use Rattle.std.specs.List.{AllByRecursion, AllZip, insert}
+use Rattle.std.specs.Result.{is_ok}
+use Rattle.std.specs.List.{AllByRecursion, insert}
 use Rattle.std.proofs.Math.Seq.{get_or-append_seam}
 use Rattle.std.proofs.lemmas.List.{drop-map, map-append, take-append-drop, take-map}
 use Rattle.fam_base.specs.declared.entry.Entry.{Entry}
@@ -66,24 +66,18 @@ module _ (es more : List Entry) (xs ys : List ℕ) (i : ℕ) (e : Entry) (within
       subst (λ (l : List ℕ). AreWithin (length more) l) (sym is)
       (all_insert (λ (k : ℕ). k < length more) xs i (length es) (within_more (length es) (length more) xs (omega (arith, count)) within) (omega (arith, count)))
 
--- ---- what is written once it is a run's own
+-- the same, where a test tells that the entry was put
+pub put_where : (t : Bool) (es more : List Entry) (xs ys zs : List ℕ) (i : ℕ) (e : Entry) → AreWithin (length es) xs → zs ≡ xs
+    → OnTrue t (ys ≡ insert zs i (length es)) → OnTrue t (more ≡ es ++ e ∷ []) → IsGap (run_of es xs) e.path i → OnTrue t (IsPut (run_of es xs) (run_of more ys) e)
+put_where true es more xs ys zs i e within same put longer gap = put_is es more xs ys i e within longer (put ∙ ap (λ (l : List ℕ). insert l i (length es)) same) gap
+put_where false es more xs ys zs i e within same put longer gap = tt
 
-copied : (xs ys : List ℕ) → AllZip (λ x y. y ≡ x) xs ys → ys ≡ xs
-copied [] [] each = refl
-copied [] (y ∷ ys) each = absurd each
-copied (x ∷ xs) [] each = absurd each
-copied (x ∷ xs) (y ∷ ys) each = cc (each.0, copied xs ys each.1)
-
--- where a test holds, what follows from two facts
-pub where_true : {P Q R : Type 0} (t : Bool) → OnTrue t P → OnTrue t Q → (P → Q → R) → OnTrue t R
-where_true true p q f = f p q
-where_true false p q f = tt
+pub within_where : (t : Bool) (es more : List Entry) (xs ys zs : List ℕ) (i : ℕ) (e : Entry) → AreWithin (length es) xs → zs ≡ xs
+    → OnTrue t (ys ≡ insert zs i (length es)) → OnTrue t (more ≡ es ++ e ∷ []) → OnTrue t (AreWithin (length more) ys)
+within_where true es more xs ys zs i e within same put longer = put_within es more xs ys i e within longer (put ∙ ap (λ (l : List ℕ). insert l i (length es)) same)
+within_where false es more xs ys zs i e within same put longer = tt
 
 -- ---- what didn't fail
-
-pub where_ok : {T E : Type 0} (r : Result T E) (P : Type 0) → is_err r ≡ false → OnOk r P → P
-where_ok (Ok x) P not p = p
-where_ok (Err e) P not p = absurd (cc (not))
 
 pub chosen : {T E X : Type 0} (r : Result T E) (x y z : X) → IsOk r → z ≡ (if is_ok r then x else y) → z ≡ x
 chosen (Ok t) x y z ok is = is

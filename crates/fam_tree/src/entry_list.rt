@@ -148,15 +148,15 @@ impl EntryList {
         };
         let path = entry.path();
         let extents = entry.extents();
-        if self.rows.reserve(1).is_err() {
+        let Ok(()) = self.rows.reserve(1) else {
             return false;
-        }
-        if self.paths.reserve(path.len()).is_err() {
+        };
+        let Ok(()) = self.paths.reserve(path.len()) else {
             return false;
-        }
-        if self.extents.reserve(extents.len()).is_err() {
+        };
+        let Ok(()) = self.extents.reserve(extents.len()) else {
             return false;
-        }
+        };
         if !beside.grow(entry) {
             return false;
         }

@@ -6,7 +6,7 @@ ghost use Rattle.fam_tree.specs.declared.fault.ListingFault.TheVariants as listi
 use fam_base::{Kind, OutOfMemory};
 
 /// Why an entry doesn't join a tree, in the order in which it is found out.
-#[derive(Clone, Copy, Debug, PartialEq, Eq)]
+#[derive(Clone, Copy)]
 pub enum ApplyFault {
     /// An entry of this kind stands at the path.
     Exists(Kind),
@@ -19,7 +19,7 @@ pub enum ApplyFault {
 }
 
 /// Why bytes aren't read as a listing.
-#[derive(Clone, Copy, Debug, PartialEq, Eq)]
+#[derive(Clone, Copy)]
 pub enum ListingFault {
     /// The number, from 1, of the first line that can't stand where it does.
     BadListing(u64),

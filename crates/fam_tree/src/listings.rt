@@ -70,9 +70,9 @@ fn read_lines(alloc: Global, first: u64, bytes: &[u8]) -> Result<Vec<Entry>, Lis
             return Err(ListingFault::BadListing(number));
         };
         before = Some(entry.path);
-        if entries.push(entry).is_err() {
+        let Ok(()) = entries.push(entry) else {
             return Err(ListingFault::OutOfMemory);
-        }
+        };
         number += 1;
         rest = more;
     }
@@ -99,9 +99,9 @@ fn is_count(alloc: Global, line: &[u8], lines: u64) -> Result<bool, OutOfMemory>
     ensures { IfOk result (λ b. b ≡ path_eq line.now (played_line lines)) }
 {
     let mut text = Vec::new(alloc);
-    if text.extend_from_slice(b"played ").is_err() {
+    let Ok(()) = text.extend_from_slice(b"played ") else {
         return Err(OutOfMemory);
-    }
+    };
     put_decimal(lines, &mut text)?;
     Ok(line == text.as_slice())
 }

@@ -64,9 +64,9 @@ fn close(full: &mut Vec<Chunk>, last: &mut Chunk, alloc: Global) -> bool
     let Ok(next) = Chunk::with_rows(alloc, CHUNK) else {
         return false;
     };
-    if full.reserve(1).is_err() {
+    let Ok(()) = full.reserve(1) else {
         return false;
-    }
+    };
     let _ = full.push(replace(last, next));
     true
 }

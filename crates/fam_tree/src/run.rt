@@ -77,7 +77,10 @@ fn insert<B: Beside>(
     let Ok(place) = u32::try_from(entries.len()) else {
         return false;
     };
-    if places.reserve(1).is_err() || !entries.push(entry, beside) {
+    let Ok(()) = places.reserve(1) else {
+        return false;
+    };
+    if !entries.push(entry, beside) {
         return false;
     }
     let _ = places.insert(i, place);
@@ -92,9 +95,9 @@ fn shared(alloc: Global, places: &[u32]) -> Result<Rc<Vec<u32>>, OutOfMemory>
     let Ok(mut own) = Vec::with_capacity(alloc, places.len().saturating_add(1)) else {
         return Err(OutOfMemory);
     };
-    if own.extend_from_slice(places).is_err() {
+    let Ok(()) = own.extend_from_slice(places) else {
         return Err(OutOfMemory);
-    }
+    };
     match Rc::new(alloc, own) {
         Ok(shared) => Ok(shared),
         Err(_) => Err(OutOfMemory),

@@ -67,9 +67,12 @@ fn split(entries: &Chunks, runs: &mut Vec<Run>, alloc: Global, k: usize)
 {
     // The contract alone speaks of them.
     let _ = entries;
-    if runs[k].len() <= MOST || runs.reserve(1).is_err() {
+    if runs[k].len() <= MOST {
         return;
     }
+    let Ok(()) = runs.reserve(1) else {
+        return;
+    };
     if let Ok(upper) = runs[k].split(alloc) {
         let _ = runs.insert(k + 1, upper);
     }
@@ -98,7 +101,10 @@ fn begin<B: Beside>(
     let Ok(mut run) = Run::new(alloc) else {
         return false;
     };
-    if runs.reserve(1).is_err() || !run.add(entries, entry, beside) {
+    let Ok(()) = runs.reserve(1) else {
+        return false;
+    };
+    if !run.add(entries, entry, beside) {
         return false;
     }
     let _ = runs.push(run);

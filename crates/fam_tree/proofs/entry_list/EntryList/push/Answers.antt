@@ -1,9 +1,9 @@
-use Rattle.std.proofs.Common.{◌≡◌, ℕ, List, [], ◌∷◌, ◌++◌, length, sym, ap, ap₂, ◌∙◌, arith}
+use Rattle.std.proofs.Common.{◌≡◌, ℕ, List, [], ◌∷◌, ◌++◌, length, ap, ap₂, ◌∙◌, arith}
 use Rattle.fam_base.specs.declared.entry.Entry.{Entry}
 use Rattle.fam_base.specs.declared.extents.Extent.{Extent}
 use Rattle.fam_tree.specs.Rows.{row_of}
 use Rattle.fam_tree.specs.declared.row.Row.{Row}
-use Rattle.fam_tree.proofs.Edits.{chosen, where_ok}
+use Rattle.fam_tree.proofs.Edits.{chosen}
 use Rattle.fam_tree.proofs.RowLemmas.{put_entries, put_rows}
 use Rattle.fam_tree.proofs.entry_list.EntryList.push.Goals as goal
 use Rattle.fam_tree.proofs.entry_list.EntryList.push.Goals.{After-put-2}
@@ -14,8 +14,7 @@ row_is g c = c.in-Some.ensures ∙ ap₂ (row_of c.args.entry.now) (c.len.ensure
 
 rows_longer : (g : Over) (c : After-put-2 g) → c.push.new.self.items ≡ c.self.inside.rows.items ++ c.in-Some.row ∷ []
 rows_longer g c =
-    let room = where_ok c.reserve.result _ (sym c.is_err.ensures.value ∙ c.if-is_err.false) c.reserve.ensures.ok in
-    chosen {X = List Row} c.push.result _ _ _ (c.push.ensures.succeeds (omega (arith, room))) c.push.ensures.items
+    chosen {X = List Row} c.push.result _ _ _ (c.push.ensures.succeeds (omega (arith, c.in-Ok.ensures.ok))) c.push.ensures.items
     ∙ ap (λ (l : List Row). l ++ c.in-Some.row ∷ []) c.reserve.ensures.items
 
 paths_longer : (g : Over) (c : After-put-2 g) → c.put.new.items.items ≡ c.self.inside.paths.items ++ c.args.entry.now.path
