@@ -8,3 +8,4 @@ pub mod SoundLaw
 pub mod UuidLaw
 pub mod LinesRead
 pub mod EventLines
+pub mod Exits

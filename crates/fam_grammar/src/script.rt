@@ -59,7 +59,6 @@ pub fn words_of(bytes: &[u8], number: u64) -> Option<(Words<'_>, Line)>
 /// The event of a line of a script, given without its line feed; `None` for a line without words, or whose first word
 /// begins with `#`. `number` is the line's, counted from 1; a bad line is named by it. Only the name of a file takes
 /// memory.
-#[tactic(auto, unfolding(crate::specs::Scripts::line_reads))]
 pub fn read_line(alloc: Global, bytes: &[u8], number: u64) -> Result<Option<Event>, LineFault>
     ensures value { IfOk result (λ event. line_reads bytes.now ≡ Ok event) }
     ensures bad { IfErr result (IsBadLine number (line_reads bytes.now)) }
