@@ -13,7 +13,7 @@ use Rattle.fam_history.specs.declared.answers.AnswerWord.TheVariants as word
 use Rattle.fam_history.specs.declared.answer.ToldAnswer.{ToldAnswer}
 use Rattle.fam_history.specs.declared.answer.ToldAnswer.TheVariants as told
 use Rattle.fam_history.specs.ByteWords.{bytes_of, one_byte}
-use Rattle.fam_history.specs.Faults.{is_a_file, kind_of, log_line, numbered, reason_line, super_line}
+use Rattle.fam_history.specs.Faults.{is_a_file, last_kind, log_line, numbered, reason_line, super_line}
 use Rattle.fam_history.specs.Literals.{begins_with, behind_first, last_number, last_two, the_word}
 
 -- the answers that a word begins
@@ -146,7 +146,7 @@ answer_behind end word.Done words = then_reads (last_number end words) (λ n non
 answer_behind end word.Not words = not_line end words
 answer_behind end word.Path words = path_line end words
 answer_behind end word.Bad words = bad_answer end words
-answer_behind end word.Exists words = then_reads (word_of kind_of end words) (λ kind. ends_with (told.NotAppended (cause.Exists kind)))
+answer_behind end word.Exists words = then_reads (last_kind end words) (λ kind none. Reads (told.NotAppended (cause.Exists kind)) none)
 answer_behind end word.No words = no_answer end words
 answer_behind end word.Parent words = then_reads (is_a_file end words) (λ it none. Reads (told.NotAppended cause.ParentIsFile) none)
 answer_behind end word.Log words = then_reads (numbered end (codes "full") words) (λ n none. Reads (told.NotAppended (cause.LogFull n)) none)

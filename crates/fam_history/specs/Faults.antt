@@ -26,6 +26,10 @@ kind_of text =
     else if bytes_eq text (codes "directory") then Some Directory
     else None
 
+-- a kind, and no word behind it
+abbrev pub last_kind : ℕ → List Word → Reading Kind
+last_kind end words = then_reads (word_of kind_of end words) ends_with
+
 -- a field of a superblock
 unfoldable pub super_field_of : List ℕ → Option SuperField
 super_field_of text =
@@ -99,7 +103,7 @@ reason_behind end word.Attribute words = then_reads (last_number end words) (λ 
 reason_behind end word.Path words = ends_with reason.BadPath words
 reason_behind end word.Map words = ends_with reason.Map words
 reason_behind end word.Rest words = then_reads (last_number end words) (λ n none. Reads (reason.Rest n) none)
-reason_behind end word.Exists words = then_reads (word_of kind_of end words) (λ k. ends_with (reason.Exists k))
+reason_behind end word.Exists words = then_reads (last_kind end words) (λ k none. Reads (reason.Exists k) none)
 reason_behind end word.No words = then_reads (word_of (the_word (codes "parent")) end words) (λ it. ends_with reason.NoParent)
 reason_behind end word.Parent words = then_reads (is_a_file end words) (λ it none. Reads reason.ParentIsFile none)
 reason_behind end word.Overlap words = then_reads (last_number end words) (λ n none. Reads (reason.Overlap n) none)

@@ -8,7 +8,8 @@ use Rattle.fam_history.specs.declared.refusals.RefusalWord.{RefusalWord}
 use Rattle.fam_history.specs.declared.refusals.RefusalWord.TheVariants as word
 use Rattle.fam_history.specs.declared.refusal.ToldRefusal.{ToldRefusal}
 use Rattle.fam_history.specs.declared.refusal.ToldRefusal.TheVariants as told
-use Rattle.fam_history.specs.Literals.{begins_with, behind_first, last_number, last_two, the_word}
+use Rattle.fam_history.specs.Faults.{numbered}
+use Rattle.fam_history.specs.Literals.{begins_with, behind_first, last_two, the_word}
 
 -- the refusals that a word begins
 unfoldable pub refusal_word : List ℕ → Option RefusalWord
@@ -51,14 +52,13 @@ too_line end words =
 abbrev pub bad_line : ℕ → List Word → Reading ToldRefusal
 bad_line end words =
     if begins_with (codes "geometry") words then then_reads (last_two end (behind_first words)) (λ p none. Reads (told.BadGeometry p.0 p.1) none)
-    else then_reads (word_of (the_word (codes "listing")) end words) (λ it rest. then_reads (last_number end rest) (λ n none. Reads (told.BadListing n) none))
+    else then_reads (numbered end (codes "listing") words) (λ n none. Reads (told.BadListing n) none)
 
 -- image: `too small`, and a number
 abbrev pub image_line : ℕ → List Word → Reading ToldRefusal
 image_line end words =
     then_reads (word_of (the_word (codes "too")) end words) (λ it rest.
-    then_reads (word_of (the_word (codes "small")) end rest) (λ it rest.
-    then_reads (last_number end rest) (λ n none. Reads (told.ImageSmall n) none)))
+    then_reads (numbered end (codes "small") rest) (λ n none. Reads (told.ImageSmall n) none))
 
 -- has: `superblock`, and a UUID
 abbrev pub has_line : ℕ → List Word → Reading ToldRefusal
@@ -68,15 +68,11 @@ has_line end words =
 
 -- copy: `limit`, and a number
 abbrev pub copy_line : ℕ → List Word → Reading ToldRefusal
-copy_line end words =
-    then_reads (word_of (the_word (codes "limit")) end words) (λ it rest.
-    then_reads (last_number end rest) (λ n none. Reads (told.CopyLimit n) none))
+copy_line end words = then_reads (numbered end (codes "limit") words) (λ n none. Reads (told.CopyLimit n) none)
 
 -- media: `fault`, and a number
 abbrev pub media_line : ℕ → List Word → Reading ToldRefusal
-media_line end words =
-    then_reads (word_of (the_word (codes "fault")) end words) (λ it rest.
-    then_reads (last_number end rest) (λ n none. Reads (told.MediaFault n) none))
+media_line end words = then_reads (numbered end (codes "fault") words) (λ n none. Reads (told.MediaFault n) none)
 
 -- the words behind the first one
 abbrev pub refusal_behind : ℕ → RefusalWord → List Word → Reading ToldRefusal

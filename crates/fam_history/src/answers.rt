@@ -2,14 +2,13 @@
 
 ghost use Rattle.std.specs.Prelude.{◌≡◌};
 ghost use Rattle.fam_grammar.specs.Cursor.{words_left, IsShort, Tells};
-ghost use Rattle.fam_history.specs.declared.answers.AnswerWord.TheVariants as word;
 ghost use Rattle.fam_grammar.specs.Reading.{word_of};
 ghost use Rattle.fam_history.specs.ByteWords.{one_byte};
 ghost use Rattle.fam_history.specs.Answers.{answer_behind, answer_line, answer_word, bad_answer, bytes_line, checked_line, checked_words, counted, differs_line, entry_line_of, fsck_line, is_line, length_line, no_answer, none_differs, not_line, path_line, path_or_none, some_path};
 
 use crate::answer::ToldAnswer;
 use crate::byte_words::{bytes_of, one_byte};
-use crate::faults::{is_a_file, kind_of, log_fault, numbered, reason, super_fault};
+use crate::faults::{is_a_file, last_kind, log_fault, numbered, reason, super_fault};
 use crate::literals::{last_number, last_two, literal, meaning, skip};
 use fam_base::Path;
 use fam_format::SuperFault;
@@ -294,16 +293,6 @@ fn fsck(words: &mut Words<'_>, line: Line) -> Result<ToldAnswer, LineFault>
     words.ended(line, ToldAnswer::Report(false))
 }
 
-fn exists(words: &mut Words<'_>, line: Line) -> Result<ToldAnswer, LineFault>
-    requires short { IsShort words.old }
-    ensures value { Tells line (words_left words.new) result (answer_behind line.end word.Exists (words_left words.old)) }
-    ensures short { IsShort words.new }
-{
-    let word = words.expected(line)?;
-    let kind = fitting(line, word.column, kind_of(word.text))?;
-    words.ended(line, ToldAnswer::NotAppended(Refused::Exists(kind)))
-}
-
 /// The words behind the first one.
 fn behind(
     alloc: Global,
@@ -320,7 +309,10 @@ fn behind(
         AnswerWord::Not => not(words, line),
         AnswerWord::Path => path(words, line),
         AnswerWord::Bad => bad(words, line),
-        AnswerWord::Exists => exists(words, line),
+        AnswerWord::Exists => {
+            let kind = last_kind(words, line)?;
+            Ok(ToldAnswer::NotAppended(Refused::Exists(kind)))
+        }
         AnswerWord::No => no(words, line),
         AnswerWord::Parent => {
             is_a_file(words, line)?;

@@ -2,8 +2,7 @@
 
 ghost use Rattle.std.specs.Prelude.{◌≡◌};
 ghost use Rattle.fam_grammar.specs.Cursor.{words_left, IsShort, Tells};
-ghost use Rattle.fam_history.specs.declared.faults.ReasonWord.TheVariants as word;
-ghost use Rattle.fam_history.specs.Faults.{is_a_file, kind_of, log_field_of, log_line, numbered, reason_behind, reason_line, reason_word, super_field_of, super_line};
+ghost use Rattle.fam_history.specs.Faults.{is_a_file, kind_of, last_kind, log_field_of, log_line, numbered, reason_behind, reason_line, reason_word, super_field_of, super_line};
 
 use crate::literals::{is, last_number, last_two, literal, meaning};
 use fam_base::Kind;
@@ -27,7 +26,7 @@ pub(crate) enum ReasonWord {
 }
 
 /// A kind, by its word.
-pub(crate) fn kind_of(word: &[u8]) -> Option<Kind>
+fn kind_of(word: &[u8]) -> Option<Kind>
     ensures { result ≡ kind_of word.now }
 {
     if is(word, "file") {
@@ -37,6 +36,17 @@ pub(crate) fn kind_of(word: &[u8]) -> Option<Kind>
     } else {
         None
     }
+}
+
+/// A kind, and no word behind it.
+pub(crate) fn last_kind(words: &mut Words<'_>, line: Line) -> Result<Kind, LineFault>
+    requires short { IsShort words.old }
+    ensures value { Tells line (words_left words.new) result (last_kind line.end (words_left words.old)) }
+    ensures short { IsShort words.new }
+{
+    let word = words.expected(line)?;
+    let kind = fitting(line, word.column, kind_of(word.text))?;
+    words.ended(line, kind)
 }
 
 /// The words of a superblock's fields.
@@ -155,17 +165,6 @@ pub(crate) fn is_a_file(words: &mut Words<'_>, line: Line) -> Result<(), LineFau
     words.ended(line, ())
 }
 
-/// A kind, and no word behind it.
-fn exists(words: &mut Words<'_>, line: Line) -> Result<Reason, LineFault>
-    requires short { IsShort words.old }
-    ensures value { Tells line (words_left words.new) result (reason_behind line.end word.Exists (words_left words.old)) }
-    ensures short { IsShort words.new }
-{
-    let word = words.expected(line)?;
-    let kind = fitting(line, word.column, kind_of(word.text))?;
-    words.ended(line, Reason::Exists(kind))
-}
-
 /// The words behind the first one.
 fn behind(first: ReasonWord, words: &mut Words<'_>, line: Line) -> Result<Reason, LineFault>
     requires short { IsShort words.old }
@@ -186,7 +185,7 @@ fn behind(first: ReasonWord, words: &mut Words<'_>, line: Line) -> Result<Reason
         ReasonWord::Path => words.ended(line, Reason::BadPath),
         ReasonWord::Map => words.ended(line, Reason::Map),
         ReasonWord::Rest => Ok(Reason::Rest(last_number(words, line)?)),
-        ReasonWord::Exists => exists(words, line),
+        ReasonWord::Exists => Ok(Reason::Exists(last_kind(words, line)?)),
         ReasonWord::No => {
             literal(words, line, "parent")?;
             words.ended(line, Reason::NoParent)

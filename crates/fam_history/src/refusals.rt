@@ -2,9 +2,10 @@
 
 ghost use Rattle.std.specs.Prelude.{◌≡◌};
 ghost use Rattle.fam_grammar.specs.Cursor.{words_left, IsShort, Tells};
-ghost use Rattle.fam_history.specs.Refusals.{bad_line, copy_line, has_line, image_line, media_line, no_line, refusal_behind, refusal_line, refusal_word, same_line, too_line};
+ghost use Rattle.fam_history.specs.Refusals.{bad_line, has_line, image_line, no_line, refusal_behind, refusal_line, refusal_word, same_line, too_line};
 
-use crate::literals::{last_number, last_two, literal, meaning, skip};
+use crate::faults::numbered;
+use crate::literals::{last_two, literal, meaning, skip};
 use crate::refusal::ToldRefusal;
 use fam_grammar::{Line, LineFault, Words, fitting};
 use std::alloc::Global;
@@ -102,8 +103,7 @@ fn bad(words: &mut Words<'_>, line: Line) -> Result<ToldRefusal, LineFault>
         let (unit, log) = last_two(words, line)?;
         return Ok(ToldRefusal::BadGeometry { unit, log });
     }
-    literal(words, line, "listing")?;
-    let at = last_number(words, line)?;
+    let at = numbered(words, line, "listing")?;
     Ok(ToldRefusal::BadListing(at))
 }
 
@@ -113,8 +113,7 @@ fn image(words: &mut Words<'_>, line: Line) -> Result<ToldRefusal, LineFault>
     ensures short { IsShort words.new }
 {
     literal(words, line, "too")?;
-    literal(words, line, "small")?;
-    let lines = last_number(words, line)?;
+    let lines = numbered(words, line, "small")?;
     Ok(ToldRefusal::ImageSmall(lines))
 }
 
@@ -126,26 +125,6 @@ fn has(words: &mut Words<'_>, line: Line) -> Result<ToldRefusal, LineFault>
     literal(words, line, "superblock")?;
     let uuid = words.uuid(line)?;
     words.ended(line, ToldRefusal::HasSuper(uuid))
-}
-
-fn copy(words: &mut Words<'_>, line: Line) -> Result<ToldRefusal, LineFault>
-    requires short { IsShort words.old }
-    ensures value { Tells line (words_left words.new) result (copy_line line.end (words_left words.old)) }
-    ensures short { IsShort words.new }
-{
-    literal(words, line, "limit")?;
-    let sum = last_number(words, line)?;
-    Ok(ToldRefusal::CopyLimit(sum))
-}
-
-fn media(words: &mut Words<'_>, line: Line) -> Result<ToldRefusal, LineFault>
-    requires short { IsShort words.old }
-    ensures value { Tells line (words_left words.new) result (media_line line.end (words_left words.old)) }
-    ensures short { IsShort words.new }
-{
-    literal(words, line, "fault")?;
-    let at = last_number(words, line)?;
-    Ok(ToldRefusal::MediaFault(at))
 }
 
 /// The words behind the first one.
@@ -180,8 +159,8 @@ fn behind(
             literal(words, line, "mounted")?;
             words.ended(line, ToldRefusal::NotMounted)
         }
-        RefusalWord::Copy => copy(words, line),
-        RefusalWord::Media => media(words, line),
+        RefusalWord::Copy => Ok(ToldRefusal::CopyLimit(numbered(words, line, "limit")?)),
+        RefusalWord::Media => Ok(ToldRefusal::MediaFault(numbered(words, line, "fault")?)),
     }
 }
 
