@@ -139,6 +139,15 @@ pub clean_unsent : {words : List ℕ} (state : Option Image) (line : ℕ) (copy 
 clean_unsent state line copy known is =
     absent_stays state line known ∙ sym (ap (λ (c : Cell). option_map (line_changed line (λ memory. sent memory (normal c))) state) is)
 
+-- nor are any words of it
+pub absent_unleaked : (state : Option Image) (line mask : ℕ) (copy : Cell) → IsNormal state → copy ≡ Absent → state ≡ option_map (line_changed line (λ memory. leaked mask memory (normal copy))) state
+absent_unleaked state line mask copy known is =
+    absent_stays state line known ∙ sym (ap (λ (c : Cell). option_map (line_changed line (λ memory. leaked mask memory (normal c))) state) is)
+
+pub clean_unleaked : {words : List ℕ} (state : Option Image) (line mask : ℕ) (copy : Cell) → IsNormal state → copy ≡ Clean words → state ≡ option_map (line_changed line (λ memory. leaked mask memory (normal copy))) state
+clean_unleaked state line mask copy known is =
+    absent_stays state line known ∙ sym (ap (λ (c : Cell). option_map (line_changed line (λ memory. leaked mask memory (normal c))) state) is)
+
 -- a send that was written
 pub dirty_sent : {a : Bool} {words : List ℕ} (state after : Option Image) (line : ℕ) (copy : Cell) → copy ≡ Dirty a words → after ≡ option_map (with_line line words) state → after ≡ option_map (line_changed line (λ memory. sent memory (normal copy))) state
 dirty_sent state after line copy is written =

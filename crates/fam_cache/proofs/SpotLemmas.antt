@@ -1,6 +1,5 @@
 -- Spots that need room, and those that don't.
-use Rattle.std.proofs.Common.{◌≡◌, ℕ, ◌/◌, true, false, List, Option, Some, None, Result, Ok, Err, refl, sym, ap, ◌∙◌}
-use Rattle.std.specs.Prelude.{OnErr, is_err}
+use Rattle.std.proofs.Common.{◌≡◌, ℕ, ◌/◌, true, false, List, Option, Some, None, refl, sym, ap, ◌∙◌}
 use Rattle.std.proofs.lemmas.Bool.{false≢true}
 use Rattle.fam_machine.specs.declared.cell.Cell.{Cell}
 use Rattle.fam_machine.specs.declared.cell.Cell.TheVariants.{Absent, Clean, Dirty}
@@ -9,11 +8,6 @@ use Rattle.fam_machine.specs.OneLine.{is_held, IsHeld, IsDirty}
 use Rattle.fam_cache.specs.declared.blocks.Block.{Block}
 use Rattle.fam_cache.specs.Blocks.{IsSpot, cache_of, is_gap}
 use Rattle.fam_cache.proofs.BlockLemmas.{cell_none}
-
--- what holds of an error holds where there is one
-pub when_err : {T E : Type 0} (r : Result T E) (P : Type 0) → OnErr r P → is_err r ≡ true → P
-when_err (Ok x) P on is = absurd cc
-when_err (Err e) P on is = on
 
 -- a dirty line is held
 pub dirty_held : (cell : Cell) → IsDirty cell → IsHeld cell

@@ -384,12 +384,12 @@ fn take_room(cache: &mut Blocks) -> Result<(), OutOfMemory>
     if cache.blocks.len() >= MOST_BLOCKS {
         return Err(OutOfMemory);
     }
-    if cache.blocks.reserve(1).is_err() {
+    let Ok(()) = cache.blocks.reserve(1) else {
         return Err(OutOfMemory);
-    }
-    if cache.areas.reserve(1).is_err() {
+    };
+    let Ok(()) = cache.areas.reserve(1) else {
         return Err(OutOfMemory);
-    }
+    };
     Ok(())
 }
 
@@ -409,12 +409,12 @@ pub(crate) fn reserve(cache: &mut Blocks, lines: usize) -> Result<(), OutOfMemor
     if lines > MOST_BLOCKS - cache.blocks.len() {
         return Err(OutOfMemory);
     }
-    if cache.blocks.reserve(lines).is_err() {
+    let Ok(()) = cache.blocks.reserve(lines) else {
         return Err(OutOfMemory);
-    }
-    if cache.areas.reserve(lines).is_err() {
+    };
+    let Ok(()) = cache.areas.reserve(lines) else {
         return Err(OutOfMemory);
-    }
+    };
     cache.room = lines;
     Ok(())
 }

@@ -25,17 +25,19 @@ ghost use Rattle.fam_cache.specs.Blocks.{AskedWithin, IsBlockOf, IsKept, IsSpot,
 ghost use Rattle.fam_cache.specs.Shed.{IsShed};
 
 mod bringing;
+mod dropping;
 mod rows;
 
 use crate::blocks::{
-    Blocks, absent_lines, ask_copy, copy, dirty_lines_of, drop_copy, empty, has_room, held_at,
-    held_line, held_word, lose_all, make_room, next_place, put_copy, reserve, seek, set_rest,
-    set_word, word_at,
+    Blocks, absent_lines, ask_copy, copy, dirty_lines_of, empty, has_room, held_at, held_line,
+    held_word, lose_all, make_room, next_place, put_copy, reserve, seek, set_rest, set_word,
+    word_at,
 };
-use crate::copies::{fetch_copy, leak_copy, send_copy};
+use crate::copies::fetch_copy;
 use crate::fault::{CacheFault, FenceFailed};
 use crate::renewal::{bring_block, renew_in_place};
 use crate::sending::send_asked;
+use dropping::{drop_line, leak_line};
 use fam_base::{Line, LineNo, Mask, OutOfMemory};
 use fam_machine::Cell;
 use fam_media::{Failed, Media, RunFailed};
@@ -92,9 +94,9 @@ fn bring_absent<M: Media>(
     ensures one { places.old.room ≤ places.new.room + 1 }
     ensures kept_room { OnErr result (places.new.room ≡ places.old.room) }
 {
-    if make_room(places, spot).is_err() {
+    let Ok(()) = make_room(places, spot) else {
         return Err(CacheFault::OutOfMemory);
-    }
+    };
     match media.read(line) {
         Ok(words) => Ok(put_copy(places, spot, line.0, Cell::Clean(words))),
         Err(_) => Err(CacheFault::Failed),
@@ -172,84 +174,13 @@ fn refresh<M: Media>(
     ensures kept_room { OnErr result (places.new.room ≡ places.old.room) }
 {
     let spot = seek(places, last, line.0);
-    if make_room(places, spot).is_err() {
+    let Ok(()) = make_room(places, spot) else {
         return Err(CacheFault::OutOfMemory);
-    }
+    };
     let held = copy(places, spot, line.0);
     match fetch_copy(held, media, line, mask) {
         Ok(fetched) => Ok(put_copy(places, spot, line.0, fetched)),
         Err(_) => Err(CacheFault::Failed),
-    }
-}
-
-/// Sends a dirty line to memory, and makes the line absent. Returns the place to remember.
-fn drop_line<M: Media>(
-    places: &mut Blocks,
-    last: usize,
-    media: &mut M,
-    line: LineNo,
-) -> Result<usize, Failed>
-    requires kept { IsKept places.old }
-    requires within { line.0 < M.size media.old }
-
-    ensures cache { OnOk result
-        (lines_of places.new ≡ with_cell line.0 Cell.Absent (lines_of places.old)) }
-    ensures memory { OnOk result ((M.state media.new).image ≡ option_map
-        (line_changed line.0 (λ memory. sent memory (cell_at (lines_of places.old) line.0)))
-        (M.state media.old).image) }
-    ensures err { OnErr result (lines_of places.new ≡ lines_of places.old) }
-    ensures torn { OnErr result (IfModelled (M.state media.old).image (λ image. FailsTo line.0
-        (λ through memory. failed_send through memory (cell_at (lines_of places.old) line.0))
-        image (M.state media.new).image)) }
-
-    ensures idle { ¬ (IsDirty (cell_at (lines_of places.old) line.0)) → IsOk result }
-    ensures same { ¬ (IsDirty (cell_at (lines_of places.old) line.0)) → media.new ≡ media.old }
-    ensures cause { HasCause (M.state media.old).faults (M.state media.new).faults result }
-    ensures counted { M.exact ≡ true → (M.state media.new).faults ≡ count_if (is_err result) (M.state media.old).faults }
-    ensures size { M.size media.new ≡ M.size media.old }
-    ensures kept { IsKept places.new }
-    ensures room { places.new.room ≡ places.old.room }
-{
-    let spot = seek(places, last, line.0);
-    let held = copy(places, spot, line.0);
-    match send_copy(held, media, line) {
-        Ok(()) => {
-            drop_copy(places, spot, line.0);
-            Ok(spot.unwrap_or(last))
-        }
-        Err(fault) => Err(fault),
-    }
-}
-
-/// Sends masked words of a dirty line to memory. Returns the place to remember.
-fn leak_line<M: Media>(
-    places: &Blocks,
-    last: usize,
-    media: &mut M,
-    line: LineNo,
-    mask: Mask,
-) -> Result<usize, Failed>
-    requires kept { IsKept places.now }
-    requires within { line.0 < M.size media.old }
-
-    ensures memory { OnOk result ((M.state media.new).image ≡ option_map
-        (line_changed line.0 (λ memory. leaked mask.0 memory (cell_at (lines_of places.now) line.0)))
-        (M.state media.old).image) }
-    ensures torn { OnErr result (IfModelled (M.state media.old).image (λ image. FailsTo line.0
-        (λ through memory. failed_leak mask.0 through memory (cell_at (lines_of places.now) line.0))
-        image (M.state media.new).image)) }
-
-    ensures idle { ¬ (IsDirty (cell_at (lines_of places.now) line.0)) → IsOk result }
-    ensures same { ¬ (IsDirty (cell_at (lines_of places.now) line.0)) → media.new ≡ media.old }
-    ensures cause { HasCause (M.state media.old).faults (M.state media.new).faults result }
-    ensures counted { M.exact ≡ true → (M.state media.new).faults ≡ count_if (is_err result) (M.state media.old).faults }
-    ensures size { M.size media.new ≡ M.size media.old }
-{
-    let spot = seek(places, last, line.0);
-    let held = copy(places, spot, line.0);
-    match leak_copy(held, media, line, mask) {
-        Ok(()) => Ok(spot.unwrap_or(last)),
-        Err(fault) => Err(fault),
     }
 }
 
@@ -369,9 +300,13 @@ impl HostCache {
         if let Some(value) = held_word(&self.places, self.last, line.0, word) {
             return Ok(value);
         }
-        let at = bring(&mut self.places, self.last, media, line)?;
-        self.last = at;
-        Ok(word_at(&self.places, at, line.0, word))
+        match bring(&mut self.places, self.last, media, line) {
+            Ok(at) => {
+                self.last = at;
+                Ok(word_at(&self.places, at, line.0, word))
+            }
+            Err(fault) => Err(fault),
+        }
     }
 
     /// Sets a word of a line, which is dirty then. An absent line is brought from memory first.
@@ -408,9 +343,14 @@ impl HostCache {
         ensures held_spare { IsHeld (cell_at self.old.lines line.0) → self.old.spare ≤ self.new.spare }
         ensures err_spare { OnErr result (self.old.spare ≤ self.new.spare) }
     {
-        self.last = bring(&mut self.places, self.last, media, line)?;
-        set_word(&mut self.places, self.last, line.0, word, value);
-        Ok(())
+        match bring(&mut self.places, self.last, media, line) {
+            Ok(at) => {
+                self.last = at;
+                set_word(&mut self.places, at, line.0, word, value);
+                Ok(())
+            }
+            Err(fault) => Err(fault),
+        }
     }
 
     /// The words of a line, where it is held and lies in the block of the last access. It asks nothing of memory.
@@ -539,12 +479,12 @@ impl HostCache {
         ensures spare { self.old.spare ≤ self.new.spare + 1 }
     {
         let spot = seek(&self.places, self.last, line.0);
-        if held_at(&self.places, spot, line.0).is_some() {
+        let None = held_at(&self.places, spot, line.0) else {
             return Ok(false);
-        }
-        if make_room(&mut self.places, spot).is_err() {
+        };
+        let Ok(()) = make_room(&mut self.places, spot) else {
             return Err(CacheFault::OutOfMemory);
-        }
+        };
         match media.write(line, words) {
             Ok(()) => {
                 self.last = spot.unwrap_or(self.last);
@@ -666,8 +606,13 @@ impl HostCache {
         ensures held_spare { IsHeld (cell_at self.old.lines line.0) → self.old.spare ≤ self.new.spare }
         ensures err_spare { OnErr result (self.old.spare ≤ self.new.spare) }
     {
-        self.last = refresh(&mut self.places, self.last, media, line, mask)?;
-        Ok(())
+        match refresh(&mut self.places, self.last, media, line, mask) {
+            Ok(at) => {
+                self.last = at;
+                Ok(())
+            }
+            Err(fault) => Err(fault),
+        }
     }
 
     /// Asks for a dirty line to be sent, and touches no memory.

@@ -102,7 +102,8 @@ pub(crate) fn leak_copy<M: Media>(
     ensures counted { M.exact ≡ true → (M.state media.new).faults ≡ count_if (is_err result) (M.state media.old).faults }
 {
     match copy {
-        Cell::Clean(_) | Cell::Absent => Ok(()),
+        Cell::Absent => Ok(()),
+        Cell::Clean(_) => Ok(()),
         Cell::Dirty { words, .. } => match media.read(line) {
             Ok(memory) => media.write(line, &masked_line(mask, &words, &memory)),
             Err(fault) => Err(fault),

@@ -3,7 +3,7 @@
 use fam_base::LineNo;
 
 /// Why a line could not be brought.
-#[derive(Clone, Copy, Debug, PartialEq, Eq)]
+#[derive(Clone, Copy)]
 pub enum CacheFault {
     /// The media failed.
     Failed,
@@ -12,11 +12,11 @@ pub enum CacheFault {
 }
 
 /// The media failed at this line, which a fence was to send.
-#[derive(Clone, Copy, Debug, PartialEq, Eq)]
+#[derive(Clone, Copy)]
 pub struct FenceFailed(pub LineNo);
 
 /// Why an operation of the machine's table was not done.
-#[derive(Clone, Copy, Debug, PartialEq, Eq)]
+#[derive(Clone, Copy)]
 pub enum OperationFault {
     /// The media failed at this line.
     MediaFault(LineNo),

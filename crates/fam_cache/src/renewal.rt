@@ -95,9 +95,9 @@ pub(crate) fn bring_block<M: Media>(
     ensures one { places.old.room ≤ places.new.room + 1 }
     ensures kept_room { OnErr result (places.new.room ≡ places.old.room) }
 {
-    if make_room(places, None).is_err() {
+    let Ok(()) = make_room(places, None) else {
         return Err(CacheFault::OutOfMemory);
-    }
+    };
     match media.read(line) {
         Ok(words) => {
             put_copy(places, None, line.0, Cell::Clean(words));

@@ -34,9 +34,9 @@ fn place_of_run(places: &mut Blocks, last: usize, first: u64, count: usize) -> O
         Some(at) if lacks_none(places, at, first, count) => Some(at),
         Some(_) => None,
         None => {
-            if make_room(places, None).is_err() {
+            let Ok(()) = make_room(places, None) else {
                 return None;
-            }
+            };
             Some(empty_block(places, first / 16))
         }
     }

@@ -2,7 +2,7 @@ use Rattle.std.proofs.Common.{◌∙◌, ap}
 use Rattle.std.specs.Prelude.{is_err}
 use Rattle.std.proofs.lemmas.Result.{on_ok_weaker, on_err_weaker}
 use Rattle.fam_media.specs.Plans.{count_if}
-use Rattle.fam_cache.proofs.MemoryLemmas.{leaked_image, torn_leak, unread_leak}
+use Rattle.fam_cache.proofs.MemoryLemmas.{absent_unleaked, clean_unleaked, leaked_image, torn_leak, unread_leak}
 use Rattle.fam_cache.proofs.copies.leak_copy.Goals as goal
 
 pub returns-in-Ok-clause-memory : goal.returns-in-Ok-clause-memory
@@ -24,3 +24,11 @@ returns-in-Err-clause-torn g c =
 
 pub returns-in-Ok-clause-counted : goal.returns-in-Ok-clause-counted
 returns-in-Ok-clause-counted g c = λ exact. c.write.ensures.counted exact ∙ ap (count_if (is_err c.write.result)) (c.in-Ok.ensures.counted exact)
+
+pub returns-in-Absent-clause-memory : goal.returns-in-Absent-clause-memory
+returns-in-Absent-clause-memory g c =
+    absent_unleaked (g.M.Media.state c.args.media.now).image c.args.line.0 c.args.mask.0 c.args.copy (g.met.M.Media.normal c.args.media.now) c.in-Absent.is
+
+pub returns-in-Clean-clause-memory : goal.returns-in-Clean-clause-memory
+returns-in-Clean-clause-memory g c =
+    clean_unleaked (g.M.Media.state c.args.media.now).image c.args.line.0 c.args.mask.0 c.args.copy (g.met.M.Media.normal c.args.media.now) c.in-Clean.is

@@ -1,4 +1,4 @@
-use Rattle.std.proofs.Common.{ℕ, ap, sym, subst, get_or, [], inl, inr, arith}
+use Rattle.std.proofs.Common.{ℕ, sym, subst, get_or, [], inl, inr, arith}
 use Rattle.std.proofs.lemmas.Bool.{cases_eq}
 use Rattle.fam_cache.specs.Blocks.{cell_in}
 use Rattle.fam_cache.specs.BroughtRuns.{IsClean}

@@ -11,8 +11,8 @@ use Rattle.fam_cache.proofs.cache.bringing.place_of_run.Goals as goal
 undirty : (cell : Cell) → cell ≡ Absent → ¬ (IsDirty cell)
 undirty cell is dirty = false≢true (subst IsDirty is dirty)
 
-pub returns-else-is_err-clause-none : goal.returns-else-is_err-clause-none
-returns-else-is_err-clause-none c = λ k below.
+pub returns-in-Ok-clause-none : goal.returns-in-Ok-clause-none
+returns-in-Ok-clause-none c = λ k below.
     undirty (cell_at (cache_of c.empty_block.new.cache.blocks.items) (c.args.first + k))
     (ap (λ (cache : Cache). cell_at cache (c.args.first + k)) (c.empty_block.ensures.same ∙ ap cache_of c.make_room.ensures.same)
     ∙ absent_within c.args.places.now.blocks.items c.args.first k c.in-None.ensures (omega (arith, below, c.if-count-first.false)))

@@ -1,4 +1,4 @@
-use Rattle.fam_cache.proofs.cache.leak_line.Goals as goal
+use Rattle.fam_cache.proofs.cache.dropping.drop_line.Goals as goal
 
 pub returns-in-Err-clause-torn : goal.returns-in-Err-clause-torn
 returns-in-Err-clause-torn g c = rw c.copy-held.ensures at c.in-Err.ensures.torn
