@@ -36,7 +36,7 @@ use fam_world::{World, WorldFault};
 use std::alloc::Global;
 
 /// What came of telling a host to begin what it is asked for.
-#[derive(Clone, Copy, Debug, PartialEq, Eq)]
+#[derive(Clone, Copy)]
 pub(crate) enum Asked {
     /// It is refused, and the journal says so.
     Refused,

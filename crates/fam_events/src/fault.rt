@@ -3,7 +3,7 @@
 use fam_sources::SourceEnd;
 
 /// Why nothing goes on behind an event.
-#[derive(Clone, Copy, Debug, PartialEq, Eq)]
+#[derive(Clone, Copy)]
 pub enum EventFault {
     /// The media failed while a file system was made. The journal says so.
     MkfsFailed,

@@ -29,3 +29,9 @@ returns-clause-same g c =
     subst (λ (r : Result (Unit {0}) EventFault). OnErr r ((h : ℕ) → number_in c.args.name.now c.args.world.now ≡ Some h → IsUnstoredAt h c.args.world.now
     → IfModelled (g.M.Media.state c.args.media.now).image (λ image. (g.M.Media.state c.conclude.new.media).image ≡ Some image))) (sym c.noted.ensures)
     (outcome_same c.conclude.result _ (λ e. (c.conclude.ensures.concluded.want e).same))
+
+pub returns-clause-untouched : goal.returns-clause-untouched
+returns-clause-untouched g c = c.conclude.ensures.untouched
+
+pub returns-clause-size : goal.returns-clause-size
+returns-clause-size g c = c.conclude.ensures.size

@@ -34,3 +34,9 @@ pub returns-in-None-clause-untouched : goal.returns-in-None-clause-untouched
 returns-in-None-clause-untouched g c =
     let r = c.args.request in
     subst (λ (halt : Option ℕ). IsUntouched (Makes c.args.name.now (mkfs_request r.fs r.unit r.log r.format r.force halt)) (g.M.Media.size c.args.media.now) c.args.world.now c.args.media.now c.mkfs.new.media) (sym c.in-None.is) c.mkfs.ensures.untouched
+
+pub returns-in-Some-clause-size : goal.returns-in-Some-clause-size
+returns-in-Some-clause-size g c = c.mkfs_cut.ensures.size
+
+pub returns-in-None-clause-size : goal.returns-in-None-clause-size
+returns-in-None-clause-size g c = c.mkfs.ensures.size

@@ -1,4 +1,4 @@
-use Rattle.std.proofs.Common.{refl, subst, sym}
+use Rattle.std.proofs.Common.{ap, le_refl, refl, subst, sym}
 use Rattle.fam_machine.specs.MkfsRequest.{mkfs_request}
 use Rattle.fam_media.specs.States.{change, ShelfChange}
 use Rattle.fam_journal.specs.declared.event.Event.{Event}
@@ -8,6 +8,7 @@ use Rattle.fam_machine.specs.HostMoves as how
 use Rattle.fam_events.specs.WorldChange.{WorldChange, world_change}
 use Rattle.fam_events.specs.Happens.{EventSays}
 use Rattle.fam_events.specs.Rested.{IsRun}
+use Rattle.fam_events.specs.Untouched.{IsUntouchedBy}
 use Rattle.fam_events.proofs.Events.{event_says, evict_call, fetch_call, finish_call, halt_call, host_call, leak_call, mkfs_call, stop_call, umount_call}
 use Rattle.fam_events.proofs.doing.happen.Goals as goal
 
@@ -116,3 +117,119 @@ returns-in-Fetch-clause-same g c = λ run. absurd (subst IsRun c.in-Fetch.is run
 
 pub returns-in-Run-clause-same : goal.returns-in-Run-clause-same
 returns-in-Run-clause-same g c = λ run. c.run.ensures.same
+
+pub returns-in-Host-clause-untouched : goal.returns-in-Host-clause-untouched
+returns-in-Host-clause-untouched g c =
+    subst (λ (e : Event). IsUntouchedBy e (g.M.Media.size c.args.media.now) c.args.world.now c.args.media.now c.args.media.now) (sym c.in-Host.is) refl
+
+pub returns-in-Host-clause-size : goal.returns-in-Host-clause-size
+returns-in-Host-clause-size g c = refl
+
+pub returns-in-Host-clause-steady : goal.returns-in-Host-clause-steady
+returns-in-Host-clause-steady g c = record { same = refl; faults_later = le_refl _; shorts_later = le_refl _ }
+
+pub returns-in-Mkfs-clause-untouched : goal.returns-in-Mkfs-clause-untouched
+returns-in-Mkfs-clause-untouched g c =
+    subst (λ (e : Event). IsUntouchedBy e (g.M.Media.size c.args.media.now) c.args.world.now c.args.media.now c.make.new.media) (sym c.in-Mkfs.is) c.make.ensures.untouched
+
+pub returns-in-Mkfs-clause-size : goal.returns-in-Mkfs-clause-size
+returns-in-Mkfs-clause-size g c = c.make.ensures.size
+
+pub returns-in-Mkfs-clause-steady : goal.returns-in-Mkfs-clause-steady
+returns-in-Mkfs-clause-steady g c = record { same = refl; faults_later = le_refl _; shorts_later = le_refl _ }
+
+pub returns-in-Begin-clause-untouched : goal.returns-in-Begin-clause-untouched
+returns-in-Begin-clause-untouched g c =
+    subst (λ (e : Event). IsUntouchedBy e (g.M.Media.size c.args.media.now) c.args.world.now c.args.media.now c.begin.new.media) (sym c.in-Begin.is) c.begin.ensures.same
+
+pub returns-in-Begin-clause-size : goal.returns-in-Begin-clause-size
+returns-in-Begin-clause-size g c = ap g.M.Media.size c.begin.ensures.same
+
+pub returns-in-Begin-clause-steady : goal.returns-in-Begin-clause-steady
+returns-in-Begin-clause-steady g c = c.begin.ensures.steady
+
+pub returns-in-Run-clause-size : goal.returns-in-Run-clause-size
+returns-in-Run-clause-size g c = c.run.ensures.size
+
+pub returns-in-Run-clause-steady : goal.returns-in-Run-clause-steady
+returns-in-Run-clause-steady g c = c.run.ensures.steady
+
+pub returns-in-Step-clause-untouched : goal.returns-in-Step-clause-untouched
+returns-in-Step-clause-untouched g c =
+    subst (λ (e : Event). IsUntouchedBy e (g.M.Media.size c.args.media.now) c.args.world.now c.args.media.now c.step.new.media) (sym c.in-Step.is) c.step.ensures.untouched
+
+pub returns-in-Step-clause-size : goal.returns-in-Step-clause-size
+returns-in-Step-clause-size g c = c.step.ensures.size
+
+pub returns-in-Step-clause-steady : goal.returns-in-Step-clause-steady
+returns-in-Step-clause-steady g c = record { same = refl; faults_later = le_refl _; shorts_later = le_refl _ }
+
+pub returns-in-Finish-clause-untouched : goal.returns-in-Finish-clause-untouched
+returns-in-Finish-clause-untouched g c =
+    subst (λ (e : Event). IsUntouchedBy e (g.M.Media.size c.args.media.now) c.args.world.now c.args.media.now c.finish.new.media) (sym c.in-Finish.is) c.finish.ensures.untouched
+
+pub returns-in-Finish-clause-size : goal.returns-in-Finish-clause-size
+returns-in-Finish-clause-size g c = c.finish.ensures.size
+
+pub returns-in-Finish-clause-steady : goal.returns-in-Finish-clause-steady
+returns-in-Finish-clause-steady g c = record { same = refl; faults_later = le_refl _; shorts_later = le_refl _ }
+
+pub returns-in-Stop-clause-untouched : goal.returns-in-Stop-clause-untouched
+returns-in-Stop-clause-untouched g c =
+    subst (λ (e : Event). IsUntouchedBy e (g.M.Media.size c.args.media.now) c.args.world.now c.args.media.now c.args.media.now) (sym c.in-Stop.is) refl
+
+pub returns-in-Stop-clause-size : goal.returns-in-Stop-clause-size
+returns-in-Stop-clause-size g c = refl
+
+pub returns-in-Stop-clause-steady : goal.returns-in-Stop-clause-steady
+returns-in-Stop-clause-steady g c = record { same = refl; faults_later = le_refl _; shorts_later = le_refl _ }
+
+pub returns-in-Halt-clause-untouched : goal.returns-in-Halt-clause-untouched
+returns-in-Halt-clause-untouched g c =
+    subst (λ (e : Event). IsUntouchedBy e (g.M.Media.size c.args.media.now) c.args.world.now c.args.media.now c.args.media.now) (sym c.in-Halt.is) refl
+
+pub returns-in-Halt-clause-size : goal.returns-in-Halt-clause-size
+returns-in-Halt-clause-size g c = refl
+
+pub returns-in-Halt-clause-steady : goal.returns-in-Halt-clause-steady
+returns-in-Halt-clause-steady g c = record { same = refl; faults_later = le_refl _; shorts_later = le_refl _ }
+
+pub returns-in-Umount-clause-untouched : goal.returns-in-Umount-clause-untouched
+returns-in-Umount-clause-untouched g c =
+    subst (λ (e : Event). IsUntouchedBy e (g.M.Media.size c.args.media.now) c.args.world.now c.args.media.now c.args.media.now) (sym c.in-Umount.is) refl
+
+pub returns-in-Umount-clause-size : goal.returns-in-Umount-clause-size
+returns-in-Umount-clause-size g c = refl
+
+pub returns-in-Umount-clause-steady : goal.returns-in-Umount-clause-steady
+returns-in-Umount-clause-steady g c = record { same = refl; faults_later = le_refl _; shorts_later = le_refl _ }
+
+pub returns-in-Evict-clause-untouched : goal.returns-in-Evict-clause-untouched
+returns-in-Evict-clause-untouched g c =
+    subst (λ (e : Event). IsUntouchedBy e (g.M.Media.size c.args.media.now) c.args.world.now c.args.media.now c.evict.new.media) (sym c.in-Evict.is) c.evict.ensures.untouched
+
+pub returns-in-Evict-clause-size : goal.returns-in-Evict-clause-size
+returns-in-Evict-clause-size g c = c.evict.ensures.size
+
+pub returns-in-Evict-clause-steady : goal.returns-in-Evict-clause-steady
+returns-in-Evict-clause-steady g c = record { same = refl; faults_later = le_refl _; shorts_later = le_refl _ }
+
+pub returns-in-Leak-clause-untouched : goal.returns-in-Leak-clause-untouched
+returns-in-Leak-clause-untouched g c =
+    subst (λ (e : Event). IsUntouchedBy e (g.M.Media.size c.args.media.now) c.args.world.now c.args.media.now c.leak.new.media) (sym c.in-Leak.is) c.leak.ensures.untouched
+
+pub returns-in-Leak-clause-size : goal.returns-in-Leak-clause-size
+returns-in-Leak-clause-size g c = c.leak.ensures.size
+
+pub returns-in-Leak-clause-steady : goal.returns-in-Leak-clause-steady
+returns-in-Leak-clause-steady g c = record { same = refl; faults_later = le_refl _; shorts_later = le_refl _ }
+
+pub returns-in-Fetch-clause-untouched : goal.returns-in-Fetch-clause-untouched
+returns-in-Fetch-clause-untouched g c =
+    subst (λ (e : Event). IsUntouchedBy e (g.M.Media.size c.args.media.now) c.args.world.now c.args.media.now c.fetch.new.media) (sym c.in-Fetch.is) c.fetch.ensures.untouched
+
+pub returns-in-Fetch-clause-size : goal.returns-in-Fetch-clause-size
+returns-in-Fetch-clause-size g c = c.fetch.ensures.size
+
+pub returns-in-Fetch-clause-steady : goal.returns-in-Fetch-clause-steady
+returns-in-Fetch-clause-steady g c = record { same = refl; faults_later = le_refl _; shorts_later = le_refl _ }

@@ -1,4 +1,4 @@
-use Rattle.std.proofs.Common.{◌≡◌, Some, Ok, Err, subst, ◌∙◌}
+use Rattle.std.proofs.Common.{◌≡◌, Some, Ok, Err, subst, ◌∙◌, refl}
 use Rattle.fam_media.specs.Outside.{IfModelled}
 use Rattle.fam_media.specs.States.{change, ShelfChange}
 use Rattle.fam_events.specs.Rested.{IsRested}
@@ -64,3 +64,21 @@ returns-in-Ok-Begun-clause-same g c =
 
 pub returns-in-Err-clause-same : goal.returns-in-Err-clause-same
 returns-in-Err-clause-same g c = λ rested. λ image is. is
+
+pub returns-in-Ok-Refused-clause-steady : goal.returns-in-Ok-Refused-clause-steady
+returns-in-Ok-Refused-clause-steady g c = c.ask.ensures.steady
+
+pub returns-in-Ok-Begun-clause-steady : goal.returns-in-Ok-Begun-clause-steady
+returns-in-Ok-Begun-clause-steady g c = c.ask.ensures.steady
+
+pub returns-in-Err-clause-steady : goal.returns-in-Err-clause-steady
+returns-in-Err-clause-steady g c = c.ask.ensures.steady
+
+pub returns-in-Ok-Refused-clause-size : goal.returns-in-Ok-Refused-clause-size
+returns-in-Ok-Refused-clause-size g c = refl
+
+pub returns-in-Ok-Begun-clause-size : goal.returns-in-Ok-Begun-clause-size
+returns-in-Ok-Begun-clause-size g c = c.finish.ensures.size
+
+pub returns-in-Err-clause-size : goal.returns-in-Err-clause-size
+returns-in-Err-clause-size g c = refl

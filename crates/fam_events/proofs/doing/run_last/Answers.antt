@@ -90,3 +90,33 @@ returns-in-Ok-Begun-clause-same g c =
 
 pub returns-in-Err-clause-same : goal.returns-in-Err-clause-same
 returns-in-Err-clause-same g c = λ rested. λ image is. is
+
+pub returns-in-Ok-Refused-clause-steady : goal.returns-in-Ok-Refused-clause-steady
+returns-in-Ok-Refused-clause-steady g c = c.ask.ensures.steady
+
+pub returns-in-Ok-Begun-clause-steady : goal.returns-in-Ok-Begun-clause-steady
+returns-in-Ok-Begun-clause-steady g c = c.ask.ensures.steady
+
+pub returns-in-Err-clause-steady : goal.returns-in-Err-clause-steady
+returns-in-Err-clause-steady g c = c.ask.ensures.steady
+
+pub returns-in-Ok-Refused-clause-size : goal.returns-in-Ok-Refused-clause-size
+returns-in-Ok-Refused-clause-size g c = refl
+
+pub returns-in-Ok-Begun-clause-size : goal.returns-in-Ok-Begun-clause-size
+returns-in-Ok-Begun-clause-size g c = c.conclude.ensures.size
+
+pub returns-in-Err-clause-size : goal.returns-in-Err-clause-size
+returns-in-Err-clause-size g c = refl
+
+pub returns-then-not-asks_to_read-clause-size : goal.returns-then-not-asks_to_read-clause-size
+returns-then-not-asks_to_read-clause-size g c = c.run.ensures.size
+
+pub returns-then-not-asks_to_read-clause-steady : goal.returns-then-not-asks_to_read-clause-steady
+returns-then-not-asks_to_read-clause-steady g c = c.run.ensures.steady
+
+pub returns-then-not-asks_to_read-clause-same : goal.returns-then-not-asks_to_read-clause-same
+returns-then-not-asks_to_read-clause-same g c = c.run.ensures.same
+
+pub returns-then-not-asks_to_read-clause-untouched : goal.returns-then-not-asks_to_read-clause-untouched
+returns-then-not-asks_to_read-clause-untouched g c = c.run.ensures.untouched
