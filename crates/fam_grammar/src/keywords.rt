@@ -44,9 +44,9 @@ pub(crate) fn is(word: &[u8], wanted: &str) -> bool
 }
 
 /// A word, and what it means.
-struct Keyword<T> {
-    text: &'static str,
-    means: T,
+pub struct Keyword<T> {
+    pub text: &'static str,
+    pub means: T,
 }
 
 /// The words of events.
@@ -142,7 +142,7 @@ const COMMANDS: [Keyword<CommandWord>; 9] = [
 ];
 
 /// What the first of these keywords that a word is means.
-fn meaning<T: Copy>(word: &[u8], keywords: &[Keyword<T>]) -> Option<T>
+pub fn meaning<T: Copy>(word: &[u8], keywords: &[Keyword<T>]) -> Option<T>
     ensures { result ≡ first_meaning word.now keywords.now }
 {
     for keyword in keywords {

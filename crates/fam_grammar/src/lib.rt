@@ -20,7 +20,7 @@ pub use commands::{attr_of, file_options, fill_of};
 pub use cursor::fitting;
 pub use defaults::{DEFAULT_LOG, DEFAULT_UNIT, DIRECTORY_MODE, FILE_MODE};
 pub use fault::LineFault;
-pub use keywords::CommandWord;
+pub use keywords::{CommandWord, Keyword, meaning};
 pub use laws::{uuids_of_a_script_are_uuids, what_reads_is_sound};
 pub use numbers::{number, size};
 pub use options::{FileOptions, Takes};

@@ -3,4 +3,3 @@ pub mod Lines
 pub mod Scripts
 pub mod Texts
 pub mod Statuses
-pub mod Meanings

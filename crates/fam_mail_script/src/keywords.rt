@@ -3,7 +3,8 @@
 ghost use Rattle.std.specs.Prelude.{◌≡◌};
 ghost use Rattle.std.specs.Str.{bytes_eq};
 ghost use Rattle.fam_mail_script.specs.Keywords.{mail_ask_word, mail_word};
-ghost use Rattle.fam_mail_script.specs.Meanings.{first_meaning};
+
+use fam_grammar::{Keyword, meaning};
 
 /// What an event does.
 #[derive(Clone, Copy)]
@@ -33,12 +34,6 @@ fn is(word: &[u8], wanted: &str) -> bool
     ensures { result ≡ bytes_eq word.now wanted.now }
 {
     word == wanted.as_bytes()
-}
-
-/// A word, and what it means.
-struct Keyword<T> {
-    text: &'static str,
-    means: T,
 }
 
 /// The words of events.
@@ -88,18 +83,6 @@ const EVENTS: [Keyword<EventWord>; 11] = [
         means: EventWord::Fetch,
     },
 ];
-
-/// What the first of these keywords that a word is means.
-fn meaning<T: Copy>(word: &[u8], keywords: &[Keyword<T>]) -> Option<T>
-    ensures { result ≡ first_meaning word.now keywords.now }
-{
-    for keyword in keywords {
-        if is(word, keyword.text) {
-            return Some(keyword.means);
-        }
-    }
-    None
-}
 
 /// The event of this name.
 #[tactic(auto, unfolding(crate::specs::Keywords::mail_word))]
