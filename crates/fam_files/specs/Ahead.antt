@@ -11,21 +11,21 @@ abbrev pub IsPastUpTo : ℕ → ℕ → ℕ → Type 0
 IsPastUpTo next end line = next < line → end ≤ next
 
 -- nothing is ahead that wasn't
-pub record IsWithin (old_next old_end next end : ℕ) : Type 0 where
+pub record HasNoMore (old_next old_end next end : ℕ) : Type 0 where
   pub first : old_next ≤ next
   pub last : end ≤ old_end
 
 -- behind a read of a line: neither it nor one before it is ahead any more, and behind the gate's none is
-pub record IsRead (next end line : ℕ) : Type 0 where
+pub record IsBehindRead (next end line : ℕ) : Type 0 where
   pub past : IsPastUpTo next end (line + 1)
   pub gate : line ≡ GATE_LINE → end ≤ next
 
 -- behind a write of a line: nothing is ahead that wasn't, and that line isn't
-pub record IsWritten (old_next old_end next end line : ℕ) : Type 0 where
-  pub within : IsWithin old_next old_end next end
+pub record IsBehindWrite (old_next old_end next end line : ℕ) : Type 0 where
+  pub within : HasNoMore old_next old_end next end
   pub past : IsPast next end line
 
 -- behind a write of the lines from `first` to `last`
-pub record AreWritten (old_next old_end next end first last : ℕ) : Type 0 where
-  pub within : IsWithin old_next old_end next end
+pub record AreBehindWrites (old_next old_end next end first last : ℕ) : Type 0 where
+  pub within : HasNoMore old_next old_end next end
   pub past : (line : ℕ) → first ≤ line → line < last → IsPast next end line

@@ -19,7 +19,7 @@ ghost use Rattle.std.specs.Prelude.{◌≡◌, ◌⊎◌, ◌≤◌, ◌<◌, �
 ghost use Rattle.fam_media.specs.Causes.{HasCause};
 ghost use Rattle.fam_media.specs.declared.media.TheConstants.{MOST_LINES};
 ghost use Rattle.fam_format.specs.declared.layout.TheConstants.{GATE_LINE};
-ghost use Rattle.fam_files.specs.Ahead.{AreWritten, IsPast, IsPastUpTo, IsRead, IsWritten};
+ghost use Rattle.fam_files.specs.Ahead.{AreBehindWrites, IsPast, IsPastUpTo, IsBehindRead, IsBehindWrite};
 
 use byteorder::{ByteOrder, LittleEndian};
 use fam_base::{Line, LineNo};
@@ -311,7 +311,7 @@ impl FileMedia {
     #[inline(never)]
     fn read_other(&mut self, line: u64) -> Result<(), Failed>
         requires within { line < MOST_LINES }
-        ensures ahead { IsRead self.new.next self.new.end line }
+        ensures ahead { IsBehindRead self.new.next self.new.end line }
         ensures lines { self.new.lines ≡ self.old.lines }
         ensures cause { HasCause self.old.faults self.new.faults result }
     {
@@ -410,7 +410,7 @@ impl FileMedia {
     /// Those of few lines that were read ahead aren't given any more, nor those before them.
     fn pass(&mut self, first: u64, end: u64)
         requires { first ≤ end }
-        ensures ahead { AreWritten self.old.next self.old.end self.new.next self.new.end first end }
+        ensures ahead { AreBehindWrites self.old.next self.old.end self.new.next self.new.end first end }
         ensures lines { self.new.lines ≡ self.old.lines }
         ensures faults { self.new.faults ≡ self.old.faults }
     {
@@ -424,7 +424,7 @@ impl FileMedia {
         requires within { first + length lines.now ≤ self.old.lines }
         requires few { length lines.now ≤ FEW_LINES }
         ensures before { IfErr result (λ failed. failed.done < length lines.now) }
-        ensures ahead { AreWritten self.old.next self.old.end self.new.next self.new.end first (first + length lines.now) }
+        ensures ahead { AreBehindWrites self.old.next self.old.end self.new.next self.new.end first (first + length lines.now) }
         ensures lines { self.new.lines ≡ self.old.lines }
         ensures cause { HasCause self.old.faults self.new.faults result }
     {
@@ -450,7 +450,7 @@ impl FileMedia {
     fn write_each(&mut self, first: u64, lines: &[Line]) -> Result<(), RunFailed>
         requires within { first + length lines.now ≤ self.old.lines }
         ensures before { IfErr result (λ failed. failed.done < length lines.now) }
-        ensures ahead { OnOk result (AreWritten self.old.next self.old.end self.new.next self.new.end first (first + length lines.now)) }
+        ensures ahead { OnOk result (AreBehindWrites self.old.next self.old.end self.new.next self.new.end first (first + length lines.now)) }
         ensures lines { self.new.lines ≡ self.old.lines }
         ensures cause { HasCause self.old.faults self.new.faults result }
     {
@@ -487,9 +487,9 @@ impl Media for FileMedia {
 
     ghost state = { λ media. record { image = None; faults = media.faults } };
 
-    ghost reads = { λ old line failed new. IsRead new.next new.end line };
+    ghost reads = { λ old line failed new. IsBehindRead new.next new.end line };
 
-    ghost writes = { λ old line words failed new. IsWritten old.next old.end new.next new.end line };
+    ghost writes = { λ old line words failed new. IsBehindWrite old.next old.end new.next new.end line };
 
     ghost normal = { λ m. tt };
 

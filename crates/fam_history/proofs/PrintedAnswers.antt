@@ -38,8 +38,8 @@ use Rattle.fam_outcomes.specs.Texts.{answer_text, byte_text, cause_text, fault_t
 use Rattle.fam_history.specs.declared.answer.ToldAnswer.{ToldAnswer}
 use Rattle.fam_history.specs.declared.answer.ToldAnswer.TheVariants as told
 use Rattle.fam_history.specs.Answers.{answer_line, answer_word, none_differs, path_or_none as reads_path}
-use Rattle.fam_history.specs.ByteWords.{bytes_of, paired}
-use Rattle.fam_history.specs.Faults.{kind_of, log_field_of, reason_line, reason_word, super_field_of}
+use Rattle.fam_history.specs.ByteWords.{bytes_of_word, paired}
+use Rattle.fam_history.specs.Faults.{kind_of_word, log_field_of, reason_line, reason_word, super_field_of}
 use Rattle.fam_history.specs.ToldAnswers.{IfTellingPath, IsTellingAnswer, IsTellingReason, answer_lines, answer_told, checked_told, first_told, path_told, told_answer_text}
 use Rattle.fam_history.proofs.Spaced.{eight, four, free, placed_words, seven, spaced, ten, uuid_back, uuid_is_word}
 
@@ -49,7 +49,7 @@ kind_is : (kind : Kind) → IsOneWord (kind_text kind)
 kind_is File = free (codes "file") refl
 kind_is Directory = free (codes "directory") refl
 
-kind_back : (kind : Kind) → kind_of (kind_text kind) ≡ Some kind
+kind_back : (kind : Kind) → kind_of_word (kind_text kind) ≡ Some kind
 kind_back File = refl
 kind_back Directory = refl
 
@@ -207,8 +207,8 @@ pairs_back (b ∷ bytes) all =
 no_dash : (a b : ℕ) (rest : List ℕ) → bytes_eq (a ∷ b ∷ rest) (45 ∷ []) ≡ false
 no_dash a b rest = elim (a == 45) as (λ t. (t && false) ≡ false) [ true ↦ refl | false ↦ refl ]
 
-bytes_back : (bytes : List ℕ) → AreBytes bytes → bytes_of (bytes_text bytes) ≡ Some bytes
-unfolding bytes_of
+bytes_back : (bytes : List ℕ) → AreBytes bytes → bytes_of_word (bytes_text bytes) ≡ Some bytes
+unfolding bytes_of_word
 bytes_back [] all = refl
 bytes_back (b ∷ bytes) all =
     ap (λ (t : Bool). cond t (Some []) (paired (flat_map byte_text (b ∷ bytes)))) (no_dash (hex_digit (b / 16)) (hex_digit (b % 16)) (flat_map byte_text bytes))

@@ -22,7 +22,7 @@ use Rattle.fam_outcomes.specs.Texts.{cmd_text}
 use Rattle.fam_history.specs.declared.command.ToldCommand.{ToldCommand}
 use Rattle.fam_history.specs.declared.command.ToldCommand.TheVariants as told
 use Rattle.fam_history.specs.Commands.{told_line}
-use Rattle.fam_history.specs.Told.{AreAlike, IfTellingStripe, IsTelling, IsTellingAttr, IsTellingFill, IsTellingStripe, told_of, told_text}
+use Rattle.fam_history.specs.Told.{AreAlikeCommands, IfTellingStripe, IsTelling, IsTellingAttr, IsTellingFill, IsTellingStripe, told_of_command, told_text}
 use Rattle.fam_history.proofs.CommandWords.{attr_words, gid_word, mode_word, more_words, name_word, seed_words, stripe_words, text_words, uid_word}
 
 -- Options.
@@ -146,7 +146,7 @@ module _ (end column : ℕ) where
       rw (path-escaped path is.0, size-decimal (length bytes) is.1, attr_read cp_takes at attr (stripe_words stripe) is.2, stripe_read false (past_attr at attr) attr None stripe is.3) refl
 
   verify_reads : (path : List ℕ) (against : Content) → IsTelling (Verify path against)
-      → told_line end (placed column (name_word (Verify path against) ∷ more_words (Verify path against))) ≡ Reads (told_of (Verify path against)) []
+      → told_line end (placed column (name_word (Verify path against) ∷ more_words (Verify path against))) ≡ Reads (told_of_command (Verify path against)) []
   unfolding told_line command_word
   verify_reads path content.Zero is = rw (path-escaped path is.0) refl
   verify_reads path (content.Seed seed) is = rw (path-escaped path is.0, number-decimal seed is.1) refl
@@ -163,7 +163,7 @@ module _ (end column : ℕ) where
   check_reads count small = rw (number-decimal count small) refl
 
   -- the words of a command's text read as what is told of it
-  words_read : (cmd : Cmd) → IsTelling cmd → told_line end (placed column (name_word cmd ∷ more_words cmd)) ≡ Reads (told_of cmd) []
+  words_read : (cmd : Cmd) → IsTelling cmd → told_line end (placed column (name_word cmd ∷ more_words cmd)) ≡ Reads (told_of_command cmd) []
   unfolding told_line command_word
   words_read Logplay is = refl
   words_read Mount is = refl
@@ -176,11 +176,11 @@ module _ (end column : ℕ) where
   words_read (Check entries) is = check_reads (length entries) is
 
 -- a command's text reads as what is told of it
-pub text_reads : (cmd : Cmd) (column end : ℕ) → IsTelling cmd → told_line end (words_from column (cmd_text cmd)) ≡ Reads (told_of cmd) []
+pub text_reads : (cmd : Cmd) (column end : ℕ) → IsTelling cmd → told_line end (words_from column (cmd_text cmd)) ≡ Reads (told_of_command cmd) []
 text_reads cmd column end is = ap (told_line end) (text_words column cmd is) ∙ words_read end column cmd is
 
 -- and what is told of it prints as its text
-pub told_prints : (cmd : Cmd) → told_text (told_of cmd) ≡ cmd_text cmd
+pub told_prints : (cmd : Cmd) → told_text (told_of_command cmd) ≡ cmd_text cmd
 told_prints Logplay = refl
 told_prints Mount = refl
 told_prints Fsck = refl
@@ -197,6 +197,6 @@ same_read : (a b : ToldCommand) (said : Reading ToldCommand) → said ≡ Reads 
 same_read a b said first second = cc
 
 -- commands of one text are alike
-pub one_text : (a b : Cmd) → IsTelling a → IsTelling b → cmd_text a ≡ cmd_text b → AreAlike a b
+pub one_text : (a b : Cmd) → IsTelling a → IsTelling b → cmd_text a ≡ cmd_text b → AreAlikeCommands a b
 one_text a b first second same =
-    same_read (told_of a) (told_of b) (told_line 0 (words_from 0 (cmd_text a))) (text_reads a 0 0 first) (ap (λ (text : List ℕ). told_line 0 (words_from 0 text)) same ∙ text_reads b 0 0 second)
+    same_read (told_of_command a) (told_of_command b) (told_line 0 (words_from 0 (cmd_text a))) (text_reads a 0 0 first) (ap (λ (text : List ℕ). told_line 0 (words_from 0 text)) same ∙ text_reads b 0 0 second)

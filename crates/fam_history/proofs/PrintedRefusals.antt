@@ -10,7 +10,7 @@ use Rattle.fam_grammar.proofs.Joined.{AreWords, IsOneWord, placed}
 use Rattle.fam_grammar.proofs.Respelled.{decimal_word, number-decimal}
 use Rattle.fam_outcomes.specs.Texts.{host_name, refusal_text}
 use Rattle.fam_history.specs.Refusals.{refusal_line, refusal_word}
-use Rattle.fam_history.specs.ToldRefusals.{IsTellingRefusal, refusal_told}
+use Rattle.fam_history.specs.ToldRefusals.{IsTellingRefusal, told_of_refusal}
 use Rattle.fam_history.proofs.Spaced.{file_back, file_is_word, free, name_back, name_is_word, placed_words, spaced, uuid_back, uuid_is_word}
 
 -- the first word of a refusal
@@ -112,7 +112,7 @@ more_are names (why.BadListing at) is = (free (codes "listing") refl, (decimal_w
 more_are names (why.MediaFault at) is = (free (codes "fault") refl, (decimal_word at.0 is, tt))
 
 words_read : (names : List (List ℕ)) (cause : Refusal) (column end : ℕ) → IsTellingRefusal names cause
-    → refusal_line end (placed column (first_of cause ∷ more_of names cause)) ≡ Reads (refusal_told names cause) []
+    → refusal_line end (placed column (first_of cause ∷ more_of names cause)) ≡ Reads (told_of_refusal names cause) []
 unfolding refusal_line refusal_word
 words_read names why.NoHost column end is = refl
 words_read names (why.SameHost host) column end is = rw (name_back (host_name names host.0) is) refl
@@ -134,7 +134,7 @@ words_read names (why.MediaFault at) column end is = rw (number-decimal at.0 is)
 
 -- a refusal's text reads as what is told of it
 pub refusal_reads : (names : List (List ℕ)) (cause : Refusal) (column end : ℕ) → IsTellingRefusal names cause
-    → refusal_line end (words_from column (refusal_text names cause)) ≡ Reads (refusal_told names cause) []
+    → refusal_line end (words_from column (refusal_text names cause)) ≡ Reads (told_of_refusal names cause) []
 refusal_reads names cause column end is =
     ap (refusal_line end) (placed_words column (refusal_text names cause) (first_of cause) (more_of names cause) (text_spaced names cause) (first_is cause, more_are names cause is))
     ∙ words_read names cause column end is

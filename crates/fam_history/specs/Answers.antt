@@ -12,8 +12,8 @@ use Rattle.fam_history.specs.declared.answers.AnswerWord.{AnswerWord}
 use Rattle.fam_history.specs.declared.answers.AnswerWord.TheVariants as word
 use Rattle.fam_history.specs.declared.answer.ToldAnswer.{ToldAnswer}
 use Rattle.fam_history.specs.declared.answer.ToldAnswer.TheVariants as told
-use Rattle.fam_history.specs.ByteWords.{bytes_of, one_byte}
-use Rattle.fam_history.specs.Faults.{is_a_file, last_kind, log_line, numbered, reason_line, super_line}
+use Rattle.fam_history.specs.ByteWords.{bytes_of_word, one_byte}
+use Rattle.fam_history.specs.Faults.{is_a_file, last_kind, log_fault_line, numbered, reason_line, super_line}
 use Rattle.fam_history.specs.Literals.{begins_with, behind_first, last_number, last_two, the_word}
 
 -- the answers that a word begins
@@ -65,7 +65,7 @@ abbrev pub bad_answer : ℕ → List Word → Reading ToldAnswer
 bad_answer end words =
     if begins_with (codes "stripe") words then ends_with (told.NotAppended cause.BadStripe) (behind_first words)
     else if begins_with (codes "superblock") words then then_reads (super_line end (behind_first words)) (λ fault none. Reads (told.NoSuperblock fault) none)
-    else if begins_with (codes "log") words then then_reads (log_line end (behind_first words)) (λ fault none. Reads (told.BadHeader fault) none)
+    else if begins_with (codes "log") words then then_reads (log_fault_line end (behind_first words)) (λ fault none. Reads (told.BadHeader fault) none)
     else then_reads (word_of (the_word (codes "entry")) end words) (λ it rest. entry_line_of end rest)
 
 -- no: `parent`, `superblock` and the word there, or `space` and a number
@@ -94,7 +94,7 @@ length_line end words =
 abbrev pub bytes_line : ℕ → List Word → Reading ToldAnswer
 bytes_line end words =
     then_reads (word_of number_of_text end words) (λ m rest.
-    then_reads (word_of bytes_of end rest) (λ bytes. ends_with (told.Bytes m bytes)))
+    then_reads (word_of bytes_of_word end rest) (λ bytes. ends_with (told.Bytes m bytes)))
 
 -- is: `a directory`, and a number
 abbrev pub is_line : ℕ → List Word → Reading ToldAnswer
@@ -103,8 +103,8 @@ is_line end words =
     then_reads (numbered end (codes "directory") rest) (λ n none. Reads (told.IsDirectory n) none))
 
 -- a number behind a word
-abbrev pub counted : ℕ → List ℕ → List Word → Reading ℕ
-counted end wanted words = then_reads (word_of (the_word wanted) end words) (λ it. word_of number_of_text end)
+abbrev pub counted_word : ℕ → List ℕ → List Word → Reading ℕ
+counted_word end wanted words = then_reads (word_of (the_word wanted) end words) (λ it. word_of number_of_text end)
 
 -- no path differs
 abbrev pub none_differs : ℕ → ℕ → ℕ → Bool
@@ -122,9 +122,9 @@ path_or_none end false words = some_path end words
 -- how a tree differs: `missing`, `extra` and `changed` with a number each, and `first` with a path
 abbrev pub checked_words : ℕ → List Word → Reading Checked
 checked_words end words =
-    then_reads (counted end (codes "missing") words) (λ missing rest.
-    then_reads (counted end (codes "extra") rest) (λ extra rest.
-    then_reads (counted end (codes "changed") rest) (λ changed rest.
+    then_reads (counted_word end (codes "missing") words) (λ missing rest.
+    then_reads (counted_word end (codes "extra") rest) (λ extra rest.
+    then_reads (counted_word end (codes "changed") rest) (λ changed rest.
     then_reads (word_of (the_word (codes "first")) end rest) (λ it rest.
     then_reads (path_or_none end (none_differs missing extra changed) rest) (λ first. ends_with (record { missing = missing; extra = extra; changed = changed; first = first }))))))
 

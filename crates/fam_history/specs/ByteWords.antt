@@ -17,5 +17,5 @@ paired (a ∷ []) = None
 paired (a ∷ b ∷ rest) = in_prefix_of (byte_of a b) (paired rest)
 
 -- the bytes of a word
-unfoldable pub bytes_of : List ℕ → Option (List ℕ)
-bytes_of word = if bytes_eq word (codes "-") then Some [] else paired word
+unfoldable pub bytes_of_word : List ℕ → Option (List ℕ)
+bytes_of_word word = if bytes_eq word (codes "-") then Some [] else paired word

@@ -20,15 +20,15 @@ use Rattle.fam_history.specs.declared.faults.ReasonWord.TheVariants as word
 use Rattle.fam_history.specs.Literals.{last_number, last_two, the_word}
 
 -- a kind, by its word
-abbrev pub kind_of : List ℕ → Option Kind
-kind_of text =
+abbrev pub kind_of_word : List ℕ → Option Kind
+kind_of_word text =
     if bytes_eq text (codes "file") then Some File
     else if bytes_eq text (codes "directory") then Some Directory
     else None
 
 -- a kind, and no word behind it
 abbrev pub last_kind : ℕ → List Word → Reading Kind
-last_kind end words = then_reads (word_of kind_of end words) ends_with
+last_kind end words = then_reads (word_of kind_of_word end words) ends_with
 
 -- a field of a superblock
 unfoldable pub super_field_of : List ℕ → Option SuperField
@@ -78,8 +78,8 @@ super_line end words =
     then_reads (last_two end rest) (λ p none. Reads (BadSuper f p.0 p.1) none))
 
 -- so of a log
-abbrev pub log_line : ℕ → List Word → Reading LogFault
-log_line end words =
+abbrev pub log_fault_line : ℕ → List Word → Reading LogFault
+log_fault_line end words =
     then_reads (word_of log_field_of end words) (λ f rest.
     then_reads (last_two end rest) (λ p none. Reads (BadLog f p.0 p.1) none))
 

@@ -10,9 +10,9 @@ abbrev pub the_word : List ℕ → List ℕ → Option (Unit {0})
 the_word wanted word = if bytes_eq word wanted then Some tt else None
 
 -- what the first of these keywords that a word is means
-abbrev pub first_meaning : {K T : Type 0} → List K → (K → List ℕ) → (K → T) → List ℕ → Option T
-first_meaning [] text means word = None
-first_meaning (keyword ∷ more) text means word = if bytes_eq word (text keyword) then Some (means keyword) else first_meaning more text means word
+abbrev pub meaning_by : {K T : Type 0} → List K → (K → List ℕ) → (K → T) → List ℕ → Option T
+meaning_by [] text means word = None
+meaning_by (keyword ∷ more) text means word = if bytes_eq word (text keyword) then Some (means keyword) else meaning_by more text means word
 
 -- the first word is this one
 abbrev pub begins_with : List ℕ → List Word → Bool

@@ -12,18 +12,18 @@ use Rattle.fam_rules.specs.declared.answers.SuperState.TheVariants as superblock
 use Rattle.fam_grammar.specs.Numbers.{number_of_text}
 use Rattle.fam_grammar.specs.Reading.{Reading, Reads, ends_with, then_reads, word_of}
 use Rattle.fam_grammar.specs.Words.{Word}
-use Rattle.fam_history.specs.Answers.{counted}
-use Rattle.fam_history.specs.Faults.{log_line, numbered, reason_line, super_line}
+use Rattle.fam_history.specs.Answers.{counted_word}
+use Rattle.fam_history.specs.Faults.{log_fault_line, numbered, reason_line, super_line}
 use Rattle.fam_history.specs.Literals.{begins_with, behind_first, last_two, the_word}
 
 -- what a fault says of the superblock
-abbrev pub super_state : SuperFault → SuperState
-super_state (NoSuper word) = superblock.NoSuper word
-super_state (BadSuper f found wanted) = superblock.BadSuper f found wanted
+abbrev pub super_state_line : SuperFault → SuperState
+super_state_line (NoSuper word) = superblock.NoSuper word
+super_state_line (BadSuper f found wanted) = superblock.BadSuper f found wanted
 
 -- what a fault says of the log
-abbrev pub log_state : LogFault → LogState
-log_state (BadLog f found wanted) = log.BadLog f found wanted
+abbrev pub log_state_line : LogFault → LogState
+log_state_line (BadLog f found wanted) = log.BadLog f found wanted
 
 -- `superblock sound`, or its fault
 abbrev pub superblock_line : ℕ → List Word → Reading SuperState
@@ -33,7 +33,7 @@ superblock_line end words =
     else
     then_reads (word_of (the_word (codes "bad")) end words) (λ it rest.
     then_reads (word_of (the_word (codes "superblock")) end rest) (λ it rest.
-    then_reads (super_line end rest) (λ fault none. Reads (super_state fault) none)))
+    then_reads (super_line end rest) (λ fault none. Reads (super_state_line fault) none)))
 
 -- a number, `of` and another
 abbrev pub one_of : ℕ → List Word → Reading LogState
@@ -52,20 +52,20 @@ abbrev pub log_state_line : ℕ → List Word → Reading LogState
 log_state_line end words =
     if begins_with (codes "bad") words then
     then_reads (word_of (the_word (codes "log")) end (behind_first words)) (λ it rest.
-    then_reads (log_line end rest) (λ fault none. Reads (log_state fault) none))
+    then_reads (log_fault_line end rest) (λ fault none. Reads (log_state_line fault) none))
     else then_reads (word_of (the_word (codes "log")) end words) (λ it. log_behind end)
 
 -- files and directories
 abbrev pub files_line : ℕ → List Word → Reading (ℕ × ℕ)
 files_line end words =
-    then_reads (counted end (codes "files") words) (λ files rest.
+    then_reads (counted_word end (codes "files") words) (λ files rest.
     then_reads (numbered end (codes "directories") rest) (λ directories none. Reads (files, directories) none))
 
 -- units that are used, and that are free
 abbrev pub units_line : ℕ → List Word → Reading (ℕ × ℕ)
 units_line end words =
     then_reads (word_of (the_word (codes "units")) end words) (λ it rest.
-    then_reads (counted end (codes "used") rest) (λ used rest.
+    then_reads (counted_word end (codes "used") rest) (λ used rest.
     then_reads (numbered end (codes "free") rest) (λ free none. Reads (used, free) none)))
 
 -- two numbers, or `none`

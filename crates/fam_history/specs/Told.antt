@@ -21,20 +21,20 @@ verify_of path (content.Seed seed) = told.Plain (Verify path (content.Seed seed)
 verify_of path (content.Bytes bytes) = told.VerifySource path (length bytes)
 
 -- what is told of a command
-abbrev pub told_of : Cmd → ToldCommand
-told_of Logplay = told.Plain Logplay
-told_of Mount = told.Plain Mount
-told_of Fsck = told.Plain Fsck
-told_of (Mkdir path attr) = told.Plain (Mkdir path attr)
-told_of (Creat path size attr stripe fill) = told.Plain (Creat path size attr stripe fill)
-told_of (Cp path attr stripe bytes) = told.Cp path (length bytes) attr stripe
-told_of (Verify path against) = verify_of path against
-told_of (Read path offset count) = told.Plain (Read path offset count)
-told_of (Check entries) = told.Check (length entries)
+abbrev pub told_of_command : Cmd → ToldCommand
+told_of_command Logplay = told.Plain Logplay
+told_of_command Mount = told.Plain Mount
+told_of_command Fsck = told.Plain Fsck
+told_of_command (Mkdir path attr) = told.Plain (Mkdir path attr)
+told_of_command (Creat path size attr stripe fill) = told.Plain (Creat path size attr stripe fill)
+told_of_command (Cp path attr stripe bytes) = told.Cp path (length bytes) attr stripe
+told_of_command (Verify path against) = verify_of path against
+told_of_command (Read path offset count) = told.Plain (Read path offset count)
+told_of_command (Check entries) = told.Check (length entries)
 
 -- two commands are the same but for bytes
-abbrev pub AreAlike : Cmd → Cmd → Type 0
-AreAlike a b = told_of a ≡ told_of b
+abbrev pub AreAlikeCommands : Cmd → Cmd → Type 0
+AreAlikeCommands a b = told_of_command a ≡ told_of_command b
 
 -- the text of what is told
 abbrev pub told_text : ToldCommand → List ℕ

@@ -11,24 +11,24 @@ use Rattle.fam_history.specs.declared.refusal.ToldRefusal.{ToldRefusal}
 use Rattle.fam_history.specs.declared.refusal.ToldRefusal.TheVariants as told
 
 -- what is told of a refusal
-abbrev pub refusal_told : List (List ℕ) → Refusal → ToldRefusal
-refusal_told names why.NoHost = told.NoHost
-refusal_told names (why.SameHost host) = told.SameHost (host_name names host.0)
-refusal_told names why.TooManyHosts = told.TooManyHosts
-refusal_told names (why.BadGeometry unit log) = told.BadGeometry unit log
-refusal_told names (why.TooSmall need have) = told.TooSmall need have
-refusal_told names (why.ImageSmall lines) = told.ImageSmall lines
-refusal_told names (why.Busy host) = told.Busy (host_name names host.0)
-refusal_told names (why.Dirty host) = told.Dirty (host_name names host.0)
-refusal_told names (why.HasSuper uuid) = told.HasSuper uuid
-refusal_told names why.Idle = told.Idle
-refusal_told names why.Mounted = told.Mounted
-refusal_told names why.NotMounted = told.NotMounted
-refusal_told names (why.NoLine at lines) = told.NoLine at lines
-refusal_told names (why.NoFile name) = told.NoFile name
-refusal_told names (why.CopyLimit sum) = told.CopyLimit sum
-refusal_told names (why.BadListing at) = told.BadListing at
-refusal_told names (why.MediaFault at) = told.MediaFault at.0
+abbrev pub told_of_refusal : List (List ℕ) → Refusal → ToldRefusal
+told_of_refusal names why.NoHost = told.NoHost
+told_of_refusal names (why.SameHost host) = told.SameHost (host_name names host.0)
+told_of_refusal names why.TooManyHosts = told.TooManyHosts
+told_of_refusal names (why.BadGeometry unit log) = told.BadGeometry unit log
+told_of_refusal names (why.TooSmall need have) = told.TooSmall need have
+told_of_refusal names (why.ImageSmall lines) = told.ImageSmall lines
+told_of_refusal names (why.Busy host) = told.Busy (host_name names host.0)
+told_of_refusal names (why.Dirty host) = told.Dirty (host_name names host.0)
+told_of_refusal names (why.HasSuper uuid) = told.HasSuper uuid
+told_of_refusal names why.Idle = told.Idle
+told_of_refusal names why.Mounted = told.Mounted
+told_of_refusal names why.NotMounted = told.NotMounted
+told_of_refusal names (why.NoLine at lines) = told.NoLine at lines
+told_of_refusal names (why.NoFile name) = told.NoFile name
+told_of_refusal names (why.CopyLimit sum) = told.CopyLimit sum
+told_of_refusal names (why.BadListing at) = told.BadListing at
+told_of_refusal names (why.MediaFault at) = told.MediaFault at.0
 
 -- a file's name in bytes
 pub record IsTellingName (name : List ℕ) : Type 0 where

@@ -4,7 +4,7 @@ ghost use Rattle.std.specs.Prelude.{◌≡◌};
 ghost use Rattle.fam_grammar.specs.Cursor.{words_left, IsShort, Tells};
 ghost use Rattle.fam_grammar.specs.Reading.{word_of};
 ghost use Rattle.fam_history.specs.ByteWords.{one_byte};
-ghost use Rattle.fam_history.specs.Answers.{answer_behind, answer_line, answer_word, bad_answer, bytes_line, checked_line, checked_words, counted, differs_line, entry_line_of, fsck_line, is_line, length_line, no_answer, none_differs, not_line, path_line, path_or_none, some_path};
+ghost use Rattle.fam_history.specs.Answers.{answer_behind, answer_line, answer_word, bad_answer, bytes_line, checked_line, checked_words, counted_word, differs_line, entry_line_of, fsck_line, is_line, length_line, no_answer, none_differs, not_line, path_line, path_or_none, some_path};
 
 use crate::answer::ToldAnswer;
 use crate::byte_words::{bytes_of, one_byte};
@@ -212,7 +212,7 @@ fn directory(words: &mut Words<'_>, line: Line) -> Result<ToldAnswer, LineFault>
 /// A number behind a word.
 pub(crate) fn counted(words: &mut Words<'_>, line: Line, wanted: &str) -> Result<u64, LineFault>
     requires short { IsShort words.old }
-    ensures value { Tells line (words_left words.new) result (counted line.end wanted.now (words_left words.old)) }
+    ensures value { Tells line (words_left words.new) result (counted_word line.end wanted.now (words_left words.old)) }
     ensures short { IsShort words.new }
 {
     literal(words, line, wanted)?;

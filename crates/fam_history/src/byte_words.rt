@@ -2,7 +2,7 @@
 
 ghost use Rattle.std.specs.Prelude.{◌≡◌, ◌<◌, IfOk, IfSome, MatchOption, length, option_map};
 ghost use Rattle.fam_grammar.specs.Spellings.{byte_of, in_prefix};
-ghost use Rattle.fam_history.specs.ByteWords.{bytes_of, one_byte, paired};
+ghost use Rattle.fam_history.specs.ByteWords.{bytes_of_word, one_byte, paired};
 ghost use Rattle.uuid.specs.Text.{hex_digit_value};
 
 use crate::literals::is;
@@ -70,9 +70,9 @@ fn paired(alloc: Global, word: &[u8]) -> Result<Option<Vec<u8>>, OutOfMemory>
 }
 
 /// The bytes of a word.
-#[tactic(auto, unfolding(crate::specs::ByteWords::bytes_of))]
+#[tactic(auto, unfolding(crate::specs::ByteWords::bytes_of_word))]
 pub(crate) fn bytes_of(alloc: Global, word: &[u8]) -> Result<Option<SharedBytes>, OutOfMemory>
-    ensures { IfOk result (λ b. b ≡ bytes_of word.now) }
+    ensures { IfOk result (λ b. b ≡ bytes_of_word word.now) }
 {
     if is(word, "-") {
         return Ok(Some(SharedBytes::new(alloc, Vec::new(alloc))?));

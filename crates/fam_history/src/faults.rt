@@ -2,7 +2,7 @@
 
 ghost use Rattle.std.specs.Prelude.{◌≡◌};
 ghost use Rattle.fam_grammar.specs.Cursor.{words_left, IsShort, Tells};
-ghost use Rattle.fam_history.specs.Faults.{is_a_file, kind_of, last_kind, log_field_of, log_line, numbered, reason_behind, reason_line, reason_word, super_field_of, super_line};
+ghost use Rattle.fam_history.specs.Faults.{is_a_file, kind_of_word, last_kind, log_field_of, log_fault_line, numbered, reason_behind, reason_line, reason_word, super_field_of, super_line};
 
 use crate::literals::{is, last_number, last_two, literal, meaning};
 use fam_base::Kind;
@@ -27,7 +27,7 @@ pub(crate) enum ReasonWord {
 
 /// A kind, by its word.
 fn kind_of(word: &[u8]) -> Option<Kind>
-    ensures { result ≡ kind_of word.now }
+    ensures { result ≡ kind_of_word word.now }
 {
     if is(word, "file") {
         Some(Kind::File)
@@ -130,7 +130,7 @@ pub(crate) fn super_fault(words: &mut Words<'_>, line: Line) -> Result<SuperFaul
 /// A log's field, what was found and what was wanted.
 pub(crate) fn log_fault(words: &mut Words<'_>, line: Line) -> Result<LogFault, LineFault>
     requires short { IsShort words.old }
-    ensures value { Tells line (words_left words.new) result (log_line line.end (words_left words.old)) }
+    ensures value { Tells line (words_left words.new) result (log_fault_line line.end (words_left words.old)) }
     ensures short { IsShort words.new }
 {
     let word = words.expected(line)?;

@@ -8,11 +8,11 @@ ghost use Rattle.fam_rules.specs.Checks.{checked};
 ghost use Rattle.fam_grammar.specs.Reading.{Reads};
 ghost use Rattle.fam_grammar.specs.Words.{words_from};
 ghost use Rattle.fam_history.specs.Commands.{told_line};
-ghost use Rattle.fam_history.specs.Told.{AreAlike, IsTelling, told_of, told_text};
+ghost use Rattle.fam_history.specs.Told.{AreAlikeCommands, IsTelling, told_of_command, told_text};
 ghost use Rattle.fam_history.specs.Answers.{answer_line};
 ghost use Rattle.fam_history.specs.Refusals.{refusal_line};
 ghost use Rattle.fam_history.specs.ToldAnswers.{IsTellingAnswer, answer_lines, answer_told, checked_told, told_answer_text};
-ghost use Rattle.fam_history.specs.ToldRefusals.{IsTellingRefusal, refusal_told};
+ghost use Rattle.fam_history.specs.ToldRefusals.{IsTellingRefusal, told_of_refusal};
 ghost use Rattle.fam_history.specs.declared.answer.ToldAnswer.{ToldAnswer};
 ghost use Rattle.fam_journal.specs.Notes.{Answer};
 ghost use Rattle.fam_journal.specs.declared.refusal.Refusal.{Refusal};
@@ -28,15 +28,15 @@ ghost use Rattle.fam_rules.specs.declared.answers.SuperState.{SuperState};
 /// more.
 pub fn a_printed_command_reads()
     ensures reads { (cmd : Cmd) (column end : ℕ) → IsTelling cmd
-        → told_line end (words_from column (cmd_text cmd)) ≡ Reads (told_of cmd) [] }
-    ensures prints { (cmd : Cmd) → told_text (told_of cmd) ≡ cmd_text cmd }
-    ensures alike { (a b : Cmd) → IsTelling a → IsTelling b → cmd_text a ≡ cmd_text b → AreAlike a b }
+        → told_line end (words_from column (cmd_text cmd)) ≡ Reads (told_of_command cmd) [] }
+    ensures prints { (cmd : Cmd) → told_text (told_of_command cmd) ≡ cmd_text cmd }
+    ensures alike { (a b : Cmd) → IsTelling a → IsTelling b → cmd_text a ≡ cmd_text b → AreAlikeCommands a b }
 {}
 
 /// A refusal whose numbers are those of the code reads, from its text, as what is told of it.
 pub fn a_printed_refusal_reads()
     ensures { (names : List (List ℕ)) (cause : Refusal) (column end : ℕ) → IsTellingRefusal names cause
-        → refusal_line end (words_from column (refusal_text names cause)) ≡ Reads (refusal_told names cause) [] }
+        → refusal_line end (words_from column (refusal_text names cause)) ≡ Reads (told_of_refusal names cause) [] }
 {}
 
 /// The first line of an answer reads as what it tells (`reads`); and an answer's text is the line of what is told of it,

@@ -4,7 +4,7 @@ ghost use Rattle.std.specs.Prelude.{◌≡◌, if◌then◌else◌};
 ghost use Rattle.std.specs.Str.{bytes_eq};
 ghost use Rattle.fam_grammar.specs.Cursor.{words_left, IsShort, Tells};
 ghost use Rattle.fam_grammar.specs.Reading.{word_of};
-ghost use Rattle.fam_history.specs.Literals.{behind_first, begins_with, first_meaning, last_number, last_two, the_word};
+ghost use Rattle.fam_history.specs.Literals.{behind_first, begins_with, meaning_by, last_number, last_two, the_word};
 
 use fam_grammar::{Line, LineFault, Words, fitting};
 
@@ -34,7 +34,7 @@ pub(crate) fn skip(words: &mut Words<'_>, wanted: &str) -> bool
 
 /// What the first of these keywords that a word is means.
 pub(crate) fn meaning<T: Copy>(word: &[u8], keywords: &[(&str, T)]) -> Option<T>
-    ensures { result ≡ first_meaning keywords.now (λ keyword. keyword.0.now) (λ keyword. keyword.1) word.now }
+    ensures { result ≡ meaning_by keywords.now (λ keyword. keyword.0.now) (λ keyword. keyword.1) word.now }
 {
     for (text, means) in keywords {
         if is(word, text) {

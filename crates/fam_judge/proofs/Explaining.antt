@@ -5,7 +5,7 @@ use Rattle.fam_journal.specs.Legal.{Allowed, Legal, LegalBehind}
 use Rattle.fam_journal.specs.Notes.{Note}
 use Rattle.fam_journal.specs.Past.{Past, first_past, past_after, past_behind, past_of}
 use Rattle.fam_journal.specs.Shapes.{HostShape, shapes_after}
-use Rattle.fam_judge.specs.Alike.{AreAlikeNotes, AreTold}
+use Rattle.fam_judge.specs.Alike.{AreAlikeNotes, AreWhollyTold}
 use Rattle.fam_judge.specs.Explained.{AreAllowedForSome, IsExplained, IsExplainedBy}
 use Rattle.fam_judge.specs.Formed.{AreFormed, AreSoundNotes}
 use Rattle.fam_judge.proofs.Showing.{parts, same_shown, shows_itself, whole}
@@ -62,7 +62,7 @@ first_explained start first rest is =
     )
 
 -- what is allowed for some bytes is legal where all is told
-allowed_legal : (start : Image) (before notes : List Note) → AreTold before → AreTold notes → AreAllowedForSome start before notes
+allowed_legal : (start : Image) (before notes : List Note) → AreWhollyTold before → AreWhollyTold notes → AreAllowedForSome start before notes
     → LegalBehind (past_of start before) notes
 allowed_legal start before [] told more allowed = tt
 allowed_legal start before (note ∷ notes) told more allowed = (
@@ -72,7 +72,7 @@ allowed_legal start before (note ∷ notes) told more allowed = (
 )
 
 -- the journal is the history, where this tells all
-pub explained_legal : (start : Image) (history journal : List Note) → IsExplainedBy start history journal → length history ≡ length journal → AreTold history
+pub explained_legal : (start : Image) (history journal : List Note) → IsExplainedBy start history journal → length history ≡ length journal → AreWhollyTold history
     → Legal start history × AreFormed (length start) [] history
 explained_legal start history journal is same told =
     let one : journal ≡ history = sym (alike_is history journal told (whole history journal is.shown same)) in (

@@ -19,7 +19,7 @@ use Rattle.fam_journal.specs.Laws.{AreSound, IsValidEvent}
 use Rattle.fam_journal.specs.Members.{changed_at, index_from}
 use Rattle.fam_journal.specs.Notes.{Note, Host, Made, Cut, Start, Mark, Found, Writes, Answered, Stop, Halt, Umount, Refused}
 use Rattle.fam_journal.specs.Shapes.{ActsShape, AtShape, CompletesShape, DirtyShape, DoesShape, FreeShape, HostActsShape, HostShape, OfHostShape, OfRunning, OfTask, OperationsShape, ShapeByRefusal, TaskNote, TaskShape, refusal_told, shapes_after, shapes_behind, shown_shape, shown_shapes}
-use Rattle.fam_judge.specs.Formed.{AreFormed, ArePlaced, AreSoundNotes}
+use Rattle.fam_judge.specs.Formed.{AreFormed, HavePlaces, AreSoundNotes}
 use Rattle.fam_judge.proofs.Forming.{task_formed}
 
 -- Names.
@@ -70,7 +70,7 @@ note_runs h hosts note None declared is = absurd is
 note_runs h hosts note (Some host) declared is = task_runs h hosts note host declared host.task refl is
 
 operations_formed : (lines : ℕ) (name : List ℕ) (h : ℕ) (notes : List Note) (hosts : List HostShape) → number_of name (shown_shapes lines hosts) ≡ Some h
-    → OperationsShape h hosts notes → ArePlaced hosts notes → AreFormed lines hosts notes
+    → OperationsShape h hosts notes → HavePlaces hosts notes → AreFormed lines hosts notes
 operations_formed lines name h [] hosts number is placed = tt
 operations_formed lines name h (note ∷ notes) hosts number is placed =
     let run = note_runs h hosts note (slice_get hosts h) refl is.0 in (
@@ -134,7 +134,7 @@ few_begun lines hosts notes name what (inr start) =
 module _ (lines : ℕ) where
   -- an event that gives at most one note gives it alone
   alone : (hosts : List HostShape) (e : Event) (notes : List Note) → IsValidEvent e → EventShape e lines hosts notes → length notes ≤ 1
-      → AreSoundNotes notes → ArePlaced hosts notes → AreFormed lines hosts notes
+      → AreSoundNotes notes → HavePlaces hosts notes → AreFormed lines hosts notes
   alone hosts e [] valid shape few sound placed = tt
   alone hosts e (note ∷ []) valid shape few sound placed =
       (record { event = e; valid = valid; shape = shape; sound = sound.0; placed = placed.0 }, tt)
@@ -142,7 +142,7 @@ module _ (lines : ℕ) where
 
   started : (hosts : List HostShape) (name : List ℕ) (what : Ask) (notes : List Note) → may_begin name (mounts what) (shown_shapes lines hosts) ≡ None
       → (start : StartShape CompletesShape name what lines hosts notes) → AreSoundNotes (Start start.host start.cmd ∷ start.rest)
-      → ArePlaced hosts (Start start.host start.cmd ∷ start.rest) → AreFormed lines hosts (Start start.host start.cmd ∷ start.rest)
+      → HavePlaces hosts (Start start.host start.cmd ∷ start.rest) → AreFormed lines hosts (Start start.host start.cmd ∷ start.rest)
   started hosts name what notes free start sound placed =
       let first : Note = Start start.host start.cmd in
       let begins : StartShape NoMore name what lines hosts (first ∷ []) =
@@ -161,36 +161,36 @@ module _ (lines : ℕ) where
 
   run_by : (hosts : List HostShape) (name : List ℕ) (what : Ask) (notes : List Note) (o : Option Refusal) → may_begin name (mounts what) (shown_shapes lines hosts) ≡ o
       → EventShape (event.Run name what) lines hosts notes → ShapeByRefusal name o notes (UnfitNotes name what notes ⊎ StartShape CompletesShape name what lines hosts notes)
-      → AreSoundNotes notes → ArePlaced hosts notes → AreFormed lines hosts notes
+      → AreSoundNotes notes → HavePlaces hosts notes → AreFormed lines hosts notes
   run_by hosts name what notes (Some why) e whole is sound placed = alone hosts (event.Run name what) notes tt whole (few_one (Refused name why) notes is) sound placed
   run_by hosts name what notes None e whole (inl unfit) sound placed = alone hosts (event.Run name what) notes tt whole (few_one _ notes unfit.notes_are) sound placed
   run_by hosts name what notes None e whole (inr start) sound placed =
       subst (λ (l : List Note). AreFormed lines hosts l) (sym start.notes_are)
-      (started hosts name what notes e start (subst AreSoundNotes start.notes_are sound) (subst (ArePlaced hosts) start.notes_are placed))
+      (started hosts name what notes e start (subst AreSoundNotes start.notes_are sound) (subst (HavePlaces hosts) start.notes_are placed))
 
   step_by : (hosts : List HostShape) (name : List ℕ) (count : ℕ) (notes : List Note) (o : Option Refusal) → EventShape (event.Step name count) lines hosts notes
-      → ShapeByRefusal name o notes (StepsShape count name lines hosts notes) → AreSoundNotes notes → ArePlaced hosts notes → AreFormed lines hosts notes
+      → ShapeByRefusal name o notes (StepsShape count name lines hosts notes) → AreSoundNotes notes → HavePlaces hosts notes → AreFormed lines hosts notes
   step_by hosts name count notes (Some why) whole is sound placed = alone hosts (event.Step name count) notes tt whole (few_one (Refused name why) notes is) sound placed
   step_by hosts name count notes None whole is sound placed = operations_formed lines name is.host notes hosts is.number is.operations placed
 
   finish_of : (hosts : List HostShape) (name : List ℕ) (notes : List Note) (h : ℕ) (o : Option HostShape) → number_of name (shown_shapes lines hosts) ≡ Some h
-      → OfHostShape o (λ host. ActsShape (call.Finishes name) h host lines hosts notes) → ArePlaced hosts notes → AreFormed lines hosts notes
+      → OfHostShape o (λ host. ActsShape (call.Finishes name) h host lines hosts notes) → HavePlaces hosts notes → AreFormed lines hosts notes
   finish_of hosts name notes h None number is placed = absurd is
   finish_of hosts name notes h (Some host) number is placed = operations_formed lines name h notes hosts number is.operations placed
 
   finish_at : (hosts : List HostShape) (name : List ℕ) (notes : List Note) (o : Option ℕ) → number_of name (shown_shapes lines hosts) ≡ o
-      → AtShape o hosts (λ h host. ActsShape (call.Finishes name) h host lines hosts notes) → ArePlaced hosts notes → AreFormed lines hosts notes
+      → AtShape o hosts (λ h host. ActsShape (call.Finishes name) h host lines hosts notes) → HavePlaces hosts notes → AreFormed lines hosts notes
   finish_at hosts name notes None number is placed = absurd is
   finish_at hosts name notes (Some h) number is placed = finish_of hosts name notes h (slice_get hosts h) number is placed
 
   finish_by : (hosts : List HostShape) (name : List ℕ) (notes : List Note) (o : Option Refusal) → EventShape (event.Finish name) lines hosts notes
-      → ShapeByRefusal name o notes (HostActsShape (call.Finishes name) lines hosts notes) → AreSoundNotes notes → ArePlaced hosts notes → AreFormed lines hosts notes
+      → ShapeByRefusal name o notes (HostActsShape (call.Finishes name) lines hosts notes) → AreSoundNotes notes → HavePlaces hosts notes → AreFormed lines hosts notes
   finish_by hosts name notes (Some why) whole is sound placed = alone hosts (event.Finish name) notes tt whole (few_one (Refused name why) notes is) sound placed
   finish_by hosts name notes None whole is sound placed = finish_at hosts name notes (number_of name (shown_shapes lines hosts)) refl is placed
 
   -- what one event adds
   event_formed : (hosts : List HostShape) (e : Event) (notes : List Note) → IsValidEvent e → EventShape e lines hosts notes
-      → AreSoundNotes notes → ArePlaced hosts notes → AreFormed lines hosts notes
+      → AreSoundNotes notes → HavePlaces hosts notes → AreFormed lines hosts notes
   event_formed hosts (event.Host name uuid) notes valid is sound placed =
       alone hosts (event.Host name uuid) notes valid is (few_does lines hosts notes (call.Declares name uuid) (few_one (Host name uuid) notes) is) sound placed
   event_formed hosts (event.Mkfs name fs unit log format force halt) notes valid is sound placed =
@@ -234,16 +234,16 @@ module _ (lines : ℕ) where
   sound_parts [] b sound = (tt, sound)
   sound_parts (note ∷ a) b sound = let more = sound_parts a b sound.1 in ((sound.0, more.0), more.1)
 
-  placed_parts : (hosts : List HostShape) (a b : List Note) → ArePlaced hosts (a ++ b) → ArePlaced hosts a × ArePlaced (shapes_behind hosts a) b
+  placed_parts : (hosts : List HostShape) (a b : List Note) → HavePlaces hosts (a ++ b) → HavePlaces hosts a × HavePlaces (shapes_behind hosts a) b
   placed_parts hosts [] b placed = (tt, placed)
   placed_parts hosts (note ∷ a) b placed = let more = placed_parts (shapes_after hosts note) a b placed.1 in ((placed.0, more.0), more.1)
 
   -- by each event's own notes
   pub follows_formed : (events : List Event) (hosts : List HostShape) (journal : List Note) → AreSound events → FollowsShape lines events hosts journal
-      → AreSoundNotes journal → ArePlaced hosts journal → AreFormed lines hosts journal
+      → AreSoundNotes journal → HavePlaces hosts journal → AreFormed lines hosts journal
   follows_formed [] hosts journal valid is sound placed = subst (λ (l : List Note). AreFormed lines hosts l) (sym is) tt
   follows_formed (e ∷ events) hosts journal valid (first, rest, head, tail, joined) sound placed =
       let sounds = sound_parts first rest (subst AreSoundNotes joined sound) in
-      let places = placed_parts hosts first rest (subst (ArePlaced hosts) joined placed) in
+      let places = placed_parts hosts first rest (subst (HavePlaces hosts) joined placed) in
       subst (λ (l : List Note). AreFormed lines hosts l) (sym joined)
       (formed_both hosts first rest (event_formed hosts e first valid.0 head sounds.0 places.0) (follows_formed events (shapes_behind hosts first) rest valid.1 tail sounds.1 places.1))

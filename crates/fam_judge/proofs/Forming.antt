@@ -9,7 +9,7 @@ use Rattle.fam_journal.specs.Calls.{busy_at, idle_refusal, is_busy_host, number_
 use Rattle.fam_journal.specs.EventShapes.{StepsShape}
 use Rattle.fam_journal.specs.Notes.{Note, Host, Made, Cut, Start, Mark, Found, Writes, Answered, Stop, Halt, Umount, Refused}
 use Rattle.fam_journal.specs.Shapes.{HostShape, OfRunning, OfTask, OperationsShape, ShapeByRefusal, TaskNote, TaskShape, shown_running, shown_shape, shown_shapes}
-use Rattle.fam_judge.specs.Formed.{IsFormedNote, IsPlaced, IsSoundNote}
+use Rattle.fam_judge.specs.Formed.{IsFormedNote, HasPlace, IsSoundNote}
 
 -- a running command begins no other
 task_sound : (h : ℕ) (me : List ℕ) (t : TaskShape) (note : Note) → TaskNote h me t note → IsSoundNote note
@@ -38,7 +38,7 @@ module _ (lines : ℕ) (hosts : List HostShape) (name : List ℕ) (h : ℕ) (hos
       ap (λ (o : Option ℕ). on_host o (λ k. idle_refusal k (shown_shapes lines hosts))) number
       ∙ ap (λ (b : Bool). when (not b) why.Idle) busy
 
-  module _ (note : Note) (is : TaskNote h host.uuid t note) (placed : IsPlaced hosts note) where
+  module _ (note : Note) (is : TaskNote h host.uuid t note) (placed : HasPlace hosts note) where
     operations : OperationsShape h hosts (note ∷ [])
     operations = (
       subst (λ (o : Option HostShape). OfRunning o (λ me u. TaskNote h me u note)) (sym declared)

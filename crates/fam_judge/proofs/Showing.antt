@@ -2,23 +2,23 @@
 use Rattle.std.proofs.Common.{◌≡◌, ◌≤◌, inl, inr, List, [], ◌∷◌, ◌++◌, length, map, refl, ap, sym, ◌∙◌, arith}
 use Rattle.fam_journal.specs.Notes.{Note}
 use Rattle.fam_judge.specs.Alike.{AreAlikeNotes, told_note}
-use Rattle.fam_judge.specs.Shows.{Shows}
+use Rattle.fam_judge.specs.Shows.{ShowsJournal}
 use Rattle.fam_judge.proofs.Telling.{both, heads, none_is_more, more_is_none, tails}
 
 -- a journal shows itself
-pub shows_itself : (journal : List Note) → Shows journal journal
+pub shows_itself : (journal : List Note) → ShowsJournal journal journal
 shows_itself [] = tt
 shows_itself (note ∷ notes) = inl (refl, shows_itself notes)
 
 -- a history is no longer than what it shows
-pub no_longer : (history journal : List Note) → Shows history journal → length history ≤ length journal
+pub no_longer : (history journal : List Note) → ShowsJournal history journal → length history ≤ length journal
 no_longer [] journal shows = omega arith
 no_longer (line ∷ lines) [] shows = absurd shows
 no_longer (line ∷ lines) (note ∷ notes) (inl here) = let rest : length lines ≤ length notes = no_longer lines notes here.1 in omega arith
 no_longer (line ∷ lines) (note ∷ notes) (inr out) = let rest : length (line ∷ lines) ≤ length notes = no_longer (line ∷ lines) notes out.1 in omega arith
 
 -- one that is as long tells the same
-pub whole : (history journal : List Note) → Shows history journal → length history ≡ length journal → AreAlikeNotes history journal
+pub whole : (history journal : List Note) → ShowsJournal history journal → length history ≡ length journal → AreAlikeNotes history journal
 whole [] [] shows same = refl
 whole [] (note ∷ notes) shows same = absurd (omega arith)
 whole (line ∷ lines) [] shows same = absurd shows
@@ -27,7 +27,7 @@ whole (line ∷ lines) (note ∷ notes) (inr out) same =
     let rest : length (line ∷ lines) ≤ length notes = no_longer (line ∷ lines) notes out.1 in absurd (omega arith)
 
 -- a history that tells the same shows the same
-pub same_shown : (a b journal : List Note) → AreAlikeNotes a b → Shows a journal → Shows b journal
+pub same_shown : (a b journal : List Note) → AreAlikeNotes a b → ShowsJournal a journal → ShowsJournal b journal
 same_shown [] [] journal alike shows = shows
 same_shown [] (line ∷ b) journal alike shows = absurd (none_is_more (told_note line) (map told_note b) alike)
 same_shown (line ∷ a) [] journal alike shows = absurd (more_is_none (told_note line) (map told_note a) alike)
@@ -43,10 +43,10 @@ pub record Parts (first rest journal : List Note) : Type 0 where
   pub front : List Note
   pub back : List Note
   pub whole : journal ≡ front ++ back
-  pub shown : Shows first front
+  pub shown : ShowsJournal first front
 
 -- the first lines show a first part
-pub parts : (first rest journal : List Note) → Shows (first ++ rest) journal → Parts first rest journal
+pub parts : (first rest journal : List Note) → ShowsJournal (first ++ rest) journal → Parts first rest journal
 parts [] rest journal shows = record { front = []; back = journal; whole = refl; shown = tt }
 parts (line ∷ lines) rest [] shows = absurd shows
 parts (line ∷ lines) rest (note ∷ notes) (inl here) =

@@ -5,14 +5,14 @@ use Rattle.fam_base.specs.declared.cmd.Cmd.{Cmd}
 use Rattle.fam_base.specs.declared.cmd.Cmd.TheVariants as cmd
 use Rattle.fam_base.specs.declared.cmd.Content.TheVariants as content
 use Rattle.fam_journal.specs.Notes.{Note, Host, Made, Cut, Start, Mark, Found, Writes, Answered, Stop, Halt, Umount, Refused}
-use Rattle.fam_history.specs.Told.{told_of}
-use Rattle.fam_judge.specs.Alike.{AreAlikeNotes, AreTold, ToldNote, told_note, whole_command, whole_note}
+use Rattle.fam_history.specs.Told.{told_of_command}
+use Rattle.fam_judge.specs.Alike.{AreAlikeNotes, AreWhollyTold, ToldNote, told_note, whole_command, whole_note}
 
 none_is_some : {A : Type 0} (x : A) → None ≡ Some x → ⊥
 none_is_some x e = cc
 
 -- what is told of a command is it, where all is told
-command_back : (h : ℕ) (c : Cmd) (note : Note) → whole_command h (told_of c) ≡ Some note → Start h c ≡ note
+command_back : (h : ℕ) (c : Cmd) (note : Note) → whole_command h (told_of_command c) ≡ Some note → Start h c ≡ note
 command_back h cmd.Logplay note e = same_Some (Start h cmd.Logplay) note e
 command_back h cmd.Mount note e = same_Some (Start h cmd.Mount) note e
 command_back h cmd.Fsck note e = same_Some (Start h cmd.Fsck) note e
@@ -61,7 +61,7 @@ pub more_is_none : (x : ToldNote) (xs : List ToldNote) → x ∷ xs ≡ [] → �
 more_is_none x xs e = cc
 
 -- a journal of which all is told is alike to none but itself
-pub alike_is : (a b : List Note) → AreTold a → AreAlikeNotes a b → a ≡ b
+pub alike_is : (a b : List Note) → AreWhollyTold a → AreAlikeNotes a b → a ≡ b
 alike_is [] [] told same = refl
 alike_is [] (n ∷ b) told same = absurd (none_is_more (told_note n) (map told_note b) same)
 alike_is (m ∷ a) [] told same = absurd (more_is_none (told_note m) (map told_note a) same)
@@ -71,6 +71,6 @@ alike_is (m ∷ a) (n ∷ b) told same =
     ap (λ (x : Note). x ∷ a) (sym one) ∙ ap (λ (l : List Note). n ∷ l) more
 
 -- so of both parts
-pub told-append : (a b : List Note) → AreTold a → AreTold b → AreTold (a ++ b)
+pub told-append : (a b : List Note) → AreWhollyTold a → AreWhollyTold b → AreWhollyTold (a ++ b)
 told-append [] b none more = more
 told-append (note ∷ a) b some more = (some.0, told-append a b some.1 more)

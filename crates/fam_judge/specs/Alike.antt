@@ -3,7 +3,7 @@ use Rattle.std.specs.Prelude.{ℕ, ⊤, ◌≡◌, List, [], ◌∷◌, map, Opt
 use Rattle.fam_journal.specs.Notes.{Note, Host, Made, Cut, Start, Mark, Found, Writes, Answered, Stop, Halt, Umount, Refused}
 use Rattle.fam_history.specs.declared.command.ToldCommand.{ToldCommand}
 use Rattle.fam_history.specs.declared.command.ToldCommand.TheVariants as told
-use Rattle.fam_history.specs.Told.{told_of}
+use Rattle.fam_history.specs.Told.{told_of_command}
 
 -- what a text tells of a note
 pub data ToldNote : Type 0 where
@@ -17,7 +17,7 @@ abbrev pub told_note : Note → ToldNote
 told_note (Host name uuid) = Tells (Host name uuid)
 told_note (Made h p) = Tells (Made h p)
 told_note (Cut h k) = Tells (Cut h k)
-told_note (Start h cmd) = Begins h (told_of cmd)
+told_note (Start h cmd) = Begins h (told_of_command cmd)
 told_note (Mark h) = Tells (Mark h)
 told_note (Found h n) = Tells (Found h n)
 told_note (Writes h seq entry) = Tells (Writes h seq entry)
@@ -44,10 +44,10 @@ whole_note (Begins h cmd) = whole_command h cmd
 whole_note (Tells note) = Some note
 
 -- a text tells all of the note
-abbrev pub IsTold : Note → Type 0
-IsTold note = whole_note (told_note note) ≡ Some note
+abbrev pub IsWhollyTold : Note → Type 0
+IsWhollyTold note = whole_note (told_note note) ≡ Some note
 
 -- so of each of these: none takes something from a source
-abbrev pub AreTold : List Note → Type 0
-AreTold [] = ⊤
-AreTold (note ∷ notes) = IsTold note × AreTold notes
+abbrev pub AreWhollyTold : List Note → Type 0
+AreWhollyTold [] = ⊤
+AreWhollyTold (note ∷ notes) = IsWhollyTold note × AreWhollyTold notes

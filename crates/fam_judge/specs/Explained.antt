@@ -6,7 +6,7 @@ use Rattle.fam_journal.specs.Notes.{Note}
 use Rattle.fam_journal.specs.Past.{past_of}
 use Rattle.fam_judge.specs.Alike.{AreAlikeNotes}
 use Rattle.fam_judge.specs.Formed.{AreFormed, AreSoundNotes}
-use Rattle.fam_judge.specs.Shows.{Shows}
+use Rattle.fam_judge.specs.Shows.{ShowsJournal}
 
 -- Bytes of sources.
 
@@ -26,7 +26,7 @@ AreAllowedForSome start before (note ∷ notes) = IsAllowedForSome start before 
 
 -- this journal explains the history, from an image
 pub record IsExplainedBy (start : Image) (history journal : List Note) : Type 0 where
-  pub shown : Shows history journal
+  pub shown : ShowsJournal history journal
   pub formed : AreFormed (length start) [] journal
   pub allowed : AreAllowedForSome start [] journal
 

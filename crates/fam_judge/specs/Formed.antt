@@ -114,24 +114,24 @@ AnswerPlace cmd stage (Replied given) = ReplyPlace cmd stage given
 AnswerPlace cmd stage (MediaFault line) = ⊤
 
 -- so it is of a note that is an answer, by the host's running command
-abbrev pub IsPlaced : List HostShape → Note → Type 0
-IsPlaced hosts (Host name uuid) = ⊤
-IsPlaced hosts (Made h p) = ⊤
-IsPlaced hosts (Cut h k) = ⊤
-IsPlaced hosts (Start h cmd) = ⊤
-IsPlaced hosts (Mark h) = ⊤
-IsPlaced hosts (Found h n) = ⊤
-IsPlaced hosts (Writes h seq entry) = ⊤
-IsPlaced hosts (Answered h answer) = OfRunning (slice_get hosts h) (λ me t. AnswerPlace t.cmd t.stage answer)
-IsPlaced hosts (Stop h) = ⊤
-IsPlaced hosts (Halt h) = ⊤
-IsPlaced hosts (Umount h) = ⊤
-IsPlaced hosts (Refused name why) = ⊤
+abbrev pub HasPlace : List HostShape → Note → Type 0
+HasPlace hosts (Host name uuid) = ⊤
+HasPlace hosts (Made h p) = ⊤
+HasPlace hosts (Cut h k) = ⊤
+HasPlace hosts (Start h cmd) = ⊤
+HasPlace hosts (Mark h) = ⊤
+HasPlace hosts (Found h n) = ⊤
+HasPlace hosts (Writes h seq entry) = ⊤
+HasPlace hosts (Answered h answer) = OfRunning (slice_get hosts h) (λ me t. AnswerPlace t.cmd t.stage answer)
+HasPlace hosts (Stop h) = ⊤
+HasPlace hosts (Halt h) = ⊤
+HasPlace hosts (Umount h) = ⊤
+HasPlace hosts (Refused name why) = ⊤
 
 -- so of each of these notes, by those before it
-abbrev pub ArePlaced : List HostShape → List Note → Type 0
-ArePlaced hosts [] = ⊤
-ArePlaced hosts (note ∷ notes) = IsPlaced hosts note × ArePlaced (shapes_after hosts note) notes
+abbrev pub HavePlaces : List HostShape → List Note → Type 0
+HavePlaces hosts [] = ⊤
+HavePlaces hosts (note ∷ notes) = HasPlace hosts note × HavePlaces (shapes_after hosts note) notes
 
 -- Notes.
 
@@ -142,7 +142,7 @@ pub record IsFormedNote (lines : ℕ) (hosts : List HostShape) (note : Note) : T
   pub valid : IsValidEvent event
   pub shape : EventShape event lines hosts (note ∷ [])
   pub sound : IsSoundNote note
-  pub placed : IsPlaced hosts note
+  pub placed : HasPlace hosts note
 
 -- so of each of these notes, each by those before it
 abbrev pub AreFormed : ℕ → List HostShape → List Note → Type 0

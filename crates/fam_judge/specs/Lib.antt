@@ -1,4 +1,4 @@
 pub mod Alike
-pub mod Shows
+pub mod ShowsJournal
 pub mod Formed
 pub mod Explained

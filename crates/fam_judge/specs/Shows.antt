@@ -20,8 +20,8 @@ is_inner (Umount h) = false
 is_inner (Refused name cause) = false
 
 -- the history tells the same as the journal without some of its marks, founds and writes
-abbrev pub Shows : List Note → List Note → Type 0
-Shows [] [] = ⊤
-Shows [] (note ∷ notes) = IsTrue (is_inner note) × Shows [] notes
-Shows (line ∷ lines) [] = ⊥
-Shows (line ∷ lines) (note ∷ notes) = ((told_note line ≡ told_note note) × Shows lines notes) ⊎ (IsTrue (is_inner note) × Shows (line ∷ lines) notes)
+abbrev pub ShowsJournal : List Note → List Note → Type 0
+ShowsJournal [] [] = ⊤
+ShowsJournal [] (note ∷ notes) = IsTrue (is_inner note) × ShowsJournal [] notes
+ShowsJournal (line ∷ lines) [] = ⊥
+ShowsJournal (line ∷ lines) (note ∷ notes) = ((told_note line ≡ told_note note) × ShowsJournal lines notes) ⊎ (IsTrue (is_inner note) × ShowsJournal (line ∷ lines) notes)

@@ -9,9 +9,9 @@ ghost use Rattle.fam_journal.specs.Legal.{Legal};
 ghost use Rattle.fam_journal.specs.Calls.{number_of};
 ghost use Rattle.fam_journal.specs.Notes.{Note};
 ghost use Rattle.fam_journal.specs.Shapes.{HostShape, TaskNote, TaskShape, shown_shapes};
-ghost use Rattle.fam_judge.specs.Alike.{AreAlikeNotes, AreTold};
+ghost use Rattle.fam_judge.specs.Alike.{AreAlikeNotes, AreWhollyTold};
 ghost use Rattle.fam_judge.specs.Explained.{IsExplained, IsExplainedBy};
-ghost use Rattle.fam_judge.specs.Formed.{AreFormed, ArePlaced, AreSoundNotes, IsFormedNote, IsPlaced};
+ghost use Rattle.fam_judge.specs.Formed.{AreFormed, HavePlaces, AreSoundNotes, IsFormedNote, HasPlace};
 
 /// A legal journal whose notes have the form of the tables (`AreFormed`) is explained as it stands.
 pub fn what_is_legal_is_explained()
@@ -36,22 +36,22 @@ pub fn where_no_line_is_left_out()
     ensures same { (start : Image) (history journal : List Note) → IsExplainedBy start history journal
         → length history ≡ length journal → AreAlikeNotes history journal }
     ensures legal { (start : Image) (history journal : List Note) → IsExplainedBy start history journal
-        → length history ≡ length journal → AreTold history
+        → length history ≡ length journal → AreWhollyTold history
         → Legal start history × AreFormed (length start) [] history }
 {}
 
 /// The note that a host's running command may give next (`TaskNote` of fam_journal) has the form of the tables, where an answer
-/// stands where these give it (`IsPlaced`).
+/// stands where these give it (`HasPlace`).
 pub fn a_task_is_formed()
     ensures { (lines : ℕ) (hosts : List HostShape) (name : List ℕ) (h : ℕ) (host : HostShape) (task : TaskShape) (note : Note)
         → number_of name (shown_shapes lines hosts) ≡ Some h → slice_get hosts h ≡ Some host → host.task ≡ Some task
-        → TaskNote h host.uuid task note → IsPlaced hosts note → IsFormedNote lines hosts note }
+        → TaskNote h host.uuid task note → HasPlace hosts note → IsFormedNote lines hosts note }
 {}
 
 /// What events within their limits add one after another (`FollowsShape` of fam_journal) has the form of the tables, where its
 /// commands are sound and its answers stand where the tables give them.
 pub fn what_follows_is_formed()
     ensures { (lines : ℕ) (events : List Event) (hosts : List HostShape) (journal : List Note)
-        → AreSound events → FollowsShape lines events hosts journal → AreSoundNotes journal → ArePlaced hosts journal
+        → AreSound events → FollowsShape lines events hosts journal → AreSoundNotes journal → HavePlaces hosts journal
         → AreFormed lines hosts journal }
 {}

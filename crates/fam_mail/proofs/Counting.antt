@@ -20,7 +20,7 @@ use Rattle.fam_mail.specs.declared.note.MailRefusal.TheVariants as why
 use Rattle.fam_mail.specs.declared.turn.Turn.{Turn}
 use Rattle.fam_mail.specs.declared.turn.Turn.TheVariants as turn
 use Rattle.fam_mail.specs.Calls.{ChangesHost, IfMailAnswered, MailBegins, MailDeclares, MailRefuses, ask_refusal, begin_refusal, capacity_in, declare_refusal, declared_note, file_line_refusal, host_at, named_host_refusal, no_refusal, no_task_refusal, notes_of_turn, refusal_named, second_writer}
-use Rattle.fam_mail.specs.Happens.{IsCountedIn, counted_behind, mail_cause_faults, mail_note_faults}
+use Rattle.fam_mail.specs.Happens.{IsCountedIn, mail_counted, mail_cause_faults, mail_note_faults}
 use Rattle.fam_mail.specs.Tasks.{new_task}
 use Rattle.fam_mail.specs.World.{MailHost, MailView, is_named, is_writer, mail_noted, member_place}
 
@@ -92,11 +92,11 @@ fault_counted before after made old now one is more = record { notes = made ∷ 
 pub turn_counted : (name : List ℕ) (t : Turn) (before after : List MailNote) (old now : ℕ) → after ≡ before ++ notes_of_turn name t → now ≡ old → IsCountedIn before after old now
 turn_counted name t before after old now is same = record { notes = notes_of_turn name t; joined = is; count = same ∙ sym (quiet t) }
   where
-    quiet : (t : Turn) → counted_behind old (notes_of_turn name t) ≡ old
+    quiet : (t : Turn) → mail_counted old (notes_of_turn name t) ≡ old
     quiet turn.Go = refl
     quiet other = refl
 
-behind_both : (count : ℕ) (a b : List MailNote) → counted_behind count (a ++ b) ≡ counted_behind (counted_behind count a) b
+behind_both : (count : ℕ) (a b : List MailNote) → mail_counted count (a ++ b) ≡ mail_counted (mail_counted count a) b
 behind_both count [] b = refl
 behind_both count (x ∷ a) b = behind_both (count_if (mail_note_faults x == 1) count) a b
 
@@ -105,7 +105,7 @@ pub both_counted : (before mid after : List MailNote) (old between now : ℕ) �
 both_counted before mid after old between now a b = record {
   notes = a.notes ++ b.notes;
   joined = b.joined ∙ ap (λ (j : List MailNote). j ++ b.notes) a.joined ∙ append_assoc before a.notes b.notes;
-  count = b.count ∙ ap (λ (n : ℕ). counted_behind n b.notes) a.count ∙ sym (behind_both old a.notes b.notes);
+  count = b.count ∙ ap (λ (n : ℕ). mail_counted n b.notes) a.count ∙ sym (behind_both old a.notes b.notes);
 }
 
 -- and then none

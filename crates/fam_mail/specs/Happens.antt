@@ -65,15 +65,15 @@ abbrev pub HasMailCounted : ℕ → ℕ → List MailNote → Type 0
 HasMailCounted before now notes = min (before + mail_faults notes) (2 ^ 64 - 1) ≤ now
 
 -- a count behind these notes: it rose by one at each fault that they tell, as a media that counts exactly has it
-abbrev pub counted_behind : ℕ → List MailNote → ℕ
-counted_behind count [] = count
-counted_behind count (note ∷ notes) = counted_behind (count_if (mail_note_faults note == 1) count) notes
+abbrev pub mail_counted : ℕ → List MailNote → ℕ
+mail_counted count [] = count
+mail_counted count (note ∷ notes) = mail_counted (count_if (mail_note_faults note == 1) count) notes
 
 -- some notes came behind a journal, and a count is the one behind them
 pub record IsCountedIn (before after : List MailNote) (old now : ℕ) : Type 0 where
   pub notes : List MailNote
   pub joined : after ≡ before ++ notes
-  pub count : now ≡ counted_behind old notes
+  pub count : now ≡ mail_counted old notes
 
 -- Boxes and records that are none.
 

@@ -2,7 +2,7 @@
 use Rattle.std.proofs.Common.{◌≡◌, ◌≤◌, ℕ, Bool, true, List, Result, Ok, Err, inl, inr, ◌∙◌, ap, arith}
 use Rattle.fam_base.specs.declared.entry.Entry.{Entry}
 use Rattle.fam_base.specs.declared.line.OutOfMemory.{OutOfMemory as Full}
-use Rattle.fam_mail.specs.Happens.{counted_behind}
+use Rattle.fam_mail.specs.Happens.{mail_counted}
 use Rattle.fam_mail.specs.declared.event.MailEvent.{MailEvent}
 use Rattle.fam_mail.specs.declared.note.MailNote.{MailNote}
 use Rattle.fam_media.specs.States.{MediaState, SinkChange}
@@ -41,7 +41,7 @@ ran_before exact entry events first before behind s given same later quiet x = r
   ending = x.ending;
   journal = x.journal;
   counted = let counted = x.counted in omega (arith, counted, later);
-  exactly = λ is. x.exactly is ∙ ap (λ (n : ℕ). counted_behind n x.journal) (quiet is);
+  exactly = λ is. x.exactly is ∙ ap (λ (n : ℕ). mail_counted n x.journal) (quiet is);
   by_words = x.by_words;
   told = λ start is. x.told start (same ∙ is);
   put = x.put;

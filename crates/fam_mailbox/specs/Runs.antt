@@ -6,7 +6,7 @@ use Rattle.fam_base.specs.declared.line.OutOfMemory.{OutOfMemory}
 use Rattle.fam_mail.specs.Boxes.{box_of, capacity_of}
 use Rattle.fam_mail.specs.declared.event.MailEvent.{MailEvent}
 use Rattle.fam_mail.specs.declared.note.MailNote.{MailNote}
-use Rattle.fam_mail.specs.Happens.{AreByWords, counted_behind, HasMailCounted, HasRunMail, HasRunMailPart, MailRunsOn}
+use Rattle.fam_mail.specs.Happens.{AreByWords, mail_counted, HasMailCounted, HasRunMail, HasRunMailPart, MailRunsOn}
 use Rattle.fam_mail.specs.Legal.{LegalMail, mail_state}
 use Rattle.fam_mail.specs.RunLaws.{IsBoxLeft}
 use Rattle.fam_mail.specs.World.{MailView}
@@ -114,7 +114,7 @@ pub record MailRan (exact : Bool) (entry : Entry) (events : List MailEvent) (med
   pub ending : MailEnding
   pub journal : List MailNote
   pub counted : HasMailCounted media.old.faults media.new.faults journal
-  pub exactly : exact ≡ true → media.new.faults ≡ counted_behind media.old.faults journal
+  pub exactly : exact ≡ true → media.new.faults ≡ mail_counted media.old.faults journal
   pub by_words : AreByWords journal
   pub told : IfModelled media.old.image (λ start. HasMailed ending entry events journal start media.new.image)
   pub put : PutsMail ending journal s given
