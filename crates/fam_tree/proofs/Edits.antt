@@ -1,7 +1,7 @@
 -- What becomes of a run's places.
-use Rattle.std.proofs.Common.{◌≡◌, ℕ, zero, suc, ◌+◌, ◌<◌, Bool, true, false, List, [], ◌∷◌, ◌++◌, length, get_or, set, map as list_map, take, drop, Result, Ok, Err, IsOk, if◌then◌else◌, sym, ap, subst, ◌∙◌, arith, length-append}
+use Rattle.std.proofs.Common.{◌≡◌, ℕ, zero, suc, ◌+◌, ◌<◌, Bool, true, false, List, [], ◌∷◌, ◌++◌, length, get_or, set, map as list_map, take, drop, Result, Ok, Err, IsOk, OnOk, if◌then◌else◌, sym, ap, subst, ◌∙◌, arith, length-append}
 use Rattle.std.specs.Bool.{OnTrue}
-use Rattle.std.specs.Result.{is_ok}
+use Rattle.std.specs.Result.{is_err, is_ok}
 use Rattle.std.specs.List.{AllByRecursion, insert}
 use Rattle.std.proofs.Math.Seq.{get_or-append_seam}
 use Rattle.std.proofs.lemmas.List.{drop-map, map-append, take-append-drop, take-map}
@@ -78,6 +78,10 @@ within_where true es more xs ys zs i e within same put longer = put_within es mo
 within_where false es more xs ys zs i e within same put longer = tt
 
 -- ---- what didn't fail
+
+pub where_ok : {T E : Type 0} (r : Result T E) (P : Type 0) → is_err r ≡ false → OnOk r P → P
+where_ok (Ok x) P not p = p
+where_ok (Err e) P not p = absurd (cc (not))
 
 pub chosen : {T E X : Type 0} (r : Result T E) (x y z : X) → IsOk r → z ≡ (if is_ok r then x else y) → z ≡ x
 chosen (Ok t) x y z ok is = is
