@@ -35,7 +35,7 @@ pub struct AllocMap {
 }
 
 /// Why no unit was taken.
-#[derive(Clone, Copy, Debug, PartialEq, Eq)]
+#[derive(Clone, Copy)]
 pub enum TakeFault {
     /// The first unit, in the order of the extents and upwards in each, that was used or stands twice.
     Overlap(u64),
