@@ -1,5 +1,5 @@
 -- A line that has an event, or none.
-use Rattle.std.proofs.Common.{◌≡◌, ℕ, Bool, List, [], ◌∷◌, Some, None, Ok, Err, refl, ap, sym, ◌∙◌}
+use Rattle.std.proofs.Common.{◌≡◌, ℕ, Bool, List, [], ◌∷◌, None, Ok, Err, refl, ap, sym, ◌∙◌}
 use Rattle.std.specs.Prelude.{if◌then◌else◌}
 use Rattle.fam_journal.specs.declared.event.Event.{Event}
 use Rattle.fam_grammar.specs.declared.fault.LineFault.{LineFault}
@@ -7,7 +7,7 @@ use Rattle.fam_grammar.specs.declared.fault.LineFault.TheVariants.{BadLine, OutO
 use Rattle.fam_grammar.specs.declared.words.Line.{Line}
 use Rattle.fam_grammar.specs.Cursor.{Tells}
 use Rattle.fam_grammar.specs.Lines.{event_line}
-use Rattle.fam_grammar.specs.Reading.{Reading, Misfit}
+use Rattle.fam_grammar.specs.Reading.{Reading}
 use Rattle.fam_grammar.specs.Scripts.{AreEvent, AreNoEvent, IsBadLine, LineReading, end_of_line, event_or_column, line_of_words, line_reads, words_in}
 use Rattle.fam_grammar.specs.Words.{Word}
 

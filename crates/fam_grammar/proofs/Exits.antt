@@ -1,5 +1,5 @@
 -- A line ends at its first word that doesn't fit.
-use Rattle.std.proofs.Common.{◌≡◌, ℕ, List, [], Err}
+use Rattle.std.proofs.Common.{◌≡◌, ℕ, [], Err}
 use Rattle.fam_grammar.specs.declared.fault.LineFault.{LineFault}
 use Rattle.fam_grammar.specs.declared.fault.LineFault.TheVariants.{BadLine, OutOfMemory}
 use Rattle.fam_grammar.specs.declared.words.Line.{Line}
