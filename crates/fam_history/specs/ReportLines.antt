@@ -17,13 +17,13 @@ use Rattle.fam_history.specs.Faults.{log_fault_line, numbered, reason_line, supe
 use Rattle.fam_history.specs.Literals.{begins_with, behind_first, last_two, the_word}
 
 -- what a fault says of the superblock
-abbrev pub super_state_line : SuperFault → SuperState
-super_state_line (NoSuper word) = superblock.NoSuper word
-super_state_line (BadSuper f found wanted) = superblock.BadSuper f found wanted
+abbrev pub bad_super_state : SuperFault → SuperState
+bad_super_state (NoSuper word) = superblock.NoSuper word
+bad_super_state (BadSuper f found wanted) = superblock.BadSuper f found wanted
 
 -- what a fault says of the log
-abbrev pub log_state_line : LogFault → LogState
-log_state_line (BadLog f found wanted) = log.BadLog f found wanted
+abbrev pub bad_log_state : LogFault → LogState
+bad_log_state (BadLog f found wanted) = log.BadLog f found wanted
 
 -- `superblock sound`, or its fault
 abbrev pub superblock_line : ℕ → List Word → Reading SuperState
@@ -33,7 +33,7 @@ superblock_line end words =
     else
     then_reads (word_of (the_word (codes "bad")) end words) (λ it rest.
     then_reads (word_of (the_word (codes "superblock")) end rest) (λ it rest.
-    then_reads (super_line end rest) (λ fault none. Reads (super_state_line fault) none)))
+    then_reads (super_line end rest) (λ fault none. Reads (bad_super_state fault) none)))
 
 -- a number, `of` and another
 abbrev pub one_of : ℕ → List Word → Reading LogState
@@ -52,7 +52,7 @@ abbrev pub log_state_line : ℕ → List Word → Reading LogState
 log_state_line end words =
     if begins_with (codes "bad") words then
     then_reads (word_of (the_word (codes "log")) end (behind_first words)) (λ it rest.
-    then_reads (log_fault_line end rest) (λ fault none. Reads (log_state_line fault) none))
+    then_reads (log_fault_line end rest) (λ fault none. Reads (bad_log_state fault) none))
     else then_reads (word_of (the_word (codes "log")) end words) (λ it. log_behind end)
 
 -- files and directories

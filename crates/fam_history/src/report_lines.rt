@@ -2,7 +2,7 @@
 
 ghost use Rattle.std.specs.Prelude.{◌≡◌};
 ghost use Rattle.fam_grammar.specs.Cursor.{words_left, IsShort, Tells};
-ghost use Rattle.fam_history.specs.ReportLines.{bad_entry_line, files_line, log_behind, log_state_line, log_state_line, one_of, overlap_line, pair_or_none, past_line, slot_or_none, super_state_line, superblock_line, units_line};
+ghost use Rattle.fam_history.specs.ReportLines.{bad_entry_line, files_line, bad_log_state, log_behind, log_state_line, one_of, overlap_line, pair_or_none, past_line, slot_or_none, bad_super_state, superblock_line, units_line};
 
 use crate::answers::counted;
 use crate::faults::{log_fault, numbered, reason, super_fault};
@@ -13,7 +13,7 @@ use fam_rules::{LogState, SuperState};
 
 /// What a fault says of the superblock.
 fn super_state(fault: SuperFault) -> SuperState
-    ensures { result ≡ super_state_line fault }
+    ensures { result ≡ bad_super_state fault }
 {
     match fault {
         SuperFault::NoSuper(word) => SuperState::NoSuper(word),
@@ -31,7 +31,7 @@ fn super_state(fault: SuperFault) -> SuperState
 
 /// What a fault says of the log.
 fn log_state(fault: LogFault) -> LogState
-    ensures { result ≡ log_state_line fault }
+    ensures { result ≡ bad_log_state fault }
 {
     match fault {
         LogFault::BadLog {
