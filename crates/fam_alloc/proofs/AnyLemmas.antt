@@ -31,7 +31,9 @@ any_passed f a (suc n) us free =
     rw (free a (omega arith) (omega arith)) (any_passed f (a + 1) n us (λ u above below. free u (omega arith) (omega arith)))
 
 -- a unit of an extent passes
-pub any_at : (f : ℕ → Bool) (unit : ℕ) (extents : List Extent) (i start end first : ℕ) → i < length extents → start ≡ (get_or extents i no_extent).offset / unit → end ≡ start + (get_or extents i no_extent).length / unit → IsNext f true start end first → first < end → true ≡ list_any f (units_in unit (drop i extents))
+pub any_at : (f : ℕ → Bool) (unit : ℕ) (extents : List Extent) (i start end first : ℕ) → i < length extents
+    → start ≡ (get_or extents i no_extent).offset / unit → end ≡ start + (get_or extents i no_extent).length / unit → IsNext f true start end first
+    → first < end → true ≡ list_any f (units_in unit (drop i extents))
 any_at f unit extents i start end first below s e h taken =
     let n : ℕ = (get_or extents i no_extent).length / unit in
     let rest : List ℕ = units_in unit (drop (i + 1) extents) in
@@ -40,7 +42,9 @@ any_at f unit extents i start end first below s e h taken =
     ∙ ap (list_any f) (sym (units_rest unit extents i below))
 
 -- no unit of an extent passes
-pub none_at : (f : ℕ → Bool) (unit : ℕ) (extents : List Extent) (i start end first : ℕ) → i < length extents → start ≡ (get_or extents i no_extent).offset / unit → end ≡ start + (get_or extents i no_extent).length / unit → IsNext f true start end first → end ≤ first → list_any f (units_in unit (drop (i + 1) extents)) ≡ list_any f (units_in unit (drop i extents))
+pub none_at : (f : ℕ → Bool) (unit : ℕ) (extents : List Extent) (i start end first : ℕ) → i < length extents
+    → start ≡ (get_or extents i no_extent).offset / unit → end ≡ start + (get_or extents i no_extent).length / unit → IsNext f true start end first
+    → end ≤ first → list_any f (units_in unit (drop (i + 1) extents)) ≡ list_any f (units_in unit (drop i extents))
 none_at f unit extents i start end first below s e h clear =
     let n : ℕ = (get_or extents i no_extent).length / unit in
     let a : ℕ = (get_or extents i no_extent).offset / unit in

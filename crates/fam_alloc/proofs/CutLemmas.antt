@@ -180,7 +180,8 @@ module _ (units s e a b : ℕ) (from : s ≤ a) (some : a < b) (upto : b ≤ e) 
         | inr inside ↦ rw (within_run s (s + (a - s)) u inside (omega arith), within_run s e u inside (omega arith), before_run a b u low) refl
       ]
       | inr high ↦ elim (cases_lt u b) [
-        | inl taken ↦ rw (behind_run s (s + (a - s)) u (omega arith), before_run b (b + (e - b)) u taken, within_run a b u high taken, none upto_end) (sym (and_right (is_between s e u || false) false refl))
+        | inl taken ↦ rw (behind_run s (s + (a - s)) u (omega arith), before_run b (b + (e - b)) u taken, within_run a b u high taken, none upto_end)
+            (sym (and_right (is_between s e u || false) false refl))
         | inr behind ↦ elim (cases_lt u e) [
           | inl rest ↦ rw (behind_run s (s + (a - s)) u (omega arith), within_run b (b + (e - b)) u behind (omega arith), within_run s e u (omega arith) rest, behind_run a b u behind) refl
           | inr at_end ↦ rw (behind_run s (s + (a - s)) u (omega arith), behind_run b (b + (e - b)) u (omega arith), behind_run s e u at_end, behind_run a b u behind, none upto_end) refl

@@ -129,7 +129,8 @@ removed_in low units (r ∷ rs) s u p h = elim (place low units r rs s 0 p h) [
       | inr high ↦ behind_run k (k + n) u (omega arith)
     ]
 
-removed_empty : (low units : ℕ) (rs : List (ℕ × ℕ)) (s q : ℕ) → AreSpaced low units rs → run_from rs s ≡ Some 0 → is_empty_at (remove_entry (is_at (nat_cmp s)) rs) q ≡ (is_empty_at rs q && not (s == q))
+removed_empty : (low units : ℕ) (rs : List (ℕ × ℕ)) (s q : ℕ) → AreSpaced low units rs → run_from rs s ≡ Some 0
+    → is_empty_at (remove_entry (is_at (nat_cmp s)) rs) q ≡ (is_empty_at rs q && not (s == q))
 removed_empty low units [] s q p h = refl
 removed_empty low units (r ∷ rs) s q p h = elim (place low units r rs s 0 p h) [
   | inl here ↦

@@ -23,13 +23,16 @@ pub fit_later : (from to count : ℕ) (r : ℕ × ℕ) (rs : List (ℕ × ℕ)) 
 fit_later from to count r rs h = cond-false (leb count (min to (r.0 + r.1) - max from r.0)) (Some (max from r.0)) (first_fit from to count rs) (lt-leb count _ h)
 
 -- the room from a higher start on is the room, where nothing fits below it
-lower_room : (used : ℕ → Bool) (from to count low above : ℕ) (o : Option ℕ) → low ≤ above → ((t : ℕ) → max from low ≤ t → Fits used to count t → above ≤ t) → IsRoom used (max from above) to count o → IsRoom used (max from low) to count o
+lower_room : (used : ℕ → Bool) (from to count low above : ℕ) (o : Option ℕ) → low ≤ above
+    → ((t : ℕ) → max from low ≤ t → Fits used to count t → above ≤ t) → IsRoom used (max from above) to count o
+    → IsRoom used (max from low) to count o
 lower_room used from to count low above (Some s) order none h =
     (omega (arith, h.0), h.1, λ t from_low f. h.2 t (omega (arith, none t from_low f)) f)
 lower_room used from to count low above None order none h = λ t from_low f. h t (omega (arith, none t from_low f)) f
 
 -- the first of the runs that fits is the room
-pub fit_is : (used : ℕ → Bool) (units from to count : ℕ) → 0 < count → (low : ℕ) (rs : List (ℕ × ℕ)) → AreSpaced low units rs → ((u : ℕ) → low ≤ u → used u ≡ outside rs u) → IsRoom used (max from low) to count (first_fit from to count rs)
+pub fit_is : (used : ℕ → Bool) (units from to count : ℕ) → 0 < count → (low : ℕ) (rs : List (ℕ × ℕ)) → AreSpaced low units rs
+    → ((u : ℕ) → low ≤ u → used u ≡ outside rs u) → IsRoom used (max from low) to count (first_fit from to count rs)
 fit_is used units from to count some low [] p same = λ t above f. absurd (false≢true (sym (f.free t (omega arith) (omega arith)) ∙ same t (omega arith)))
 fit_is used units from to count some low (r ∷ rs) p same = elim (cases_lt (min to (r.0 + r.1) - max from r.0) count) [
   | inl short ↦
@@ -81,13 +84,15 @@ fit_is_room units from to count rs some p =
     (fit_is (outside rs) units from to count some 0 rs p (λ u h. refl)))
 
 -- runs that end at `from` or below, or start at `to` or above, have no fit
-pub fit_between : (from to count first : ℕ) (rs : List (ℕ × ℕ)) → 0 < count → AllByRecursion (λ r. r.0 < first → r.0 + r.1 ≤ from) rs → first_fit from to count (entries_between nat_cmp (Included first) (Excluded to) rs) ≡ first_fit from to count rs
+pub fit_between : (from to count first : ℕ) (rs : List (ℕ × ℕ)) → 0 < count → AllByRecursion (λ r. r.0 < first → r.0 + r.1 ≤ from) rs
+    → first_fit from to count (entries_between nat_cmp (Included first) (Excluded to) rs) ≡ first_fit from to count rs
 fit_between from to count first [] some low = refl
 fit_between from to count first (r ∷ rs) some low =
     let rest : List (ℕ × ℕ) = entries_between nat_cmp (Included first) (Excluded to) rs in
     elim (cases_lt r.0 first) [
       | inl below ↦
-          ap (first_fit from to count) (cond-false (range_contains nat_cmp (Included first) (Excluded to) r.0) (r ∷ rest) rest (ap (λ o. is_le o && not (is_le (nat_cmp to r.0))) (cmp_greater first r.0 below)))
+          ap (first_fit from to count) (cond-false (range_contains nat_cmp (Included first) (Excluded to) r.0) (r ∷ rest) rest
+          (ap (λ o. is_le o && not (is_le (nat_cmp to r.0))) (cmp_greater first r.0 below)))
           ∙ fit_between from to count first rs some low.1
           ∙ sym (fit_later from to count r rs (omega (arith, low.0 below)))
       | inr above ↦ elim (cases_lt r.0 to) [
@@ -95,7 +100,8 @@ fit_between from to count first (r ∷ rs) some low =
             ap (first_fit from to count) (cond-true (range_contains nat_cmp (Included first) (Excluded to) r.0) (r ∷ rest) rest (rw (not_below first r.0 above, cmp_greater to r.0 within) refl))
             ∙ ap (λ (o : Option ℕ). cond (leb count (min to (r.0 + r.1) - max from r.0)) (Some (max from r.0)) o) (fit_between from to count first rs some low.1)
         | inr past ↦
-            ap (first_fit from to count) (cond-false (range_contains nat_cmp (Included first) (Excluded to) r.0) (r ∷ rest) rest (rw (not_below to r.0 past) (and_right (is_le (nat_cmp first r.0)) false refl)))
+            ap (first_fit from to count) (cond-false (range_contains nat_cmp (Included first) (Excluded to) r.0) (r ∷ rest) rest
+            (rw (not_below to r.0 past) (and_right (is_le (nat_cmp first r.0)) false refl)))
             ∙ fit_between from to count first rs some low.1
             ∙ sym (fit_later from to count r rs (omega arith))
       ]

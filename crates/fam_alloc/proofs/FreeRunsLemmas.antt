@@ -11,7 +11,8 @@ use Rattle.fam_alloc.proofs.SpacedLemmas.{behind_run, within_run, clear_below, c
 
 -- numbers that fail a test are left out
 filter_skip : (f : ℕ → Bool) (a n m : ℕ) → ((u : ℕ) → a ≤ u → u < a + n → f u ≡ false) → filter f (range_with_len a (n + m)) ≡ filter f (range_with_len (a + n) m)
-filter_skip f a zero m none = ap (λ (k : ℕ). filter f (range_with_len a k)) (let e : 0 + m ≡ m = omega arith in e) ∙ ap (λ (k : ℕ). filter f (range_with_len k m)) (let e : a ≡ a + 0 = omega arith in e)
+filter_skip f a zero m none = ap (λ (k : ℕ). filter f (range_with_len a k)) (let e : 0 + m ≡ m = omega arith in e)
+    ∙ ap (λ (k : ℕ). filter f (range_with_len k m)) (let e : a ≡ a + 0 = omega arith in e)
 filter_skip f a (suc n) m none =
     ap (λ (k : ℕ). filter f (range_with_len a k)) (let e : suc n + m ≡ suc (n + m) = omega arith in e)
     ∙ cond-false (f a) (a ∷ filter f (range_with_len (a + 1) (n + m))) (filter f (range_with_len (a + 1) (n + m))) (none a (omega arith) (omega arith))
@@ -61,7 +62,8 @@ module _ (free : ℕ → Bool) (units : ℕ) where
   abbrev pair : ℕ → ℕ × ℕ
   pair u = (u, free_ahead free u (units - u))
 
-  runs_from : (low : ℕ) (rs : List (ℕ × ℕ)) → AreSpaced low units rs → NoneEmpty rs → ((u : ℕ) → low ≤ u → free u ≡ in_runs rs u) → (0 < low → free (low - 1) ≡ false) → map pair (filter (starts_run free) (range_with_len low (units - low))) ≡ rs
+  runs_from : (low : ℕ) (rs : List (ℕ × ℕ)) → AreSpaced low units rs → NoneEmpty rs → ((u : ℕ) → low ≤ u → free u ≡ in_runs rs u)
+      → (0 < low → free (low - 1) ≡ false) → map pair (filter (starts_run free) (range_with_len low (units - low))) ≡ rs
   runs_from low [] p some same lower =
       ap (λ (xs : List ℕ). map pair xs) (filter_none (starts_run free) low (units - low) (λ u h below. not_free u (same u h)))
   runs_from low (r ∷ rs) p some same lower =

@@ -16,7 +16,8 @@ all_ones words w x read ones u at =
     ∙ lt-ltb (u % 64) 64 (omega arith)
 
 -- one word more is marked as full
-pub full_more : (words full new : List ℕ) (w : ℕ) → AreFull words full → ((u : ℕ) → u / 64 ≡ w → is_bit_set words u ≡ true) → ((u : ℕ) → is_bit_set new u ≡ (is_bit_set full u || is_between w (w + 1) u)) → AreFull words new
+pub full_more : (words full new : List ℕ) (w : ℕ) → AreFull words full → ((u : ℕ) → u / 64 ≡ w → is_bit_set words u ≡ true)
+    → ((u : ℕ) → is_bit_set new u ≡ (is_bit_set full u || is_between w (w + 1) u)) → AreFull words new
 full_more words full new w sound all marked u h =
     elim (or_cases (is_bit_set full (u / 64)) (is_between w (w + 1) (u / 64)) (sym (marked (u / 64)) ∙ h)) [
       | inl before ↦ sound u before
@@ -59,12 +60,14 @@ pub marked_too : (words new : List ℕ) (from to : ℕ) → ((u : ℕ) → is_bi
 marked_too words new from to marked u h = marked u ∙ ap (λ (b : Bool). b || is_between from to u) h
 
 -- words that the hints skip are full
-pub skipped_full : (words full : List ℕ) (from word to past : ℕ) → AreFull words full → word ≡ from / 64 + min 1 (from % 64) → IsNext (is_bit_set full) false word to past → (u : ℕ) → from ≤ 64 * (u / 64) → u / 64 < past → is_bit_set words u ≡ true
+pub skipped_full : (words full : List ℕ) (from word to past : ℕ) → AreFull words full → word ≡ from / 64 + min 1 (from % 64)
+    → IsNext (is_bit_set full) false word to past → (u : ℕ) → from ≤ 64 * (u / 64) → u / 64 < past → is_bit_set words u ≡ true
 skipped_full words full from word to past sound e n u above below =
     sound u (n.before (u / 64) (omega arith) below)
 
 -- a run of free units was marked, behind units that are used
-pub cover_more : (init now : ℕ → Bool) (from unit start end to : ℕ) → from ≤ unit → ((u : ℕ) → now u ≡ (init u || is_between from unit u)) → IsNext now false unit to start → start ≤ end → (u : ℕ) → (now u || is_between start end u) ≡ (init u || is_between from end u)
+pub cover_more : (init now : ℕ → Bool) (from unit start end to : ℕ) → from ≤ unit → ((u : ℕ) → now u ≡ (init u || is_between from unit u))
+    → IsNext now false unit to start → start ≤ end → (u : ℕ) → (now u || is_between start end u) ≡ (init u || is_between from end u)
 cover_more init now from unit start end to low marked free order u =
     elim (cases_lt u unit) [
       | inl below ↦

@@ -109,7 +109,8 @@ passing_more f (u ∷ us) n clear within =
 pub units_below : (unit units : ℕ) (extents : List Extent) → 0 < unit → LieWithin unit units extents → (u : ℕ) → holds (units_in unit extents) u ≡ true → u < units
 units_below unit units [] some h u e = absurd (false≢true e)
 units_below unit units (x ∷ xs) some h u e =
-    elim (or_cases (holds (range_with_len (x.offset / unit) (x.length / unit)) u) (holds (units_in unit xs) u) (sym (holds-append (range_with_len (x.offset / unit) (x.length / unit)) (units_in unit xs) u) ∙ e)) [
+    elim (or_cases (holds (range_with_len (x.offset / unit) (x.length / unit)) u) (holds (units_in unit xs) u)
+    (sym (holds-append (range_with_len (x.offset / unit) (x.length / unit)) (units_in unit xs) u) ∙ e)) [
       | inl prefix ↦
           let within = and_parts (leb (x.offset / unit) u) (ltb u (x.offset / unit + x.length / unit)) (sym (holds-range (x.offset / unit) (x.length / unit) u) ∙ prefix) in
           omega (arith, ltb-true u (x.offset / unit + x.length / unit) within.1, quotients x.offset x.length unit units some (h 0 x (omega arith)))

@@ -12,7 +12,10 @@ here_or false true = refl
 here_or false false = refl
 
 -- one more word was marked
-pub mark_more : (words : List ℕ) (old : ℕ → Bool) (from to w x bits : ℕ) → w < length words → x ≡ get_or words w 0 → ((i : ℕ) → i < 64 → has_bit bits i ≡ is_between from to (64 * w + i)) → ((u : ℕ) → is_bit_set words u ≡ (old u || (is_between from to u && ltb (u / 64) w))) → (u : ℕ) → is_bit_set (set words w (bit_or x bits)) u ≡ (old u || (is_between from to u && ltb (u / 64) (w + 1)))
+pub mark_more : (words : List ℕ) (old : ℕ → Bool) (from to w x bits : ℕ) → w < length words → x ≡ get_or words w 0
+    → ((i : ℕ) → i < 64 → has_bit bits i ≡ is_between from to (64 * w + i))
+    → ((u : ℕ) → is_bit_set words u ≡ (old u || (is_between from to u && ltb (u / 64) w))) → (u : ℕ)
+    → is_bit_set (set words w (bit_or x bits)) u ≡ (old u || (is_between from to u && ltb (u / 64) (w + 1)))
 mark_more words old from to w x bits below read spans before u =
     elim (cases_eq (u / 64) w) [
       | inl at ↦

@@ -37,7 +37,8 @@ quotients o l unit units some h =
     ]
 
 -- and so do its units
-pub run_ends : (unit units : ℕ) (extents : List Extent) (i : ℕ) → 0 < unit → LieWithin unit units extents → (get_or extents i no_extent).offset / unit + (get_or extents i no_extent).length / unit ≤ units
+pub run_ends : (unit units : ℕ) (extents : List Extent) (i : ℕ) → 0 < unit → LieWithin unit units extents
+    → (get_or extents i no_extent).offset / unit + (get_or extents i no_extent).length / unit ≤ units
 run_ends unit units extents i some h = quotients _ _ unit units some (extent_ends unit units extents i h)
 
 -- a unit of a run of units
@@ -70,7 +71,9 @@ pub units_rest : (unit : ℕ) (extents : List Extent) (i : ℕ) → i < length e
 units_rest unit extents i below = ap (units_in unit) (drop_more extents i no_extent below)
 
 -- the units of a run and of the extents before it
-pub holds_more : (unit : ℕ) (extents : List Extent) (i start end : ℕ) → i < length extents → start ≡ (get_or extents i no_extent).offset / unit → end ≡ start + (get_or extents i no_extent).length / unit → (u : ℕ) → (holds (units_in unit (take i extents)) u || is_between start end u) ≡ holds (units_in unit (take (i + 1) extents)) u
+pub holds_more : (unit : ℕ) (extents : List Extent) (i start end : ℕ) → i < length extents → start ≡ (get_or extents i no_extent).offset / unit
+    → end ≡ start + (get_or extents i no_extent).length / unit → (u : ℕ) → (holds (units_in unit (take i extents)) u || is_between start end u)
+    ≡ holds (units_in unit (take (i + 1) extents)) u
 holds_more unit extents i start end below s e u =
     let within : is_between start end u ≡ holds (units_at unit extents i) u = rw (e, s) (sym (holds-range _ _ u)) in
     ap (λ (b : Bool). holds (units_in unit (take i extents)) u || b) within
@@ -111,7 +114,8 @@ turned x y v a = elim (cases_eq v a) [
 ]
 
 -- a run that is all free is passed
-pub overlap_passed : (used : ℕ → Bool) (a n : ℕ) (us : List ℕ) → ((u : ℕ) → a ≤ u → u < a + n → used u ≡ false) → first_overlap used (range_with_len a n ++ us) ≡ first_overlap (λ v. used v || holds (range_with_len a n) v) us
+pub overlap_passed : (used : ℕ → Bool) (a n : ℕ) (us : List ℕ) → ((u : ℕ) → a ≤ u → u < a + n → used u ≡ false)
+    → first_overlap used (range_with_len a n ++ us) ≡ first_overlap (λ v. used v || holds (range_with_len a n) v) us
 overlap_passed used a zero us free = overlap_same used (λ v. used v || false) us (λ v. or_false (used v))
 overlap_passed used a (suc n) us free =
     cond-false (used a) (Some a) (first_overlap (λ v. (v == a) || used v) (range_with_len (a + 1) n ++ us)) (free a (omega arith) (omega arith))
@@ -119,7 +123,9 @@ overlap_passed used a (suc n) us free =
     ∙ overlap_same _ _ us (λ v. turned (used v) (holds (range_with_len (a + 1) n) v) v a)
 
 -- the first unit of an extent that overlaps
-pub found_at : (used : ℕ → Bool) (unit : ℕ) (extents : List Extent) (i start end first : ℕ) → i < length extents → start ≡ (get_or extents i no_extent).offset / unit → end ≡ start + (get_or extents i no_extent).length / unit → IsNext used true start end first → first < end → Some first ≡ first_overlap used (units_in unit (drop i extents))
+pub found_at : (used : ℕ → Bool) (unit : ℕ) (extents : List Extent) (i start end first : ℕ) → i < length extents
+    → start ≡ (get_or extents i no_extent).offset / unit → end ≡ start + (get_or extents i no_extent).length / unit → IsNext used true start end first
+    → first < end → Some first ≡ first_overlap used (units_in unit (drop i extents))
 found_at used unit extents i start end first below s e h taken =
     let n : ℕ = (get_or extents i no_extent).length / unit in
     let rest : List ℕ = units_in unit (drop (i + 1) extents) in
@@ -128,7 +134,11 @@ found_at used unit extents i start end first below s e h taken =
     ∙ ap (first_overlap used) (sym (units_rest unit extents i below))
 
 -- an extent that doesn't overlap is passed
-pub passed_at : (used : ℕ → Bool) (unit : ℕ) (extents : List Extent) (i start end first : ℕ) → i < length extents → start ≡ (get_or extents i no_extent).offset / unit → end ≡ start + (get_or extents i no_extent).length / unit → IsNext (λ u. used u || holds (units_in unit (take i extents)) u) true start end first → end ≤ first → first_overlap (λ u. used u || holds (units_in unit (take (i + 1) extents)) u) (units_in unit (drop (i + 1) extents)) ≡ first_overlap (λ u. used u || holds (units_in unit (take i extents)) u) (units_in unit (drop i extents))
+pub passed_at : (used : ℕ → Bool) (unit : ℕ) (extents : List Extent) (i start end first : ℕ) → i < length extents
+    → start ≡ (get_or extents i no_extent).offset / unit → end ≡ start + (get_or extents i no_extent).length / unit
+    → IsNext (λ u. used u || holds (units_in unit (take i extents)) u) true start end first → end ≤ first
+    → first_overlap (λ u. used u || holds (units_in unit (take (i + 1) extents)) u) (units_in unit (drop (i + 1) extents))
+    ≡ first_overlap (λ u. used u || holds (units_in unit (take i extents)) u) (units_in unit (drop i extents))
 passed_at used unit extents i start end first below s e h clear =
     let n : ℕ = (get_or extents i no_extent).length / unit in
     let a : ℕ = (get_or extents i no_extent).offset / unit in
@@ -142,16 +152,23 @@ passed_at used unit extents i start end first below s e h clear =
     ∙ ap (first_overlap prefix) (sym (units_rest unit extents i below))
 
 -- marks of one extent more
-pub marked_more : (old : ℕ → Bool) (now : Bool) (unit : ℕ) (extents : List Extent) (i start end u : ℕ) → i < length extents → start ≡ (get_or extents i no_extent).offset / unit → end ≡ start + (get_or extents i no_extent).length / unit → now ≡ (old u || holds (units_in unit (take i extents)) u) → (now || is_between start end u) ≡ (old u || holds (units_in unit (take (i + 1) extents)) u)
+pub marked_more : (old : ℕ → Bool) (now : Bool) (unit : ℕ) (extents : List Extent) (i start end u : ℕ) → i < length extents
+    → start ≡ (get_or extents i no_extent).offset / unit → end ≡ start + (get_or extents i no_extent).length / unit
+    → now ≡ (old u || holds (units_in unit (take i extents)) u)
+    → (now || is_between start end u) ≡ (old u || holds (units_in unit (take (i + 1) extents)) u)
 marked_more old now unit extents i start end u below s e h =
     ap (λ (b : Bool). b || is_between start end u) h
     ∙ sym (or_assoc (old u) (holds (units_in unit (take i extents)) u) (is_between start end u))
     ∙ ap (λ (b : Bool). old u || b) (holds_more unit extents i start end below s e u)
 
 -- the count of one extent more
-pub count_more : (unit : ℕ) (extents : List Extent) (i start end count : ℕ) → i < length extents → end ≡ start + (get_or extents i no_extent).length / unit → count ≡ length (units_in unit (take i extents)) → count + (end - start) ≡ length (units_in unit (take (i + 1) extents))
+pub count_more : (unit : ℕ) (extents : List Extent) (i start end count : ℕ) → i < length extents
+    → end ≡ start + (get_or extents i no_extent).length / unit → count ≡ length (units_in unit (take i extents))
+    → count + (end - start) ≡ length (units_in unit (take (i + 1) extents))
 count_more unit extents i start end count below e h =
     let n : ℕ = (get_or extents i no_extent).length / unit in
     let a : ℕ = (get_or extents i no_extent).offset / unit in
-    let more : length (units_in unit (take (i + 1) extents)) ≡ length (units_in unit (take i extents)) + length (units_at unit extents i) = ap (λ (us : List ℕ). length us) (units_more unit extents i below) ∙ length-append (units_in unit (take i extents)) (units_at unit extents i) in
+    let more : length (units_in unit (take (i + 1) extents)) ≡ length (units_in unit (take i extents)) + length (units_at unit extents i) =
+    ap (λ (us : List ℕ). length us) (units_more unit extents i below) ∙ length-append (units_in unit (take i extents))
+    (units_at unit extents i) in
     omega (arith, length-range_with_len a n)

@@ -95,7 +95,8 @@ run_bounds low units (r ∷ rs) s n p h = elim (cases_eq s r.0) [
 ]
 
 -- it is the first, or stands behind it
-pub place : (low units : ℕ) (r : ℕ × ℕ) (rs : List (ℕ × ℕ)) (s n : ℕ) → AreSpaced low units (r ∷ rs) → run_from (r ∷ rs) s ≡ Some n → ((s ≡ r.0) × (r.1 ≡ n)) ⊎ ((r.0 + r.1 < s) × (run_from rs s ≡ Some n))
+pub place : (low units : ℕ) (r : ℕ × ℕ) (rs : List (ℕ × ℕ)) (s n : ℕ) → AreSpaced low units (r ∷ rs) → run_from (r ∷ rs) s ≡ Some n
+    → ((s ≡ r.0) × (r.1 ≡ n)) ⊎ ((r.0 + r.1 < s) × (run_from rs s ≡ Some n))
 place low units r rs s n p h = elim (cases_eq s r.0) [
   | inl at ↦ inl (at, same_Some r.1 n (sym (run_here r rs s at) ∙ h))
   | inr other ↦
@@ -154,7 +155,8 @@ of_rest units r rs q p some =
     ap is_some (run_later r rs q (λ e. omega (arith, above_end (r.0 + r.1) units rs q p some))) ∙ some
 
 -- the last run that starts at u or below it is the one that holds u, if any does
-pub last_holds : (low units : ℕ) (rs : List (ℕ × ℕ)) (u s n : ℕ) → AreSpaced low units rs → run_from rs s ≡ Some n → s ≤ u → ((q : ℕ) → q ≤ u → IsSome (run_from rs q) → q ≤ s) → in_runs rs u ≡ ltb u (s + n)
+pub last_holds : (low units : ℕ) (rs : List (ℕ × ℕ)) (u s n : ℕ) → AreSpaced low units rs → run_from rs s ≡ Some n → s ≤ u
+    → ((q : ℕ) → q ≤ u → IsSome (run_from rs q) → q ≤ s) → in_runs rs u ≡ ltb u (s + n)
 last_holds low units [] u s n p h from last = absurd (none-some n h)
 last_holds low units (r ∷ rs) u s n p h from last = elim (place low units r rs s n p h) [
   | inl here ↦ elim (cases_lt u (s + n)) [
@@ -200,7 +202,8 @@ ends_wider [] s u h all = tt
 ends_wider (r ∷ rs) s u h all = ((λ below. omega (arith, all.0 below)), ends_wider rs s u h all.1)
 
 -- from a unit on, the first that stands in no run: behind the run that holds the unit
-pub next_held : (units : ℕ) (rs : List (ℕ × ℕ)) (from to start end next : ℕ) → AreSpaced 0 units rs → IsInRun rs from start end → from ≤ to → next ≡ min (max end from) to → IsNext (outside rs) true from to next
+pub next_held : (units : ℕ) (rs : List (ℕ × ℕ)) (from to start end next : ℕ) → AreSpaced 0 units rs → IsInRun rs from start end → from ≤ to
+    → next ≡ min (max end from) to → IsNext (outside rs) true from to next
 next_held units rs from to start end next p held order e = record {
   low = omega arith;
   high = omega arith;

@@ -7,7 +7,8 @@ use Rattle.std.proofs.Math.Nat.{mod-add-mod}
 use Rattle.fam_rules.specs.Room.{room, offer, offers, offers_of, given, first_given, strips}
 
 -- what is looked for at a turn is the offer
-pub offer_is : (used : ℕ → Bool) (width k buckets seq turn : ℕ) (found : Option ℕ) → (let x = (seq % buckets + turn) % buckets in found ≡ room used (x * width) ((x + 1) * width) k) → found ≡ offer used width k buckets seq turn
+pub offer_is : (used : ℕ → Bool) (width k buckets seq turn : ℕ) (found : Option ℕ)
+    → (let x = (seq % buckets + turn) % buckets in found ≡ room used (x * width) ((x + 1) * width) k) → found ≡ offer used width k buckets seq turn
 unfolding offer
 offer_is used width k buckets seq turn found h =
     h ∙ ap (λ (x : ℕ). room used (x * width) ((x + 1) * width) k) (mod-add-mod seq buckets turn)
@@ -18,7 +19,9 @@ given-append (Some s ∷ os) ps = ap (λ (xs : List ℕ). s ∷ xs) (given-appen
 given-append (None ∷ os) ps = given-append os ps
 
 -- one turn more
-pub given_more : (used : ℕ → Bool) (width k buckets seq turn : ℕ) (old new : List ℕ) (o : Option ℕ) → old ≡ given (offers_of used width k buckets seq turn) → o ≡ offer used width k buckets seq turn → new ≡ old ++ given (o ∷ []) → new ≡ given (offers_of used width k buckets seq (turn + 1))
+pub given_more : (used : ℕ → Bool) (width k buckets seq turn : ℕ) (old new : List ℕ) (o : Option ℕ)
+    → old ≡ given (offers_of used width k buckets seq turn) → o ≡ offer used width k buckets seq turn → new ≡ old ++ given (o ∷ [])
+    → new ≡ given (offers_of used width k buckets seq (turn + 1))
 given_more used width k buckets seq turn old new o before is more =
     more
     ∙ ap (λ (xs : List ℕ). xs ++ given (o ∷ [])) before
@@ -26,23 +29,27 @@ given_more used width k buckets seq turn old new o before is more =
     ∙ ap (λ (p : Option ℕ). given (offers_of used width k buckets seq turn ++ p ∷ [])) is
     ∙ ap given (sym (map-range_with_len_more (offer used width k buckets seq) 0 turn turn (omega arith)))
 
-enough_given : (used : ℕ → Bool) (width k n buckets seq turns : ℕ) (starts : List ℕ) → turns ≤ buckets → starts ≡ given (offers_of used width k buckets seq turns) → length starts ≡ n → Some starts ≡ first_given n (offers used width k buckets seq)
+enough_given : (used : ℕ → Bool) (width k n buckets seq turns : ℕ) (starts : List ℕ) → turns ≤ buckets
+    → starts ≡ given (offers_of used width k buckets seq turns) → length starts ≡ n → Some starts ≡ first_given n (offers used width k buckets seq)
 enough_given used width k n buckets seq turns starts within is count =
     let os : List (Option ℕ) = offers used width k buckets seq in
     let rest : List ℕ = given (drop turns os) in
     let prefix : take turns os ≡ offers_of used width k buckets seq turns = take-map-range_with_len (offer used width k buckets seq) 0 buckets turns within in
-    let whole : given os ≡ starts ++ rest = ap given (sym (take-append-drop turns os)) ∙ given-append (take turns os) (drop turns os) ∙ ap (λ (xs : List (Option ℕ)). given xs ++ rest) prefix ∙ ap (λ (xs : List ℕ). xs ++ rest) (sym is) in
+    let whole : given os ≡ starts ++ rest = ap given (sym (take-append-drop turns os)) ∙ given-append (take turns os) (drop turns os)
+    ∙ ap (λ (xs : List (Option ℕ)). given xs ++ rest) prefix ∙ ap (λ (xs : List ℕ). xs ++ rest) (sym is) in
     let long : n ≤ length (given os) = omega (arith, ap (λ (xs : List ℕ). length xs) whole ∙ length-append starts rest) in
     ap Some (sym (ap (λ (xs : List ℕ). take n xs) whole ∙ take_at starts rest n count))
     ∙ sym (cond-true (leb n (length (given os))) (Some (take n (given os))) None (le-leb n (length (given os)) long))
 
 -- enough buckets have offered
-pub enough : (used : ℕ → Bool) (units k n buckets seq turns : ℕ) (starts : List ℕ) → turns ≤ buckets → starts ≡ given (offers_of used (units / buckets) k buckets seq turns) → length starts ≡ n → Some starts ≡ strips used units k n buckets seq
+pub enough : (used : ℕ → Bool) (units k n buckets seq turns : ℕ) (starts : List ℕ) → turns ≤ buckets
+    → starts ≡ given (offers_of used (units / buckets) k buckets seq turns) → length starts ≡ n → Some starts ≡ strips used units k n buckets seq
 unfolding strips
 enough used units k n buckets seq turns starts within is count = enough_given used (units / buckets) k n buckets seq turns starts within is count
 
 -- too few buckets have offered
-pub too_few : (used : ℕ → Bool) (units k n buckets seq : ℕ) (starts : List ℕ) → starts ≡ given (offers used (units / buckets) k buckets seq) → length starts < n → None ≡ strips used units k n buckets seq
+pub too_few : (used : ℕ → Bool) (units k n buckets seq : ℕ) (starts : List ℕ) → starts ≡ given (offers used (units / buckets) k buckets seq)
+    → length starts < n → None ≡ strips used units k n buckets seq
 unfolding strips
 too_few used units k n buckets seq starts is short =
     let os : List (Option ℕ) = offers used (units / buckets) k buckets seq in

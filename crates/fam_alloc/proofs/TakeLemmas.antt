@@ -17,7 +17,9 @@ none_behind : (unit : ℕ) (xs : List Extent) (i : ℕ) → length xs ≤ i → 
 none_behind unit xs i past = ap (units_in unit) (drop_of_length-le xs past)
 
 -- the extent at i, with the units from a up to b, and the run from s up to e that holds them
-module _ (units unit : ℕ) (xs : List Extent) (i : ℕ) (rs : List (ℕ × ℕ)) (a b s e : ℕ) (below : i < length xs) (first : a ≡ (get_or xs i no_extent).offset / unit) (last : b ≡ a + (get_or xs i no_extent).length / unit) (some : a < b) (p : AreSpaced 0 units rs) (held : IsInRun rs a s e) (ends_inside : b ≤ e) where
+module _ (units unit : ℕ) (xs : List Extent) (i : ℕ) (rs : List (ℕ × ℕ)) (a b s e : ℕ) (below : i < length xs)
+    (first : a ≡ (get_or xs i no_extent).offset / unit) (last : b ≡ a + (get_or xs i no_extent).length / unit) (some : a < b)
+    (p : AreSpaced 0 units rs) (held : IsInRun rs a s e) (ends_inside : b ≤ e) where
   -- the units of the extent
   at_extent : (u : ℕ) → holds (units_at unit xs i) u ≡ is_between a b u
   at_extent u = rw (last, first) (holds-range _ _ u)
@@ -66,7 +68,9 @@ module _ (units unit : ℕ) (xs : List Extent) (i : ℕ) (rs : List (ℕ × ℕ)
         ∙ closed_is units s e a b held.low some ends_inside 0 rs p held.stands
 
     -- what is left where the rest was taken
-    module _ (rest left : List (ℕ × ℕ)) (q : AreSpaced 0 units rest) (taken : (u : ℕ) → outside rest u ≡ (outside opened u || holds (units_in unit (drop (i + 1) xs)) u)) (empty : (k : ℕ) → is_empty_at rest k ≡ is_empty_at opened k) (over : left ≡ settled rest s a) where
+    module _ (rest left : List (ℕ × ℕ)) (q : AreSpaced 0 units rest)
+        (taken : (u : ℕ) → outside rest u ≡ (outside opened u || holds (units_in unit (drop (i + 1) xs)) u))
+        (empty : (k : ℕ) → is_empty_at rest k ≡ is_empty_at opened k) (over : left ≡ settled rest s a) where
       empty_now : (k : ℕ) → is_empty_at rest k ≡ (is_empty_at rs k || ((s == a) && (s == k)))
       empty_now k =
           empty k ∙ ap (λ (os : List (ℕ × ℕ)). is_empty_at os k) as_cut
@@ -95,7 +99,14 @@ module _ (units unit : ℕ) (xs : List Extent) (i : ℕ) (rs : List (ℕ × ℕ)
 
       pub left_length : length rest + (i + 1) ≤ length opened + length xs → length left + i ≤ length rs + length xs
       left_length h =
-          omega (arith, h, ap (λ (os : List (ℕ × ℕ)). length os) over, ap (λ (os : List (ℕ × ℕ)). length os) as_cut, settled_length units rest s a q front_left, cut_length units s e a b held.low some ends_inside rs)
+          omega (
+            arith,
+            h,
+            ap (λ (os : List (ℕ × ℕ)). length os) over,
+            ap (λ (os : List (ℕ × ℕ)). length os) as_cut,
+            settled_length units rest s a q front_left,
+            cut_length units s e a b held.low some ends_inside rs,
+          )
 
   -- where it is the last extent
   module _ (new : List (ℕ × ℕ)) (all : length xs ≤ i + 1) (over : new ≡ settled (with_length (with_rest rs b e) s (a - s)) s a) where

@@ -43,13 +43,15 @@ room_of_view f units k map found e h =
     ∙ ap (λ (n : ℕ). room (is_taken map) 0 n k) (units_of_view f units map e)
 
 -- and so are strips
-pub strips_of_view : (f : ℕ → Bool) (units k n buckets seq : ℕ) (map : List Bool) (found : Option (List ℕ)) → units_by f units ≡ map → found ≡ strips f units k n buckets seq → found ≡ strips (is_taken map) (length map) k n buckets seq
+pub strips_of_view : (f : ℕ → Bool) (units k n buckets seq : ℕ) (map : List Bool) (found : Option (List ℕ)) → units_by f units ≡ map
+    → found ≡ strips f units k n buckets seq → found ≡ strips (is_taken map) (length map) k n buckets seq
 strips_of_view f units k n buckets seq map found e h =
     h ∙ strips_same f (is_taken map) units k n buckets seq (taken_of_view f units map e)
     ∙ ap (λ (m : ℕ). strips (is_taken map) m k n buckets seq) (units_of_view f units map e)
 
 -- zeros with the first units marked
-pub first_marked : (words zeros : List ℕ) (n used : ℕ) → zeros ≡ replicate n 0 → ((u : ℕ) → is_bit_set words u ≡ (is_bit_set zeros u || is_between 0 used u)) → (u : ℕ) → is_bit_set words u ≡ ltb u used
+pub first_marked : (words zeros : List ℕ) (n used : ℕ) → zeros ≡ replicate n 0
+    → ((u : ℕ) → is_bit_set words u ≡ (is_bit_set zeros u || is_between 0 used u)) → (u : ℕ) → is_bit_set words u ≡ ltb u used
 first_marked words zeros n used z marked u =
     marked u ∙ ap (λ (b : Bool). b || is_between 0 used u) (ap (λ (ws : List ℕ). is_bit_set ws u) z ∙ zeros_free n u)
     ∙ ap (λ (b : Bool). b && ltb u used) (le-leb 0 u (omega arith))
@@ -88,7 +90,9 @@ module _ (f : ℕ → Bool) (units unit : ℕ) (map : List Bool) (extents : List
   ]
 
   -- and as many more are used as the extents have
-  pub counted_more : (g : ℕ → Bool) (used count : ℕ) → used ≡ taken_units (units_by f units) → first_overlap f (units_in unit extents) ≡ None → count ≡ length (units_in unit extents) → ((u : ℕ) → g u ≡ (f u || holds (units_in unit extents) u)) → used + count ≡ taken_units (units_by g units)
+  pub counted_more : (g : ℕ → Bool) (used count : ℕ) → used ≡ taken_units (units_by f units) → first_overlap f (units_in unit extents) ≡ None
+      → count ≡ length (units_in unit extents) → ((u : ℕ) → g u ≡ (f u || holds (units_in unit extents) u))
+      → used + count ≡ taken_units (units_by g units)
   counted_more g used count had clear n more =
       let all : passing g units ≡ passing f units + length (units_in unit extents) =
       passing_same g (λ u. f u || holds (units_in unit extents) u) units (λ u below. more u)

@@ -60,4 +60,6 @@ each_of_eight p xs a b c d e f g h is_a is_b is_c is_d is_e is_f is_g is_h all =
     let to_d = left_of _ _ to_e in
     let to_c = left_of _ _ to_d in
     let to_b = left_of _ _ to_c in
-    below_eight (λ (k : ℕ). p (get_or xs k 0) ≡ true) (sym is_a ∙ left_of _ _ to_b) (sym is_b ∙ right_of _ _ to_b) (sym is_c ∙ right_of _ _ to_c) (sym is_d ∙ right_of _ _ to_d) (sym is_e ∙ right_of _ _ to_e) (sym is_f ∙ right_of _ _ to_f) (sym is_g ∙ right_of _ _ to_g) (sym is_h ∙ right_of _ _ all)
+    below_eight (λ (k : ℕ). p (get_or xs k 0) ≡ true) (sym is_a ∙ left_of _ _ to_b) (sym is_b ∙ right_of _ _ to_b) (sym is_c ∙ right_of _ _ to_c)
+    (sym is_d ∙ right_of _ _ to_d) (sym is_e ∙ right_of _ _ to_e) (sym is_f ∙ right_of _ _ to_f) (sym is_g ∙ right_of _ _ to_g)
+    (sym is_h ∙ right_of _ _ all)

@@ -8,7 +8,8 @@ use Rattle.std.proofs.lemmas.Bool.Decides.{nat_tests}
 use Rattle.fam_base.specs.ExtentLists.{extent_limit, no_extent, filled, extent_eq, extents_eq, IsExtentsField}
 
 -- one more member in a field of room members
-set_filled : {X : Type 0} (xs : List X) (z x : X) (room more : ℕ) → length xs + suc more ≡ room → set (xs ++ replicate (room - length xs) z) (length xs) x ≡ (xs ++ x ∷ []) ++ replicate (room - length (xs ++ x ∷ [])) z
+set_filled : {X : Type 0} (xs : List X) (z x : X) (room more : ℕ) → length xs + suc more ≡ room
+    → set (xs ++ replicate (room - length xs) z) (length xs) x ≡ (xs ++ x ∷ []) ++ replicate (room - length (xs ++ x ∷ [])) z
 set_filled {X} xs z x room more e =
     let left : room - length xs ≡ suc more = omega arith in
     let right : room - length (xs ++ x ∷ []) ≡ more = omega (arith, length-append xs (x ∷ [])) in

@@ -83,7 +83,10 @@ range_count xs i count below =
     length-take-le (8 * i + 8 - 8 * i) (drop (8 * i) xs) (omega (arith, length-drop (8 * i) xs, count, below)) ∙ omega arith
 
 -- eight bytes at a place decide, and then those behind them
-pub eight_first : (a b : List ℕ) (i : ℕ) → length a ≡ 512 → length b ≡ 512 → i < 64 → AreBytes a → AreBytes b → path_cmp (drop (8 * i) a) (drop (8 * i) b) ≡ ordering_then (nat_cmp (big 0 (slice_range a (8 * i) (8 * i + 8))) (big 0 (slice_range b (8 * i) (8 * i + 8)))) (path_cmp (drop (8 * (i + 1)) a) (drop (8 * (i + 1)) b))
+pub eight_first : (a b : List ℕ) (i : ℕ) → length a ≡ 512 → length b ≡ 512 → i < 64 → AreBytes a → AreBytes b
+    → path_cmp (drop (8 * i) a) (drop (8 * i) b)
+    ≡ ordering_then (nat_cmp (big 0 (slice_range a (8 * i) (8 * i + 8))) (big 0 (slice_range b (8 * i) (8 * i + 8))))
+    (path_cmp (drop (8 * (i + 1)) a) (drop (8 * (i + 1)) b))
 eight_first a b i la lb below ba bb =
     let prefix = slice_range a (8 * i) (8 * i + 8) in
     let other = slice_range b (8 * i) (8 * i + 8) in
@@ -93,10 +96,13 @@ eight_first a b i la lb below ba bb =
     let same : length prefix ≡ length other = range_count a i la below ∙ sym (range_count b i lb below) in
     ap₂ path_cmp split_a split_b
     ∙ prefixes prefix other (drop (8 * (i + 1)) a) (drop (8 * (i + 1)) b) same
-    ∙ ap (λ (r : Ordering). ordering_then r (path_cmp (drop (8 * (i + 1)) a) (drop (8 * (i + 1)) b))) (sym (spelled prefix other 0 0 same (range_bytes (8 * i) (8 * i + 8) a ba) (range_bytes (8 * i) (8 * i + 8) b bb)))
+    ∙ ap (λ (r : Ordering). ordering_then r (path_cmp (drop (8 * (i + 1)) a) (drop (8 * (i + 1)) b)))
+    (sym (spelled prefix other 0 0 same (range_bytes (8 * i) (8 * i + 8) a ba) (range_bytes (8 * i) (8 * i + 8) b bb)))
 
 -- two words that are one go on
-pub goes_on : (a b : List ℕ) (i x y : ℕ) → length a ≡ 512 → length b ≡ 512 → i < 64 → AreBytes a → AreBytes b → x ≡ big 0 (slice_range a (8 * i) (8 * i + 8)) → y ≡ big 0 (slice_range b (8 * i) (8 * i + 8)) → x ≡ y → path_cmp (drop (8 * i) a) (drop (8 * i) b) ≡ path_cmp (drop (8 * (i + 1)) a) (drop (8 * (i + 1)) b)
+pub goes_on : (a b : List ℕ) (i x y : ℕ) → length a ≡ 512 → length b ≡ 512 → i < 64 → AreBytes a → AreBytes b
+    → x ≡ big 0 (slice_range a (8 * i) (8 * i + 8)) → y ≡ big 0 (slice_range b (8 * i) (8 * i + 8)) → x ≡ y
+    → path_cmp (drop (8 * i) a) (drop (8 * i) b) ≡ path_cmp (drop (8 * (i + 1)) a) (drop (8 * (i + 1)) b)
 goes_on a b i x y la lb below ba bb isx isy same =
     eight_first a b i la lb below ba bb ∙ ap (λ (r : Ordering). ordering_then r (path_cmp (drop (8 * (i + 1)) a) (drop (8 * (i + 1)) b))) (equal _ _ (sym isx ∙ same ∙ isy))
 
@@ -112,7 +118,9 @@ differs x y other = elim (cases_order x y) [
 ]
 
 -- and two that differ decide
-pub decides : (a b : List ℕ) (i x y : ℕ) → length a ≡ 512 → length b ≡ 512 → i < 64 → AreBytes a → AreBytes b → x ≡ big 0 (slice_range a (8 * i) (8 * i + 8)) → y ≡ big 0 (slice_range b (8 * i) (8 * i + 8)) → x ≢ y → nat_cmp x y ≡ path_cmp (drop (8 * i) a) (drop (8 * i) b)
+pub decides : (a b : List ℕ) (i x y : ℕ) → length a ≡ 512 → length b ≡ 512 → i < 64 → AreBytes a → AreBytes b
+    → x ≡ big 0 (slice_range a (8 * i) (8 * i + 8)) → y ≡ big 0 (slice_range b (8 * i) (8 * i + 8)) → x ≢ y
+    → nat_cmp x y ≡ path_cmp (drop (8 * i) a) (drop (8 * i) b)
 decides a b i x y la lb below ba bb isx isy other =
     sym (eight_first a b i la lb below ba bb
     ∙ ap (λ (r : Ordering). ordering_then r (path_cmp (drop (8 * (i + 1)) a) (drop (8 * (i + 1)) b))) (sym (ap₂ nat_cmp isx isy))

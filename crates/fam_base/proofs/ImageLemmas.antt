@@ -93,7 +93,8 @@ module _ (image : Image) (normal : map eight image ≡ image) where
   normal-with_line at words = map-set eight image at (eight words) ∙ ap (λ (l : Image). set l at (eight words)) normal
 
   pub normal-with_masked : (at : ℕ) (words : List ℕ) (mask : ℕ) → IsNormal (Some (with_masked at words mask image))
-  normal-with_masked at words mask = ap (λ (l : Image). map eight l) (with_masked-with_line image at words mask) ∙ normal-with_line at (masked mask words (line_at image at)) ∙ sym (with_masked-with_line image at words mask)
+  normal-with_masked at words mask = ap (λ (l : Image). map eight l) (with_masked-with_line image at words mask)
+      ∙ normal-with_line at (masked mask words (line_at image at)) ∙ sym (with_masked-with_line image at words mask)
 
   -- with no word masked nothing changes
   pub with_masked-none : (at : ℕ) (words : List ℕ) → with_masked at words 0 image ≡ image

@@ -63,9 +63,11 @@ pub prefix_is_path : (bytes : List ℕ) (i : ℕ) → is_path bytes ≡ true →
 prefix_is_path bytes i path below slash =
     let p = parts_of_path bytes path in
     let e : take i bytes ++ 47 ∷ drop (i + 1) bytes ≡ bytes = cut_at bytes i below slash in
-    let nul : (has_no_nul (take i bytes) && has_no_nul (47 ∷ drop (i + 1) bytes)) ≡ true = sym (list_all-append (λ b. nat_lt 0 b && nat_lt b 256) (take i bytes) (47 ∷ drop (i + 1) bytes)) ∙ ap has_no_nul e ∙ p.no_nul in
+    let nul : (has_no_nul (take i bytes) && has_no_nul (47 ∷ drop (i + 1) bytes)) ≡ true =
+    sym (list_all-append (λ b. nat_lt 0 b && nat_lt b 256) (take i bytes) (47 ∷ drop (i + 1) bytes)) ∙ ap has_no_nul e ∙ p.no_nul in
     let cut : names (take i bytes ++ 47 ∷ drop (i + 1) bytes) ≡ names (take i bytes) ++ names (drop (i + 1) bytes) = slice_split-append is_slash (take i bytes) 47 (drop (i + 1) bytes) refl in
-    let ns : (list_all is_name (names (take i bytes)) && list_all is_name (names (drop (i + 1) bytes))) ≡ true = sym (list_all-append is_name (names (take i bytes)) (names (drop (i + 1) bytes))) ∙ ap (list_all is_name) (sym cut ∙ ap names e) ∙ p.names in
+    let ns : (list_all is_name (names (take i bytes)) && list_all is_name (names (drop (i + 1) bytes))) ≡ true =
+    sym (list_all-append is_name (names (take i bytes)) (names (drop (i + 1) bytes))) ∙ ap (list_all is_name) (sym cut ∙ ap names e) ∙ p.names in
     path_of_parts (take i bytes) record {
       some = name_some _ (and_left _ _ ns);
       fits = omega (arith, length-take i bytes, p.fits);
@@ -145,7 +147,8 @@ HasSlash bytes = (i : ℕ) × IsLastSlash bytes i
 HasNoSlash : List ℕ → Type 0
 HasNoSlash bytes = (k : ℕ) → k < length bytes → get_or bytes k 0 ≡ 47 → ⊥
 
-one_more_none : (bytes : List ℕ) (n : ℕ) → (get_or bytes n 0 ≡ 47 → ⊥) → ((k : ℕ) → n + 1 ≤ k → k < length bytes → get_or bytes k 0 ≡ 47 → ⊥) → (k : ℕ) → n ≤ k → k < length bytes → get_or bytes k 0 ≡ 47 → ⊥
+one_more_none : (bytes : List ℕ) (n : ℕ) → (get_or bytes n 0 ≡ 47 → ⊥) → ((k : ℕ) → n + 1 ≤ k → k < length bytes → get_or bytes k 0 ≡ 47 → ⊥)
+    → (k : ℕ) → n ≤ k → k < length bytes → get_or bytes k 0 ≡ 47 → ⊥
 one_more_none bytes n here after k from within slash =
     elim (cases_eq k n) [
       | inl same ↦ here (ap (λ (j : ℕ). get_or bytes j 0) (sym same) ∙ slash)

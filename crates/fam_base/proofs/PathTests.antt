@@ -33,7 +33,8 @@ no_nul_more bytes i below before fits some =
     ∙ not_nul (get_or bytes i 0) fits some
 
 -- one byte more of a name
-pub byte_passed : (bytes : List ℕ) (start i : ℕ) → Passed bytes start i → i < length bytes → get_or bytes i 0 < 256 → (get_or bytes i 0 ≡ 0 → ⊥) → (get_or bytes i 0 ≡ 47 → ⊥) → Passed bytes start (i + 1)
+pub byte_passed : (bytes : List ℕ) (start i : ℕ) → Passed bytes start i → i < length bytes → get_or bytes i 0 < 256 → (get_or bytes i 0 ≡ 0 → ⊥)
+    → (get_or bytes i 0 ≡ 47 → ⊥) → Passed bytes start (i + 1)
 byte_passed bytes start i p below fits some other =
     let within : start ≤ i = p.within in
     let next : i + 1 - start ≡ i - start + 1 = omega arith in
@@ -58,7 +59,8 @@ cut_behind bytes start i within below slash =
     (drop-drop (i - start) start bytes ∙ ap (λ (n : ℕ). drop n bytes) place ∙ drop_more bytes i 0 below ∙ ap (λ (b : ℕ). b ∷ drop (i + 1) bytes) slash)
 
 -- the names from one on that a slash ends
-names_at : (bytes : List ℕ) (start i : ℕ) → Passed bytes start i → i < length bytes → get_or bytes i 0 ≡ 47 → list_all is_name (names bytes) ≡ (is_name (part bytes start i) && list_all is_name (names (drop (i + 1) bytes)))
+names_at : (bytes : List ℕ) (start i : ℕ) → Passed bytes start i → i < length bytes → get_or bytes i 0 ≡ 47
+    → list_all is_name (names bytes) ≡ (is_name (part bytes start i) && list_all is_name (names (drop (i + 1) bytes)))
 names_at bytes start i p below slash =
     p.names ∙ ap (λ (l : List ℕ). list_all is_name (names l)) (cut_behind bytes start i p.within below slash)
     ∙ ap (list_all is_name) (slice_split_at is_slash (part bytes start i) 47 (drop (i + 1) bytes) p.name refl)
@@ -75,7 +77,8 @@ slash_passed bytes start i p below slash proper =
     }
 
 -- a slash behind what is no name
-pub bad_name : (bytes : List ℕ) (start i : ℕ) → Passed bytes start i → i < length bytes → get_or bytes i 0 ≡ 47 → is_name (part bytes start i) ≡ false → (has_no_nul bytes && list_all is_name (names bytes)) ≡ false
+pub bad_name : (bytes : List ℕ) (start i : ℕ) → Passed bytes start i → i < length bytes → get_or bytes i 0 ≡ 47 → is_name (part bytes start i) ≡ false
+    → (has_no_nul bytes && list_all is_name (names bytes)) ≡ false
 bad_name bytes start i p below slash bad =
     let none : list_all is_name (names bytes) ≡ false = names_at bytes start i p below slash ∙ ap (λ (t : Bool). t && list_all is_name (names (drop (i + 1) bytes))) bad in
     grind (arith, nat_tests)

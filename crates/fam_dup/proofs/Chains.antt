@@ -50,7 +50,8 @@ module _ (all a b c d e : List Put) (parts : all ≡ a ++ (b ++ (c ++ (d ++ e)))
   cut_4 first second third cut = pass_cut all d e t0 t3 t4 (behind_3 first second third) cut
 
   -- the last one ends as it does
-  pub ends_5 : {T E : Type 0} (At : E → Put → Type 0) (result : Result T E) → ArePut a t0 t1 → ArePut b t1 t2 → ArePut c t2 t3 → ArePut d t3 t4 → PutsEnd At e t4 t5 result → PutsEnd At all t0 t5 result
+  pub ends_5 : {T E : Type 0} (At : E → Put → Type 0) (result : Result T E) → ArePut a t0 t1 → ArePut b t1 t2 → ArePut c t2 t3 → ArePut d t3 t4
+      → PutsEnd At e t4 t5 result → PutsEnd At all t0 t5 result
   ends_5 At (Ok u) first second third fourth put =
       let last : ArePassed all (e ++ []) t0 t4 = subst (λ (l : List Put). ArePassed all l t0 t4) (sym (append-nil e)) (behind_4 first second third fourth) in
       pass_all all t0 t5 (pass_part all e [] t0 t4 t5 last put)

@@ -18,7 +18,8 @@ use Rattle.fam_dup.specs.Ends.{IsCopied, IsOldOrNone}
 use Rattle.fam_dup.specs.Lines.{LinesPartlyPut, IsOffCopy, IsPartlyPut, body_puts, copy_puts}
 use Rattle.fam_dup.proofs.Whole.{body_off, enough, off_all, whole_copy}
 
-module _ (q : Params) (es cs : List Entry) (from to : Image) (sound : SoundParams q) (fits : q.device ≤ line_bytes * length to) (history : IsHistory (record { params = q; entries = cs })) (copies : AreCopies es cs) where
+module _ (q : Params) (es cs : List Entry) (from to : Image) (sound : SoundParams q) (fits : q.device ≤ line_bytes * length to)
+    (history : IsHistory (record { params = q; entries = cs })) (copies : AreCopies es cs) where
   some : 0 < length to
   some = omega (arith, enough q es cs from to sound fits history copies)
 
@@ -28,7 +29,8 @@ module _ (q : Params) (es cs : List Entry) (from to : Image) (sound : SoundParam
   in_part put before new (inr torn) = inr (torn.mask, same_Some new (with_masked put.0 put.1 torn.mask before) torn.written)
 
   -- old, none or whole
-  by_left : (new : Image) → Left (body_puts (line_at from) q es cs) to some (body_off q es cs from to sound fits history copies) new → IsOldOrNone (reading to) (reading new) ⊎ IsCopied from to new q es cs
+  by_left : (new : Image) → Left (body_puts (line_at from) q es cs) to some (body_off q es cs from to sound fits history copies) new
+      → IsOldOrNone (reading to) (reading new) ⊎ IsCopied from to new q es cs
   by_left new (inl same) = inl (inl same)
   by_left new (inr (inl none)) = inl (inr none)
   by_left new (inr (inr made)) =

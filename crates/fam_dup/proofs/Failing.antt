@@ -15,7 +15,8 @@ from_later first before now FailsTo later cause = absurd cause
 from_later first before now (Refuses found) later cause = cause
 from_later first before now WantsMemory later cause = cause
 
-pub failure_later : (from_first from from_now to_first to to_now : ℕ) (class : FaultClass) → from_first ≤ from → to_first ≤ to → IsFailure from from_now to to_now class → IsFailure from_first from_now to_first to_now class
+pub failure_later : (from_first from from_now to_first to to_now : ℕ) (class : FaultClass) → from_first ≤ from → to_first ≤ to
+    → IsFailure from from_now to to_now class → IsFailure from_first from_now to_first to_now class
 failure_later from_first from from_now to_first to to_now (Refuses found) later_from later_to fails = fails
 failure_later from_first from from_now to_first to to_now FailsFrom later_from later_to fails = rose_later from_first from from_now later_from fails
 failure_later from_first from from_now to_first to to_now FailsTo later_from later_to fails = rose_later to_first to to_now later_to fails

@@ -59,7 +59,8 @@ pub wanted_memory : (from to : Image) (p : Params) (force : Bool) (class : Fault
 wanted_memory from to p force class found is = subst (λ (k : FaultClass). Names k found × ClassLeaves from to to p force k) (sym is) (tt, refl)
 
 -- a media that failed says nothing of what was found, and leaves a part of the copy
-pub failed_ends : (from old new : Image) (p : Params) (force : Bool) (class : FaultClass) (found : Finding) (a b c d : ℕ) → IsFailure a b c d class → IsLeft from old new p force → Names class found × ClassLeaves from old new p force class
+pub failed_ends : (from old new : Image) (p : Params) (force : Bool) (class : FaultClass) (found : Finding) (a b c d : ℕ) → IsFailure a b c d class
+    → IsLeft from old new p force → Names class found × ClassLeaves from old new p force class
 failed_ends from old new p force (Refuses told) found a b c d fails left = absurd fails
 failed_ends from old new p force FailsFrom found a b c d fails left = (tt, left)
 failed_ends from old new p force FailsTo found a b c d fails left = (tt, left)

@@ -78,7 +78,8 @@ copies_more list copies e c are is = record {
 }
 
 -- a log with one entry more
-history_more : (q : Params) (copies : List Entry) (c : Entry) → IsHistory (record { params = q; entries = copies }) → length copies < q.slots → IsAdded q copies c → IsHistory (record { params = q; entries = copies ++ c ∷ [] })
+history_more : (q : Params) (copies : List Entry) (c : Entry) → IsHistory (record { params = q; entries = copies }) → length copies < q.slots
+    → IsAdded q copies c → IsHistory (record { params = q; entries = copies ++ c ∷ [] })
 history_more q copies c log left is = record {
   params = log.params;
   few = omega (arith, length-append copies (c ∷ []));

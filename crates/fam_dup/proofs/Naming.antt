@@ -104,7 +104,8 @@ file_step e c words j n below few (fault.BadEntry seq reason) is fails = absurd 
 file_step e c words j n below few (fault.TooSmall needed have) is fails = absurd (cc)
 file_step e c words j n below few (fault.HasSuper fs) is fails = absurd (cc)
 file_step e c words j n below few (fault.Stopped seq refusal) is fails = absurd (cc)
-file_step e c words j n below few (fault.FromFault line) is fails = record { next = j; ahead = fails.0; puts = refl; reads = fails.2; within = below fails.0 fails.1; few = omega (arith, fails.1, few) }
+file_step e c words j n below few (fault.FromFault line) is fails =
+    record { next = j; ahead = fails.0; puts = refl; reads = fails.2; within = below fails.0 fails.1; few = omega (arith, fails.1, few) }
 file_step e c words j n below few (fault.ToFault line) is fails = absurd (cc)
 file_step e c words j n below few fault.OutOfMemory is fails = absurd (cc)
 

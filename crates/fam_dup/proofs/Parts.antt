@@ -25,7 +25,8 @@ pub no_byte_at : (memory : Lines) (e : Entry) (o : ℕ) → e.size ≤ o → get
 no_byte_at memory e o past =
     get_or_past (bytes_in memory e) o 0 (omega (arith, length-map-range_with_len (λ o. byte_in (memory (place e o / line_bytes)) (place e o % line_bytes)) 0 e.size))
 
-module _ (memory : Lines) (p : Params) (e : Entry) (j : ℕ) (line words : List ℕ) (sound : SoundParams p) (proper : Proper p e) (below : line_bytes * j < e.size) (is : line ≡ memory (file_line e j)) where
+module _ (memory : Lines) (p : Params) (e : Entry) (j : ℕ) (line words : List ℕ) (sound : SoundParams p) (proper : Proper p e)
+    (below : line_bytes * j < e.size) (is : line ≡ memory (file_line e j)) where
   -- a byte of the line is the file's
   byte_of_part : (b : ℕ) → b < 64 → 64 * j + b < e.size → byte_in line b ≡ get_or (bytes_in memory e) (64 * j + b) 0
   byte_of_part b small inside =
@@ -37,7 +38,8 @@ module _ (memory : Lines) (p : Params) (e : Entry) (j : ℕ) (line words : List 
       ∙ sym (byte_at memory e (64 * j + b) inside)
 
   -- the first bytes of the line, with zeros behind, are the file's line
-  pub part_words : length words ≡ 8 → ((w : ℕ) → get_or words w 0 < 2 ^ 64) → ((b : ℕ) → b < 64 → byte_in words b ≡ if nat_lt b (e.size - 64 * j) then byte_in line b else 0) → words ≡ file_words (bytes_in memory e) j
+  pub part_words : length words ≡ 8 → ((w : ℕ) → get_or words w 0 < 2 ^ 64)
+      → ((b : ℕ) → b < 64 → byte_in words b ≡ if nat_lt b (e.size - 64 * j) then byte_in line b else 0) → words ≡ file_words (bytes_in memory e) j
   part_words count fits each =
       line_by_bytes words (bytes_in memory e) j count fits (λ b small.
       elim (cases_lt b (e.size - 64 * j)) [

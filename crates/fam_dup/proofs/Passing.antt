@@ -34,7 +34,8 @@ pub cut_as : {At By : Put → Type 0} (puts : List Put) (old new : Option Image)
 cut_as puts old new more cut = record { cut = cut.cut; at = more cut.cut.put cut.at }
 
 -- so it is where all may have been put
-pub ends_as : {T E : Type 0} (At By : E → Put → Type 0) (puts : List Put) (old new : Option Image) (result : Result T E) → ((fault : E) (put : Put) → At fault put → By fault put) → PutsEnd At puts old new result → PutsEnd By puts old new result
+pub ends_as : {T E : Type 0} (At By : E → Put → Type 0) (puts : List Put) (old new : Option Image) (result : Result T E)
+    → ((fault : E) (put : Put) → At fault put → By fault put) → PutsEnd At puts old new result → PutsEnd By puts old new result
 ends_as At By puts old new (Ok u) more put = put
 ends_as At By puts old new (Err fault) more cut = cut_as puts old new (more fault) cut
 

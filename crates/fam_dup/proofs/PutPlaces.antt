@@ -61,7 +61,8 @@ own_slot : (p : Params) (seq : ℕ) (c : Entry) (image : Image) (j : ℕ) → j 
 own_slot p seq c image j below within =
     at_put (slot_line p seq) (slot_part (spelling (geometry p) c seq)) 0 (geometry p).lines image j (omega arith) (omega arith) within (λ i past end same. omega arith)
 
-pub slot_there : (p : Params) (copies : List Entry) (seq : ℕ) (image : Image) (i : ℕ) (c : Entry) (j : ℕ) → slice_get copies i ≡ Some c → j < (geometry p).lines → slot_line p (seq + i) j < length image
+pub slot_there : (p : Params) (copies : List Entry) (seq : ℕ) (image : Image) (i : ℕ) (c : Entry) (j : ℕ) → slice_get copies i ≡ Some c
+    → j < (geometry p).lines → slot_line p (seq + i) j < length image
     → line_at (put_lines (slots_puts p seq copies) image) (slot_line p (seq + i) j) ≡ eight (slot_part (spelling (geometry p) c (seq + i)) j)
 slot_there p [] seq image i c j at below within = absurd (cc)
 slot_there p (x ∷ copies) seq image zero c j at below within =
@@ -86,7 +87,8 @@ slot_there p (x ∷ copies) seq image (suc i) c j at below within =
 -- lines of files are apart: one line holds one line of one file
 abbrev pub AreFilesApart : List Entry → Type 0
 AreFilesApart copies =
-    (i k : ℕ) (c d : Entry) (j m : ℕ) → slice_get copies i ≡ Some c → slice_get copies k ≡ Some d → line_bytes * j < c.size → line_bytes * m < d.size → file_line c j ≡ file_line d m → (i ≡ k) × (j ≡ m)
+    (i k : ℕ) (c d : Entry) (j m : ℕ) → slice_get copies i ≡ Some c → slice_get copies k ≡ Some d → line_bytes * j < c.size → line_bytes * m < d.size
+    → file_line c j ≡ file_line d m → (i ≡ k) × (j ≡ m)
 
 rest_apart : (c : Entry) (copies : List Entry) → AreFilesApart (c ∷ copies) → AreFilesApart copies
 rest_apart c copies apart i k d e j m at_i at_k j_below m_below same =
@@ -100,7 +102,8 @@ own_line c bytes image j once below within =
     at_put (file_line c) (file_words bytes) 0 (lines_of c.size) image j (omega arith) (omega arith) within
     (λ i past end same. let one : j ≡ i = once i (omega arith) same in omega arith)
 
-pub line_there : (memory : Lines) (entries copies : List Entry) (image : Image) (i : ℕ) (e c : Entry) (j : ℕ) → AreFilesApart copies → slice_get entries i ≡ Some e → slice_get copies i ≡ Some c → line_bytes * j < c.size → file_line c j < length image
+pub line_there : (memory : Lines) (entries copies : List Entry) (image : Image) (i : ℕ) (e c : Entry) (j : ℕ) → AreFilesApart copies
+    → slice_get entries i ≡ Some e → slice_get copies i ≡ Some c → line_bytes * j < c.size → file_line c j < length image
     → line_at (put_lines (files_puts memory entries copies) image) (file_line c j) ≡ file_words (bytes_in memory e) j
 line_there memory [] copies image i e c j apart at_e at_c below within = absurd (cc)
 line_there memory (x ∷ entries) [] image i e c j apart at_e at_c below within = absurd (cc)

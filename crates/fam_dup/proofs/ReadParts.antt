@@ -27,7 +27,9 @@ module _ (image : Image) (p : Params) (e : Entry) (j first : ℕ) (mid new : Lis
     (others : (i : ℕ) → i < length mid - 1 → line_in new i ≡ line_in mid i)
     (last : (b : ℕ) → b < 64 → byte_in (line_in new (length mid - 1)) b ≡ if nat_lt b (e.size - line_bytes * (j + (length mid - 1))) then byte_in (line_in mid (length mid - 1)) b else 0) where
   -- line i is the file's, where its bytes are those that were read, up to the file's size
-  one : (i : ℕ) → i < length new → ((b : ℕ) → b < 64 → byte_in (line_in new i) b ≡ if nat_lt b (e.size - 64 * (j + i)) then byte_in (line_in mid i) b else 0) → line_in new i ≡ file_words (bytes_in (line_at image) e) (j + i)
+  one : (i : ℕ) → i < length new →
+      ((b : ℕ) → b < 64 → byte_in (line_in new i) b ≡ if nat_lt b (e.size - 64 * (j + i)) then byte_in (line_in mid i) b else 0)
+      → line_in new i ≡ file_words (bytes_in (line_at image) e) (j + i)
   one i inside each =
       let within : i < length mid = omega (arith, inside, count) in
       part_words (line_at image) p e (j + i) (eight (line_in mid i)) (line_in new i) sound proper (below i within)
@@ -41,7 +43,8 @@ module _ (image : Image) (p : Params) (e : Entry) (j first : ℕ) (mid new : Lis
         | inl before ↦
             let next : line_bytes * (j + (i + 1)) < e.size = below (i + 1) (omega (arith, before)) in
             one i inside (λ b small.
-            let whole : (if nat_lt b (e.size - 64 * (j + i)) then byte_in (line_in mid i) b else 0) ≡ byte_in (line_in mid i) b = (let more : b < e.size - 64 * (j + i) = omega (arith, next, small) in grind (arith, nat_tests)) in
+            let whole : (if nat_lt b (e.size - 64 * (j + i)) then byte_in (line_in mid i) b else 0) ≡ byte_in (line_in mid i) b =
+            (let more : b < e.size - 64 * (j + i) = omega (arith, next, small) in grind (arith, nat_tests)) in
             ap (λ (w : List ℕ). byte_in w b) (others i before) ∙ sym whole)
         | inr past ↦
             let same : length mid - 1 ≡ i = omega (arith, inside, count, past) in

@@ -128,7 +128,8 @@ same_puts f h g w a b (suc n) numbers words =
     (λ i below. let a_next : a + 1 + i ≡ a + suc i = omega arith in let b_next : b + 1 + i ≡ b + suc i = omega arith in ap g a_next ∙ words (suc i) (omega arith) ∙ ap w (sym b_next)))
 
 -- the lines of a run are those of the file's
-pub run_parts : (c : Entry) (bytes : List ℕ) (j first : ℕ) (lines : List (List ℕ)) → first ≡ file_line c j → AreTogether c j (length lines) → HoldFileParts bytes j lines → run_puts first lines ≡ part_puts c bytes j (length lines)
+pub run_parts : (c : Entry) (bytes : List ℕ) (j first : ℕ) (lines : List (List ℕ)) → first ≡ file_line c j → AreTogether c j (length lines)
+    → HoldFileParts bytes j lines → run_puts first lines ≡ part_puts c bytes j (length lines)
 run_parts c bytes j first lines is together parts =
     same_puts (λ i. first + i) (file_line c) (line_in lines) (file_words bytes) 0 j (length lines)
     (λ i below. let at : 0 + i ≡ i = omega arith in ap (λ (k : ℕ). first + k) at ∙ ap (λ (l : ℕ). l + i) is ∙ sym (together i below))

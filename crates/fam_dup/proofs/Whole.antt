@@ -81,7 +81,8 @@ bytes_fit memory e i =
     ]
 
 -- where the line of a file's byte has the bytes of a line of other bytes, the file has that byte
-byte_there : (memory : Lines) (p : Params) (e : Entry) (bytes : List ℕ) (o : ℕ) → SoundParams p → Proper p e → o < e.size → ((i : ℕ) → get_or bytes i 0 < 256) → memory (file_line e (o / 64)) ≡ file_words bytes (o / 64)
+byte_there : (memory : Lines) (p : Params) (e : Entry) (bytes : List ℕ) (o : ℕ) → SoundParams p → Proper p e → o < e.size
+    → ((i : ℕ) → get_or bytes i 0 < 256) → memory (file_line e (o / 64)) ≡ file_words bytes (o / 64)
     → byte_in (memory (place e o / line_bytes)) (place e o % line_bytes) ≡ get_or bytes o 0
 byte_there memory p e bytes o sound proper below fits is =
     let at : line_bytes * (o / 64) + o % 64 ≡ o = omega arith in
@@ -95,7 +96,8 @@ byte_there memory p e bytes o sound proper below fits is =
 
 -- The lines.
 
-module _ (q : Params) (es cs : List Entry) (from to : Image) (sound : SoundParams q) (fits : q.device ≤ line_bytes * length to) (history : IsHistory (record { params = q; entries = cs })) (copies : AreCopies es cs) where
+module _ (q : Params) (es cs : List Entry) (from to : Image) (sound : SoundParams q) (fits : q.device ≤ line_bytes * length to)
+    (history : IsHistory (record { params = q; entries = cs })) (copies : AreCopies es cs) where
   -- the lines of the head
   abbrev gate : Put
   gate = (gate_line, gate_words (length cs))
@@ -230,7 +232,8 @@ module _ (q : Params) (es cs : List Entry) (from to : Image) (sound : SoundParam
       let gate_is : gate_in (line_at whole) ≡ length cs = ap (λ (words : List ℕ). slice_index words 0) at_gate in
       record {
         head = record {
-          super = ap₂ (λ (word : ℕ) (words : List ℕ). super_of word words (64 * length to)) (ap (λ (words : List ℕ). slice_index words 0) at_magic) (ap₂ (λ (xs ys : List ℕ). xs ++ ys) at_prefix at_rest ∙ super_lines q)
+          super = ap₂ (λ (word : ℕ) (words : List ℕ). super_of word words (64 * length to)) (ap (λ (words : List ℕ). slice_index words 0) at_magic)
+              (ap₂ (λ (xs ys : List ℕ). xs ++ ys) at_prefix at_rest ∙ super_lines q)
               ∙ read_spelling q sound (64 * length to) fits;
           header = ap (λ (words : List ℕ). log_fault words q) at_header ∙ header_passes q;
           gate = omega (arith, gate_is, history.few);
@@ -265,7 +268,8 @@ module _ (q : Params) (es cs : List Entry) (from to : Image) (sound : SoundParam
       let proper_c = (history.added i c at_c).proper in
       let proper_d = (history.added k d at_d).proper in
       let one : StandsAt cs i (line_bytes * j) (line_bytes * file_line c j) = record { entry = c; at = at_c; below = j_below; place = line_start c j proper_c j_below } in
-      let two : StandsAt cs k (line_bytes * m) (line_bytes * file_line c j) = record { entry = d; at = at_d; below = m_below; place = line_start d m proper_d m_below ∙ ap (λ (l : ℕ). line_bytes * l) (sym same) } in
+      let two : StandsAt cs k (line_bytes * m) (line_bytes * file_line c j) =
+      record { entry = d; at = at_d; below = m_below; place = line_start d m proper_d m_below ∙ ap (λ (l : ℕ). line_bytes * l) (sym same) } in
       let both = bytes_apart q cs i k (line_bytes * j) (line_bytes * m) (line_bytes * file_line c j) sound apart one two in
       (both.0, omega (arith, both.1))
 

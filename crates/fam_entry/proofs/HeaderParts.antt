@@ -17,7 +17,8 @@ one_by_one None None None None e = refl
 
 in_parts : (w : List ℕ) (p : Params) → log_fault w p ≡ or_else (sizes_fault w p) (rest_fault w p)
 unfolding log_fault
-in_parts w p = one_by_one (field_fault field.Magic (slice_index w 0) log_magic) (field_fault field.Crc (slice_index w 7) (log_crc w)) (field_fault field.Length (slice_index w 1) p.log_length) (field_fault field.Slots (slice_index w 2) p.slots) (rest_fault w p)
+in_parts w p = one_by_one (field_fault field.Magic (slice_index w 0) log_magic) (field_fault field.Crc (slice_index w 7) (log_crc w))
+    (field_fault field.Length (slice_index w 1) p.log_length) (field_fault field.Slots (slice_index w 2) p.slots) (rest_fault w p)
 
 -- a fault of the first part is the header's
 pub in_sizes : (w : List ℕ) (p : Params) (fault : LogFault) → sizes_fault w p ≡ Some fault → log_fault w p ≡ Some fault

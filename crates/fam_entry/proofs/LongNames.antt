@@ -40,12 +40,15 @@ module _ (bytes : List ℕ) (fits : (k : ℕ) → get_or bytes k 0 < 256) (some 
       path_of_parts bytes (record { some = omega arith; fits = omega arith; no_nul = left_true _ _ all; names = right_true _ _ all })
 
 -- a byte that is one of the eight from a place on
-pub is_other : (bytes : List ℕ) (at k mark : ℕ) → at ≤ k → k < at + 8 → k < length bytes → ((j : ℕ) → j < 8 → get_or (take (length bytes - at) (drop at bytes)) j 0 ≡ mark → ⊥) → get_or bytes k 0 ≡ mark → ⊥
+pub is_other : (bytes : List ℕ) (at k mark : ℕ) → at ≤ k → k < at + 8 → k < length bytes
+    → ((j : ℕ) → j < 8 → get_or (take (length bytes - at) (drop at bytes)) j 0 ≡ mark → ⊥) → get_or bytes k 0 ≡ mark → ⊥
 is_other bytes at k mark from below within each same =
     let place : at + (k - at) ≡ k = omega arith in
     each (k - at) (omega arith) (get_or-take (length bytes - at) (drop at bytes) (k - at) 0 (omega arith) ∙ get_or-drop at bytes (k - at) 0 ∙ ap (λ (m : ℕ). get_or bytes m 0) place ∙ same)
 
 -- the bytes before a place and the eight from one at or before it on
-pub eight_more : (bytes : List ℕ) (at from mark : ℕ) → from ≤ at → ((k : ℕ) → k < at → get_or bytes k 0 ≡ mark → ⊥) → ((j : ℕ) → j < 8 → get_or (take (length bytes - from) (drop from bytes)) j 0 ≡ mark → ⊥) → (k : ℕ) → k < from + 8 → k < length bytes → get_or bytes k 0 ≡ mark → ⊥
+pub eight_more : (bytes : List ℕ) (at from mark : ℕ) → from ≤ at → ((k : ℕ) → k < at → get_or bytes k 0 ≡ mark → ⊥)
+    → ((j : ℕ) → j < 8 → get_or (take (length bytes - from) (drop from bytes)) j 0 ≡ mark → ⊥) → (k : ℕ) → k < from + 8 → k < length bytes
+    → get_or bytes k 0 ≡ mark → ⊥
 eight_more bytes at from mark order before each k below within =
     elim (cases_lt k at) [ inl low ↦ before k low | inr high ↦ is_other bytes from k mark (omega arith) below within each ]

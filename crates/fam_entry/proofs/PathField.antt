@@ -87,7 +87,8 @@ path_field words bytes len few long each zeros path =
     }
 
 -- what is in the field is the path of the words
-pub path_read : {whole : ℕ} (words bytes : List ℕ) (len : ℕ) → slice_index words 6 ≡ len → len ≤ whole → length bytes ≡ whole → ((k : ℕ) → k < len → get_or bytes k 0 ≡ byte_from path_word words k) → take len bytes ≡ path_of words
+pub path_read : {whole : ℕ} (words bytes : List ℕ) (len : ℕ) → slice_index words 6 ≡ len → len ≤ whole → length bytes ≡ whole
+    → ((k : ℕ) → k < len → get_or bytes k 0 ≡ byte_from path_word words k) → take len bytes ≡ path_of words
 path_read words bytes len is few long each =
     filled_bytes path_word words bytes len (omega arith) each ∙ ap (λ (n : ℕ). bytes_from path_word words n) (sym is)
 

@@ -50,7 +50,8 @@ pub zero_above : (word u b : ℕ) → word / 2 ^ (8 * u) ≡ 0 → u ≤ b → b
 zero_above word u b none from =
     let place : u + (b - u) ≡ b = omega arith in
     let apart : 2 ^ (8 * u) * 256 ^ (b - u) ≡ 256 ^ b = ap (λ (p : ℕ). p * 256 ^ (b - u)) (bytes_of_bits u) ∙ sym (pow-add 256 u (b - u)) ∙ ap (λ (k : ℕ). 256 ^ k) place in
-    ap (λ (p : ℕ). word / p % 256) (sym apart) ∙ ap (λ (q : ℕ). q % 256) (sym (div-div-eq-div-mul word (2 ^ (8 * u)) (256 ^ (b - u))) ∙ ap (λ (q : ℕ). q / 256 ^ (b - u)) none ∙ zero-div (256 ^ (b - u)))
+    ap (λ (p : ℕ). word / p % 256) (sym apart) ∙ ap (λ (q : ℕ). q % 256)
+    (sym (div-div-eq-div-mul word (2 ^ (8 * u)) (256 ^ (b - u))) ∙ ap (λ (q : ℕ). q / 256 ^ (b - u)) none ∙ zero-div (256 ^ (b - u)))
 
 -- nor has a word that is zero from the path's end on
 pub outside : (words : List ℕ) (i u b : ℕ) → u ≡ slice_index words 6 - 8 * (i - path_word) → slice_index words i / 2 ^ (8 * u) ≡ 0 → is_stray_byte words i b ≡ false
@@ -65,7 +66,8 @@ outside words i u b used none =
     ]
 
 -- one of so many words in a part that are 0
-pub zero_within : (words : List ℕ) (i n count k : ℕ) → i ≤ k → k < i + count → count ≤ length (take n (drop i words)) → ((j : ℕ) → j < count → slice_index (take n (drop i words)) j ≡ 0) → slice_index words k ≡ 0
+pub zero_within : (words : List ℕ) (i n count k : ℕ) → i ≤ k → k < i + count → count ≤ length (take n (drop i words))
+    → ((j : ℕ) → j < count → slice_index (take n (drop i words)) j ≡ 0) → slice_index words k ≡ 0
 zero_within words i n count k from below long zeros =
     let place : i + (k - i) ≡ k = omega arith in
     let room : k - i < n = omega (arith, length-take n (drop i words)) in
@@ -82,7 +84,9 @@ filled : (words : List ℕ) (k : ℕ) → path_word ≤ k → 8 * (k - path_word
 filled words k from full = in_path words k from (any_false (is_stray_byte words k) 0 8 (λ b low below. inside words k b full below))
 
 -- no word is one where all are 0 between the fields and the path and behind the path, whose last word has no stray byte
-pub no_strays : (words : List ℕ) (last full : ℕ) → full ≡ path_word + slice_index words 6 / 8 → ((k : ℕ) → 7 ≤ k → k < 42 → slice_index words k ≡ 0) → (full < last → is_stray words full ≡ false) → ((k : ℕ) → full + 1 ≤ k → k < last → slice_index words k ≡ 0) → (k : ℕ) → extents_word ≤ k → k < last → is_stray words k ≡ false
+pub no_strays : (words : List ℕ) (last full : ℕ) → full ≡ path_word + slice_index words 6 / 8 → ((k : ℕ) → 7 ≤ k → k < 42 → slice_index words k ≡ 0)
+    → (full < last → is_stray words full ≡ false) → ((k : ℕ) → full + 1 ≤ k → k < last → slice_index words k ≡ 0) → (k : ℕ) → extents_word ≤ k
+    → k < last → is_stray words k ≡ false
 no_strays words last full is gap at behind k from below =
     elim (cases_lt k path_word) [
       | inl early ↦ zero_is_none words k (gap k (omega arith) early)
@@ -98,6 +102,8 @@ no_strays words last full is gap at behind k from below =
     ]
 
 -- the same where all are 0 from an end on
-pub no_strays_at : (words : List ℕ) (last full end : ℕ) → full ≡ path_word + slice_index words 6 / 8 → end ≤ full + 1 → ((k : ℕ) → 7 ≤ k → k < 42 → slice_index words k ≡ 0) → ((k : ℕ) → end ≤ k → k < last → slice_index words k ≡ 0) → list_any (is_stray_byte words full) (range_with_len 0 8) ≡ false → (k : ℕ) → extents_word ≤ k → k < last → is_stray words k ≡ false
+pub no_strays_at : (words : List ℕ) (last full end : ℕ) → full ≡ path_word + slice_index words 6 / 8 → end ≤ full + 1
+    → ((k : ℕ) → 7 ≤ k → k < 42 → slice_index words k ≡ 0) → ((k : ℕ) → end ≤ k → k < last → slice_index words k ≡ 0)
+    → list_any (is_stray_byte words full) (range_with_len 0 8) ≡ false → (k : ℕ) → extents_word ≤ k → k < last → is_stray words k ≡ false
 no_strays_at words last full end is early gap behind none =
     no_strays words last full is gap (λ below. in_path words full (omega (arith, is)) none) (λ k from below. behind k (omega (arith, from, early)) below)

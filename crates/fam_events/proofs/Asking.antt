@@ -84,7 +84,8 @@ begins_as : (name : List ℕ) (cmd : Cmd) (m : Machines) → refusal_of (call.Be
 unfolding refusal_of
 begins_as name cmd m = refl
 
-module _ (name : List ℕ) (what : Ask) (lines : ℕ) (old : WorldView) (shaped : IsShaped old) (fits : FitsMedia lines old.hosts) (told : Option Image) (modelled : IfModelled told (λ image. length image ≡ lines)) (faults : ℕ) (files : Option Files) (copied : ℕ) where
+module _ (name : List ℕ) (what : Ask) (lines : ℕ) (old : WorldView) (shaped : IsShaped old) (fits : FitsMedia lines old.hosts) (told : Option Image)
+    (modelled : IfModelled told (λ image. length image ≡ lines)) (faults : ℕ) (files : Option Files) (copied : ℕ) where
   abbrev shapes : List HostShape
   shapes = shapes_of old.journal
 
@@ -104,11 +105,13 @@ module _ (name : List ℕ) (what : Ask) (lines : ℕ) (old : WorldView) (shaped 
   pub undone : (now : ℕ) → AskUndone (asking lines old old told faults files copied now)
   undone now = record {
     adds = still_adds (asking lines old old told faults files copied now) record { world = refl; media = refl; count = refl } (λ lines hosts notes. notes ≡ []) shaped fits refl;
-    keeps = still_keeps (asking lines old old told faults files copied now) record { world = refl; media = refl; count = refl } (λ files. Nothing) (λ files_now start state files_are told_is held. (refl, refl));
+    keeps = still_keeps (asking lines old old told faults files copied now) record { world = refl; media = refl; count = refl } (λ files. Nothing)
+        (λ files_now start state files_are told_is held. (refl, refl));
   }
 
   -- nothing may begin there
-  pub may_not : (new : WorldView) (cause : Refusal) → first ≡ Some cause → WorldCall (call.Refuses name cause) lines None old new → AskRefused name what (asking lines old new told faults files copied copied)
+  pub may_not : (new : WorldView) (cause : Refusal) → first ≡ Some cause → WorldCall (call.Refuses name cause) lines None old new
+      → AskRefused name what (asking lines old new told faults files copied copied)
   may_not new cause is w = record {
     adds = of_shape (quiet_adds (call.Refuses name cause) lines None old new w (inr (some_cmd (mounts what), is)) shaped fits told faults files copied copied);
     keeps = λ start files_now state files_are told_is held.
@@ -126,7 +129,8 @@ module _ (name : List ℕ) (what : Ask) (lines : ℕ) (old : WorldView) (shaped 
         };
   }
     where
-      of_shape : AddsShape (DoesShape (call.Refuses name cause)) (asking lines old new told faults files copied copied) → AddsShape (RefusedShape name what) (asking lines old new told faults files copied copied)
+      of_shape : AddsShape (DoesShape (call.Refuses name cause)) (asking lines old new told faults files copied copied)
+          → AddsShape (RefusedShape name what) (asking lines old new told faults files copied copied)
       of_shape x = record {
         notes = x.notes;
         joined = x.joined;
@@ -135,12 +139,14 @@ module _ (name : List ℕ) (what : Ask) (lines : ℕ) (old : WorldView) (shaped 
         later = x.later;
         fits = x.fits;
         shaped = x.shaped;
-        shape = subst (λ (o : Option Refusal). ShapeByRefusal name o x.notes (Rattle.fam_journal.specs.EventShapes.UnfitNotes name what x.notes)) (sym (told_first ∙ is)) (refuses_shape name cause lines shapes x.notes x.shape);
+        shape = subst (λ (o : Option Refusal). ShapeByRefusal name o x.notes (Rattle.fam_journal.specs.EventShapes.UnfitNotes name what x.notes))
+            (sym (told_first ∙ is)) (refuses_shape name cause lines shapes x.notes x.shape);
       }
 
   module _ (free : first ≡ None) where
     -- the source makes no command
-    pub unfit : (new : WorldView) (cause : Refusal) (change : ShelfChange) (now : ℕ) → change.old.files ≡ files → IsUnfit change copied what now cause → WorldCall (call.Refuses name cause) lines None old new → AskRefused name what (asking lines old new told faults files copied now)
+    pub unfit : (new : WorldView) (cause : Refusal) (change : ShelfChange) (now : ℕ) → change.old.files ≡ files → IsUnfit change copied what now cause
+        → WorldCall (call.Refuses name cause) lines None old new → AskRefused name what (asking lines old new told faults files copied now)
     unfit new cause change now same u w = record {
       adds = of_shape (quiet_adds (call.Refuses name cause) lines None old new w (inl (of_source what cause u.shape)) shaped fits told faults files copied now);
       keeps = λ start files_now state files_are told_is held.
@@ -167,7 +173,8 @@ module _ (name : List ℕ) (what : Ask) (lines : ℕ) (old : WorldView) (shaped 
           };
     }
       where
-        of_shape : AddsShape (DoesShape (call.Refuses name cause)) (asking lines old new told faults files copied now) → AddsShape (RefusedShape name what) (asking lines old new told faults files copied now)
+        of_shape : AddsShape (DoesShape (call.Refuses name cause)) (asking lines old new told faults files copied now)
+            → AddsShape (RefusedShape name what) (asking lines old new told faults files copied now)
         of_shape x = record {
           notes = x.notes;
           joined = x.joined;
@@ -181,11 +188,20 @@ module _ (name : List ℕ) (what : Ask) (lines : ℕ) (old : WorldView) (shaped 
         }
 
     -- the reading of its source ended early
-    pub ended : (end : SourceEnd) (change : ShelfChange) → change.old.files ≡ files → IsEnded change copied what end → EventEnded (Begin name what) end (asking lines old old told faults files copied copied) × HasEndCause change end
+    pub ended : (end : SourceEnd) (change : ShelfChange) → change.old.files ≡ files → IsEnded change copied what end
+        → EventEnded (Begin name what) end (asking lines old old told faults files copied copied) × HasEndCause change end
     ended end change same e = (
       record {
         adds = still_adds (asking lines old old told faults files copied copied) record { world = refl; media = refl; count = refl } (SourceShape (Begin name what)) shaped fits
-            record { none = refl; host = name; source = e.name; reads = reads; free = ap (λ (mount : Bool). may_begin name mount (shown_shapes lines shapes)) (sym (source_plain what e.name e.source)) ∙ told_first ∙ free };
+            record {
+              none = refl;
+              host = name;
+              source = e.name;
+              reads = reads;
+              free =
+                  ap (λ (mount : Bool). may_begin name mount (shown_shapes lines shapes)) (sym (source_plain what e.name e.source)) ∙ told_first
+                  ∙ free;
+            };
         keeps = still_keeps (asking lines old old told faults files copied copied) record { world = refl; media = refl; count = refl } (IsToSource (Begin name what) end)
             (λ files_now start state files_are told_is held. (
               record {
@@ -206,7 +222,8 @@ module _ (name : List ℕ) (what : Ask) (lines : ℕ) (old : WorldView) (shaped 
         reads = ap (λ (o : Option (List ℕ)). named_source name o) e.source
 
     -- the command begins
-    module _ (cmd : Cmd) (fits_words : IsCommand cmd) (new : WorldView) (change : ShelfChange) (now : ℕ) (same : change.old.files ≡ files) (ready : HoldsSource change copied what now cmd) (w : WorldCall (call.Begins name cmd) lines None old new) where
+    module _ (cmd : Cmd) (fits_words : IsCommand cmd) (new : WorldView) (change : ShelfChange) (now : ℕ) (same : change.old.files ≡ files)
+        (ready : HoldsSource change copied what now cmd) (w : WorldCall (call.Begins name cmd) lines None old new) where
       abbrev a : WorldChange
       a = asking lines old new told faults files copied now
 
@@ -222,7 +239,8 @@ module _ (name : List ℕ) (what : Ask) (lines : ℕ) (old : WorldView) (shaped 
 
       placed : (notes : List Note) → DoesShape (call.Begins name cmd) lines shapes notes → Placed notes
       unfolding refusal_of
-      placed notes shape = by_number (number_of name (shown_shapes lines shapes)) refl (subst (λ (o : Option Refusal). ShapeByRefusal name o notes (FreeShape (call.Begins name cmd) lines shapes notes)) own_first shape)
+      placed notes shape = by_number (number_of name (shown_shapes lines shapes)) refl
+          (subst (λ (o : Option Refusal). ShapeByRefusal name o notes (FreeShape (call.Begins name cmd) lines shapes notes)) own_first shape)
         where
           by_host : (h : ℕ) → number_of name (shown_shapes lines shapes) ≡ Some h → (o : Option HostShape) → slice_get shapes h ≡ o → OfHostShape o (λ f. notes ≡ Start h cmd ∷ []) → Placed notes
           by_host h number None is x = absurd x
@@ -307,16 +325,19 @@ module _ (name : List ℕ) (what : Ask) (lines : ℕ) (old : WorldView) (shaped 
       }
 
 -- a call that refuses or begins, or finds no memory
-pub asked_as : (name : List ℕ) (what : Ask) (shelf : ShelfChange) (a : WorldChange) (r : Result Asked EventFault) (W X : Type 0) (want : Asked) → IfOk r (λ asked. (asked ≡ want) × W) → IfErr r (λ f. f ≡ fault.OutOfMemory) → OnErr r X
+pub asked_as : (name : List ℕ) (what : Ask) (shelf : ShelfChange) (a : WorldChange) (r : Result Asked EventFault) (W X : Type 0) (want : Asked)
+    → IfOk r (λ asked. (asked ≡ want) × W) → IfErr r (λ f. f ≡ fault.OutOfMemory) → OnErr r X
     → (W → AskSays name what shelf a (Ok want)) → (X → AskUndone a) → AskSays name what shelf a r
 asked_as name what shelf b (Ok asked) W X want done err undone if_done if_not = subst (λ (z : Asked). AskSays name what shelf b (Ok z)) (sym done.0) (if_done done.1)
 asked_as name what shelf b (Err f) W X want done err undone if_done if_not = subst (λ (z : EventFault). AskSays name what shelf b (Err z)) (sym err) (if_not undone)
 
 -- what a source comes to, where its value was moved
-pub ready_of : (change : ShelfChange) (copied : ℕ) (what : Ask) (now : ℕ) (came : Came) (cmd moved : Cmd) → came ≡ came_of.Ready cmd → moved ≡ cmd → IsSourced change copied what now came → HoldsSource change copied what now moved
+pub ready_of : (change : ShelfChange) (copied : ℕ) (what : Ask) (now : ℕ) (came : Came) (cmd moved : Cmd) → came ≡ came_of.Ready cmd → moved ≡ cmd
+    → IsSourced change copied what now came → HoldsSource change copied what now moved
 ready_of change copied what now came cmd moved is same says =
     subst (λ (z : Cmd). HoldsSource change copied what now z) (sym same) (subst (λ (z : Came). IsSourced change copied what now z) is says)
 
-pub unfit_of : (change : ShelfChange) (copied : ℕ) (what : Ask) (now : ℕ) (came : Came) (cause moved : Refusal) → came ≡ came_of.Unfit cause → moved ≡ cause → IsSourced change copied what now came → IsUnfit change copied what now moved
+pub unfit_of : (change : ShelfChange) (copied : ℕ) (what : Ask) (now : ℕ) (came : Came) (cause moved : Refusal) → came ≡ came_of.Unfit cause
+    → moved ≡ cause → IsSourced change copied what now came → IsUnfit change copied what now moved
 unfit_of change copied what now came cause moved is same says =
     subst (λ (z : Refusal). IsUnfit change copied what now z) (sym same) (subst (λ (z : Came). IsSourced change copied what now z) is says)

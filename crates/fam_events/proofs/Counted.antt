@@ -33,7 +33,8 @@ event_result (Err fault.OutOfMemory) = Err event_fault.OutOfMemory
 abbrev pub before_event : ℕ → WorldView → Option Image → ℕ → Option Files → ℕ → WorldChange
 before_event lines old told faults files copied = still lines old old told faults files copied
 
-module _ (name : List ℕ) (lines : ℕ) (old : WorldView) (told : Option Image) (faults : ℕ) (files : Option Files) (copied : ℕ) (shaped : IsShaped old) (fits : FitsMedia lines old.hosts) (modelled : IfModelled told (λ image. length image ≡ lines)) where
+module _ (name : List ℕ) (lines : ℕ) (old : WorldView) (told : Option Image) (faults : ℕ) (files : Option Files) (copied : ℕ) (shaped : IsShaped old)
+    (fits : FitsMedia lines old.hosts) (modelled : IfModelled told (λ image. length image ≡ lines)) where
   abbrev start : WorldStanding
   start = record { world = old; media = record { image = told; faults = faults } }
 
@@ -42,7 +43,8 @@ module _ (name : List ℕ) (lines : ℕ) (old : WorldView) (told : Option Image)
   come s = next_of (before_event lines old told faults files copied) s.world s.media.image s.media.faults
 
   -- the first step wasn't refused
-  first_free : (s : WorldStanding) {n : ℕ} → Iterated (WorldStep name lines false) start s n → (over : Bool) (next : WorldStanding) → WorldStep name lines over s next → refusal_in (Steps name) old lines ≡ None
+  first_free : (s : WorldStanding) {n : ℕ} → Iterated (WorldStep name lines false) start s n → (over : Bool) (next : WorldStanding)
+      → WorldStep name lines over s next → refusal_in (Steps name) old lines ≡ None
   first_free _ none over next x = free_of (Steps name) lines faults next.media.faults old next.world x.step.answers.answers
   first_free s (more {b = mid} before last) over next x = first_free mid before false s last
 
@@ -64,12 +66,15 @@ module _ (name : List ℕ) (lines : ℕ) (old : WorldView) (told : Option Image)
       let host = host_of free in
       part_event name (come s) shaped fits host.0 (suc n) false host.1 free (so_far name host.0 lines start s host.1 (more before last)) modelled limit (omega (arith, less)) refl
 
-  pub event_says : (limit : ℕ) → 0 < limit → (shelf : ShelfChange) (s : WorldStanding) (r : Result Moved WorldFault) → StepsSay name lines limit start s r → EventSays (Step name limit) shelf (come s) (event_result r)
+  pub event_says : (limit : ℕ) → 0 < limit → (shelf : ShelfChange) (s : WorldStanding) (r : Result Moved WorldFault)
+      → StepsSay name lines limit start s r → EventSays (Step name limit) shelf (come s) (event_result r)
   event_says limit some shelf s (Ok moved.Going) x = all_done limit some s x
   event_says limit some shelf s (Ok moved.Answered) x =
       let free = first_free x.before x.goes true s x.ends in
       let host = host_of free in
-      done_event name (come s) shaped fits host.0 (suc x.count) true host.1 free (next_so_far (so_far name host.0 lines start x.before host.1 x.goes) host.1 x.ends) modelled limit (let less = x.within in omega (arith, less)) (inr refl) refl
+      done_event name (come s) shaped fits host.0 (suc x.count) true host.1 free
+      (next_so_far (so_far name host.0 lines start x.before host.1 x.goes) host.1 x.ends) modelled limit
+      (let less = x.within in omega (arith, less)) (inr refl) refl
   event_says limit some shelf s (Err (fault.Refused cause)) x =
       refused_event name (come start) shaped fits cause s.world s.media.image s.media.faults (record { world = refl; media = refl; count = refl }) x modelled limit refl
   event_says limit some shelf s (Err fault.OutOfMemory) x = some_done limit s x.within x.goes

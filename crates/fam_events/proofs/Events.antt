@@ -48,10 +48,23 @@ use Rattle.fam_journal.proofs.Shapes.Running.{busy_is, finish_as_step, free_runs
 use Rattle.fam_events.specs.Happens.{EventDone, EventEnded, EventPart, EventSays, ShapeOfPart, IsDoneBy, IsPart, IsToSource, SourceShape}
 
 -- a shape of notes that is as strong
-pub adds_as : (P Q : ℕ → List HostShape → List Note → Type 0) (a : WorldChange) → ((lines : ℕ) (hosts : List HostShape) (notes : List Note) → P lines hosts notes → Q lines hosts notes) → AddsShape P a → AddsShape Q a
-adds_as P Q a weaker x = record { notes = x.notes; joined = x.joined; named = x.named; counted = x.counted; later = x.later; fits = x.fits; shaped = x.shaped; shape = weaker a.lines (shapes_of a.old.journal) x.notes x.shape }
+pub adds_as : (P Q : ℕ → List HostShape → List Note → Type 0) (a : WorldChange)
+    → ((lines : ℕ) (hosts : List HostShape) (notes : List Note) → P lines hosts notes → Q lines hosts notes) → AddsShape P a → AddsShape Q a
+adds_as P Q a weaker x = record {
+  notes = x.notes;
+  joined = x.joined;
+  named = x.named;
+  counted = x.counted;
+  later = x.later;
+  fits = x.fits;
+  shaped =
+      x.shaped;
+  shape = weaker a.lines (shapes_of a.old.journal) x.notes x.shape;
+}
 
-pub keeps_as : (P Q : Files → Session → List Note → Session → Type 0) (a : WorldChange) → ((files : Files) (old : Session) (notes : List Note) (new : Session) → old.copied ≡ a.copied → P files old notes new → Q files old notes new) → Told (λ files start. ComesHeld (P files) start) a → Told (λ files start. ComesHeld (Q files) start) a
+pub keeps_as : (P Q : Files → Session → List Note → Session → Type 0) (a : WorldChange)
+    → ((files : Files) (old : Session) (notes : List Note) (new : Session) → old.copied ≡ a.copied → P files old notes new → Q files old notes new)
+    → Told (λ files start. ComesHeld (P files) start) a → Told (λ files start. ComesHeld (Q files) start) a
 keeps_as P Q a weaker x start files state files_are told_is held =
     let k = x start files state files_are told_is held in
     record {
@@ -59,7 +72,9 @@ keeps_as P Q a weaker x start files state files_are told_is held =
       held = k.held;
     }
 
-breaks_as : (P Q : Session → List Note → Session → Type 0) (R S : Session → State → Image → Type 0) (a : WorldChange) → ((old : Session) (notes : List Note) (new : Session) → P old notes new → Q old notes new) → ((old : Session) (state : State) (after : Image) → R old state after → S old state after)
+breaks_as : (P Q : Session → List Note → Session → Type 0) (R S : Session → State → Image → Type 0) (a : WorldChange)
+    → ((old : Session) (notes : List Note) (new : Session) → P old notes new → Q old notes new)
+    → ((old : Session) (state : State) (after : Image) → R old state after → S old state after)
     → Told (λ files start. ComesBroken P R start) a → Told (λ files start. ComesBroken Q S start) a
 breaks_as P Q R S a weaker left x start files state files_are told_is held =
     let k = x start files state files_are told_is held in
@@ -206,7 +221,8 @@ idle_none h zero old new notes idle x = x
 idle_none h (suc count) old new notes idle (inl x) = (x.1, x.2)
 idle_none h (suc count) old new notes idle (inr x) = absurd (let busy = x.0 in cc)
 
-finish_part : (files : Files) (name : List ℕ) (old new : Session) (notes : List Note) → FinishPart name old.machines notes new.machines → new.copied ≡ old.copied → IsPart (event.Finish name) files old notes new
+finish_part : (files : Files) (name : List ℕ) (old new : Session) (notes : List Note) → FinishPart name old.machines notes new.machines
+    → new.copied ≡ old.copied → IsPart (event.Finish name) files old notes new
 finish_part files name old new notes (inr x) copied = inl (x.0, same_session old new x.1 copied)
 finish_part files name old new notes (inl x) copied = by_busy (busy_at x.host old.machines) refl
   where
@@ -233,14 +249,17 @@ finish_call name = record {
 -- Commands that begin.
 
 -- a refusal is the event's own
-refused_as : (Q : ℕ → List HostShape → List Note → Type 0) (name : List ℕ) (what : Ask) (lines : ℕ) (hosts : List HostShape) (notes : List Note) → RefusedShape name what lines hosts notes → BeginForm Q name what lines hosts notes
+refused_as : (Q : ℕ → List HostShape → List Note → Type 0) (name : List ℕ) (what : Ask) (lines : ℕ) (hosts : List HostShape) (notes : List Note)
+    → RefusedShape name what lines hosts notes → BeginForm Q name what lines hosts notes
 refused_as Q name what lines hosts notes shape = by_refusal (may_begin name (mounts what) (shown_shapes lines hosts)) shape
   where
     by_refusal : (o : Option Refusal) → ShapeByRefusal name o notes (UnfitNotes name what notes) → ShapeByRefusal name o notes (UnfitNotes name what notes ⊎ StartShape Q name what lines hosts notes)
     by_refusal None x = inl x
     by_refusal (Some cause) x = x
 
-started_as : (Q : ℕ → List HostShape → List Note → Type 0) (name : List ℕ) (what : Ask) (lines : ℕ) (hosts : List HostShape) (notes : List Note) → may_begin name (mounts what) (shown_shapes lines hosts) ≡ None → StartShape Q name what lines hosts notes → BeginForm Q name what lines hosts notes
+started_as : (Q : ℕ → List HostShape → List Note → Type 0) (name : List ℕ) (what : Ask) (lines : ℕ) (hosts : List HostShape) (notes : List Note)
+    → may_begin name (mounts what) (shown_shapes lines hosts) ≡ None → StartShape Q name what lines hosts notes
+    → BeginForm Q name what lines hosts notes
 started_as Q name what lines hosts notes free starts =
     subst (λ (o : Option Refusal). ShapeByRefusal name o notes (UnfitNotes name what notes ⊎ StartShape Q name what lines hosts notes)) (sym free) (inr starts)
 
@@ -272,7 +291,9 @@ begin_undone e a x = record {
 -- a source of a begin is one of a run
 pub run_ended : (name : List ℕ) (what : Ask) (end : SourceEnd) (a : WorldChange) → EventEnded (event.Begin name what) end a → EventEnded (event.Run name what) end a
 run_ended name what end a x = record {
-  adds = adds_as (SourceShape (event.Begin name what)) (SourceShape (event.Run name what)) a (λ lines hosts notes shape. record { none = shape.none; host = shape.host; source = shape.source; reads = shape.reads; free = shape.free }) x.adds;
+  adds = adds_as (SourceShape (event.Begin name what)) (SourceShape (event.Run name what)) a
+      (λ lines hosts notes shape. record { none = shape.none; host = shape.host; source = shape.source; reads = shape.reads; free = shape.free })
+      x.adds;
   keeps = keeps_as (IsToSource (event.Begin name what) end) (IsToSource (event.Run name what) end) a
       (λ files old notes new first does. (record { host = does.0.host; source = does.0.source; reads = does.0.reads; free = does.0.free; ends = does.0.ends }, does.1, does.2)) x.keeps;
 }
@@ -292,7 +313,8 @@ run_fault name what shelf a (fault.SourceEnded end) says = (run_ended name what 
 run_fault name what shelf a fault.OutOfMemory says = begin_undone (event.Run name what) a says
 
 -- on as many lines
-pub with_lines : (n m : ℕ) → n ≡ m → (name : List ℕ) (what : Ask) (shelf : ShelfChange) (old new : WorldView) (told : Option Image) (faults : ℕ) (files : Option Files) (copied now : ℕ) (r : Result Asked EventFault)
+pub with_lines : (n m : ℕ) → n ≡ m → (name : List ℕ) (what : Ask) (shelf : ShelfChange) (old new : WorldView) (told : Option Image) (faults : ℕ)
+    (files : Option Files) (copied now : ℕ) (r : Result Asked EventFault)
     → (IfModelled told (λ image. length image ≡ n) → FitsMedia n old.hosts → AskSays name what shelf (asking n old new told faults files copied now) r)
     → IfModelled told (λ image. length image ≡ m) → FitsMedia m old.hosts → AskSays name what shelf (asking m old new told faults files copied now) r
 with_lines n m same name what shelf old new told faults files copied now r says =
@@ -300,7 +322,9 @@ with_lines n m same name what shelf old new told faults files copied now r says 
 
 -- A run: it begins, and then a finish goes on from there.
 
-module _ (name : List ℕ) (what : Ask) (lines : ℕ) (old mid new : WorldView) (told told_now : Option Image) (faults faults_now : ℕ) (files : Option Files) (copied now : ℕ) (shaped : IsShaped old) (begun : AskBegun name what (asking lines old mid told faults files copied now)) (modelled : IfModelled told (λ image. length image ≡ lines)) where
+module _ (name : List ℕ) (what : Ask) (lines : ℕ) (old mid new : WorldView) (told told_now : Option Image) (faults faults_now : ℕ)
+    (files : Option Files) (copied now : ℕ) (shaped : IsShaped old) (begun : AskBegun name what (asking lines old mid told faults files copied now))
+    (modelled : IfModelled told (λ image. length image ≡ lines)) where
   abbrev over : MediaChange
   over = record { old = record { image = told; faults = faults }; new = record { image = told_now; faults = faults_now } }
 
@@ -353,7 +377,9 @@ module _ (name : List ℕ) (what : Ask) (lines : ℕ) (old mid new : WorldView) 
 
   -- and where the image is modelled
   joins : (P : Session → List Note → Session → Type 0) (Q : Files → Session → List Note → Session → Type 0) → Told (λ files start. ComesHeld P start) b
-      → ((files_now : Files) (first : Image) (state : Machines) (k : ComesHeld (AskStarts name what now files_now) first (asking lines old mid told faults files copied now) state) (m : ComesHeld P first b k.comes.last.machines)
+      → ((files_now : Files) (first : Image) (state : Machines)
+      (k : ComesHeld (AskStarts name what now files_now) first (asking lines old mid told faults files copied now) state)
+      (m : ComesHeld P first b k.comes.last.machines)
       → Q files_now (session state copied) (k.comes.notes ++ m.comes.notes) m.comes.last) → Told (λ files first. ComesHeld (Q files) first) a
   joins P Q x row first files_now state files_are told_is held =
       let k = begun.keeps first files_now state files_are told_is held in
@@ -373,22 +399,28 @@ module _ (name : List ℕ) (what : Ask) (lines : ℕ) (old mid new : WorldView) 
   completes_shape notes shape =
       by_shape (slice_get (shapes_of mid.journal) start.host)
       (subst (λ (o : Option ℕ). AtShape o (shapes_of mid.journal) (λ h f. ActsShape (call.Finishes name) h f lines (shapes_of mid.journal) notes)) number_mid
-      (subst (λ (r : Option Refusal). ShapeByRefusal name r notes (FreeShape (call.Finishes name) lines (shapes_of mid.journal) notes)) (sym (refusal_shaped lines mid begun.adds.shaped (call.Finishes name) tt) ∙ begun.runs) shape))
+      (subst (λ (r : Option Refusal). ShapeByRefusal name r notes (FreeShape (call.Finishes name) lines (shapes_of mid.journal) notes))
+      (sym (refusal_shaped lines mid begun.adds.shaped (call.Finishes name) tt) ∙ begun.runs) shape))
     where
       by_shape : (o : Option HostShape) → OfHostShape o (λ f. ActsShape (call.Finishes name) start.host f lines (shapes_of mid.journal) notes) → CompletesShape start.host (shapes_of mid.journal) notes
       by_shape None none = absurd none
       by_shape (Some f) x = x
 
-  completes : (first : Image) (state : Machines) → Held first state mid state.memory → length state.memory ≡ lines → (notes : List Note) (left : Machines) → Does (call.Finishes name) state notes left → (h : ℕ) × (number_of name state ≡ Some h) × Completes h state notes left
+  completes : (first : Image) (state : Machines) → Held first state mid state.memory → length state.memory ≡ lines
+      → (notes : List Note) (left : Machines) → Does (call.Finishes name) state notes left
+      → (h : ℕ) × (number_of name state ≡ Some h) × Completes h state notes left
   completes first state held lines_are notes left row =
       let free : refusal_of (call.Finishes name) state ≡ None = first_refusal first state mid held (call.Finishes name) lines lines_are ∙ begun.runs in
       by_number (number_of name state) refl (subst (λ (o : Option Refusal). ByRefusal name o notes state left (Acts (call.Finishes name) state notes left)) free row)
     where
-      by_host : (h : ℕ) → number_of name state ≡ Some h → (o : Option HostState) → OnHost o (λ host. ActsAt (call.Finishes name) h host state notes left) → (h : ℕ) × (number_of name state ≡ Some h) × Completes h state notes left
+      by_host : (h : ℕ) → number_of name state ≡ Some h → (o : Option HostState)
+          → OnHost o (λ host. ActsAt (call.Finishes name) h host state notes left)
+          → (h : ℕ) × (number_of name state ≡ Some h) × Completes h state notes left
       by_host h is None x = absurd x
       by_host h is (Some host) x = (h, is, x)
 
-      by_number : (o : Option ℕ) → number_of name state ≡ o → AtNumber o state (λ h host. ActsAt (call.Finishes name) h host state notes left) → (h : ℕ) × (number_of name state ≡ Some h) × Completes h state notes left
+      by_number : (o : Option ℕ) → number_of name state ≡ o → AtNumber o state (λ h host. ActsAt (call.Finishes name) h host state notes left)
+          → (h : ℕ) × (number_of name state ≡ Some h) × Completes h state notes left
       by_number None is x = absurd x
       by_number (Some h) is x = by_host h is (slice_get state.hosts h) x
 
@@ -428,7 +460,8 @@ module _ (name : List ℕ) (what : Ask) (lines : ℕ) (old mid new : WorldView) 
   part_shape notes (inl none) = subst (λ (ns : List Note). UnfinishedShape start.host (shapes_of mid.journal) ns) (sym none) record { operations = tt; runs = runs_mid }
   part_shape notes (inr x) = subst (λ (h : ℕ). UnfinishedShape h (shapes_of mid.journal) notes) (same_Some x.host start.host (sym x.number ∙ number_mid)) x.part
 
-  unfinished : (first : Image) (state : Machines) → Held first state mid state.memory → (notes : List Note) (left : Machines) → FinishPart name state notes left → (h : ℕ) × (number_of name state ≡ Some h) × Unfinished h state notes left
+  unfinished : (first : Image) (state : Machines) → Held first state mid state.memory → (notes : List Note) (left : Machines)
+      → FinishPart name state notes left → (h : ℕ) × (number_of name state ≡ Some h) × Unfinished h state notes left
   unfinished first state held notes left (inl x) = (x.host, x.number, x.does)
   unfinished first state held notes left (inr x) = (
     start.host,

@@ -37,7 +37,8 @@ no_break rest lines hosts notes other is = absurd is
 
 module _ (c : Call) (a : WorldChange) (shaped : IsShaped a.old) (fits : FitsMedia a.lines a.old.hosts) where
   -- notes that are added, of a shape
-  pub added : (shape : ℕ → List HostShape → List Note → Type 0) (adds : Adds a.lines a.media.old.faults a.media.new.faults a.old a.new) → shape a.lines (shapes_of a.old.journal) adds.notes → AddsShape shape a
+  pub added : (shape : ℕ → List HostShape → List Note → Type 0) (adds : Adds a.lines a.media.old.faults a.media.new.faults a.old a.new)
+      → shape a.lines (shapes_of a.old.journal) adds.notes → AddsShape shape a
   added shape adds is = record {
     notes = adds.notes;
     joined = adds.joined;
@@ -75,7 +76,8 @@ module _ (c : Call) (a : WorldChange) (shaped : IsShaped a.old) (fits : FitsMedi
           held = d.held;
         }
 
-    pub broken_kept : ((start : Image) → CallBreaks c start a.media.old.image a.media.new.image a.old a.new) → Told (λ files start. ComesBroken (CallsBreak c) (λ old. CutCallReads c old.machines) start) a
+    pub broken_kept : ((start : Image) → CallBreaks c start a.media.old.image a.media.new.image a.old a.new)
+        → Told (λ files start. ComesBroken (CallsBreak c) (λ old. CutCallReads c old.machines) start) a
     broken_kept keeps start files state files_are told_is held =
         let d = keeps start state told_is held in
         record {
@@ -94,7 +96,8 @@ module _ (c : Call) (a : WorldChange) (shaped : IsShaped a.old) (fits : FitsMedi
     media_says whole (Err fault.OutOfMemory) w part = part refl
 
 -- a finish that found no memory
-pub finish_part : (name : List ℕ) (a : WorldChange) → IsShaped a.old → FitsMedia a.lines a.old.hosts → a.copied_now ≡ a.copied → FinishOutOfMemory name a.lines a.media a.old a.new → CallPart (call.Finishes name) a
+pub finish_part : (name : List ℕ) (a : WorldChange) → IsShaped a.old → FitsMedia a.lines a.old.hosts → a.copied_now ≡ a.copied
+    → FinishOutOfMemory name a.lines a.media a.old a.new → CallPart (call.Finishes name) a
 finish_part name a shaped fits same x = record {
   adds = added (call.Finishes name) a shaped fits (PartShape (call.Finishes name)) x.adds (x.shape shaped);
   keeps = part_kept (call.Finishes name) a shaped fits same x.parts;
@@ -140,7 +143,8 @@ module _ (name : List ℕ) (request : MkfsRequest) (a : WorldChange) (shaped : I
   told_clean =
       let early = early_refusal request.unit request.log (line_bytes * length (shown_shapes a.lines shapes).memory) in
       let busy = index_of is_engaged (shown_shapes a.lines shapes).hosts in
-      clean_on (number_of name (shown_shapes a.lines shapes)) (λ h. makes_told request.unit request.log (shown_shapes a.lines shapes)) (λ h. clean_or (option_map cause_of early) (busy_refusal busy) (clean_early early) (clean_busy busy))
+      clean_on (number_of name (shown_shapes a.lines shapes)) (λ h. makes_told request.unit request.log (shown_shapes a.lines shapes))
+      (λ h. clean_or (option_map cause_of early) (busy_refusal busy) (clean_early early) (clean_busy busy))
 
   -- what is noted of one that goes on is no refusal
   made_told : (halt : Option ℕ) (h : ℕ) (p : Params) → refusal_noted (made_note halt h p ∷ []) ≡ None
@@ -149,7 +153,9 @@ module _ (name : List ℕ) (request : MkfsRequest) (a : WorldChange) (shaped : I
 
   -- a fault is no row of its own
   by_acts : (notes : List Note) (at : LineNo) (h : ℕ) (f : HostShape) → ActsShape c h f a.lines shapes notes → refusal_noted notes ≡ Some (why.MediaFault at) → ⊥
-  by_acts notes at h f (inl made) said = absurd (let none : None ≡ Some (why.MediaFault at) = sym (made_told request.halt h (early.asked request f.uuid a.lines)) ∙ ap refusal_noted (sym made) ∙ said in cc)
+  by_acts notes at h f (inl made) said =
+      absurd (let none : None ≡ Some (why.MediaFault at) = sym (made_told request.halt h (early.asked request f.uuid a.lines))
+      ∙ ap refusal_noted (sym made) ∙ said in cc)
   by_acts notes at h f (inr x) said = absurd (let other : Some (why.HasSuper x.fs) ≡ Some (why.MediaFault at) = ap refusal_noted (sym x.notes_are) ∙ said in cc)
 
   by_host : (notes : List Note) (at : LineNo) (h : ℕ) (o : Option HostShape) → OfHostShape o (λ f. ActsShape c h f a.lines shapes notes) → refusal_noted notes ≡ Some (why.MediaFault at) → ⊥
@@ -164,7 +170,8 @@ module _ (name : List ℕ) (request : MkfsRequest) (a : WorldChange) (shaped : I
   by_free notes at (inl x) said = by_number notes at (number_of name (shown_shapes a.lines shapes)) x said
   by_free notes at (inr x) said = absurd (let other : Some (why.Dirty (record { 0 = x.dirty })) ≡ Some (why.MediaFault at) = ap refusal_noted (sym x.notes_are) ∙ said in cc)
 
-  by_refusal : (notes : List Note) (at : LineNo) (o : Option Refusal) → IfFaultless o → ShapeByRefusal name o notes (FreeShape c a.lines shapes notes) → refusal_noted notes ≡ Some (why.MediaFault at) → ⊥
+  by_refusal : (notes : List Note) (at : LineNo) (o : Option Refusal) → IfFaultless o → ShapeByRefusal name o notes (FreeShape c a.lines shapes notes)
+      → refusal_noted notes ≡ Some (why.MediaFault at) → ⊥
   by_refusal notes at None clean x said = by_free notes at x said
   by_refusal notes at (Some cause) clean x said = no_fault (Some cause) at clean (ap refusal_noted (sym x) ∙ said)
 
@@ -178,7 +185,8 @@ module _ (name : List ℕ) (request : MkfsRequest) (a : WorldChange) (shaped : I
   whole_shape answered notes clean (inl x) said = x
   whole_shape answered notes clean (inr x) said = absurd (no_fault answered (record { 0 = x.1.0 }) clean (said ∙ ap refusal_noted x.1.1))
 
-  make_done : (answered : Option Refusal) → IfFaultless answered → Answers c a.lines answered a.media.old.faults a.media.new.faults a.old a.new → ((start : Image) → CallKeeps c start a.media.old.image a.media.new.image a.old a.new) → CallDone c a
+  make_done : (answered : Option Refusal) → IfFaultless answered → Answers c a.lines answered a.media.old.faults a.media.new.faults a.old a.new
+      → ((start : Image) → CallKeeps c start a.media.old.image a.media.new.image a.old a.new) → CallDone c a
   make_done answered clean x keeps = record {
     adds = added c a shaped fits (DoesShape c) x.adds (whole_shape answered x.adds.notes clean (x.shape shaped) x.said);
     keeps = row_kept c a shaped fits same keeps;

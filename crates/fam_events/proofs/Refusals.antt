@@ -89,7 +89,8 @@ module _ (m : Machines) where
   first_own (call.Makes name request) quiet = absurd quiet
   first_own (call.Begins name cmd) quiet =
       own_on count (number_of name m) (λ h. begins_refusal h (is_mount cmd) m) (λ h is.
-      own_or count (when (nat_lt (length m.memory) least_lines) (why.ImageSmall (length m.memory))) (or_else (when (busy_at h m) (why.Busy (record { 0 = h }))) (when (is_mount cmd && keeps_at h m) why.Mounted))
+      own_or count (when (nat_lt (length m.memory) least_lines) (why.ImageSmall (length m.memory)))
+      (or_else (when (busy_at h m) (why.Busy (record { 0 = h }))) (when (is_mount cmd && keeps_at h m) why.Mounted))
       (own_when count (nat_lt (length m.memory) least_lines) (why.ImageSmall (length m.memory)) record { named = tt; faultless = refl })
       (own_or count (when (busy_at h m) (why.Busy (record { 0 = h }))) (when (is_mount cmd && keeps_at h m) why.Mounted)
       (own_when count (busy_at h m) (why.Busy (record { 0 = h })) record { named = number_within name h is; faultless = refl })
@@ -143,7 +144,9 @@ module _ (lines : ℕ) (old : WorldView) where
   one_refused c name cause new own joined =
       record { notes = Refused name cause ∷ []; joined = joined; named = (own.named, tt); faultless = let none = own.faultless in omega (arith, none) }
 
-  at_host : (c : Call) (o : Option ℕ) (change : HostView → HostView) (note : ℕ → Note) → ((h : ℕ) → o ≡ Some h → AreNamed (length old.hosts) (note h ∷ [])) → ((h : ℕ) → faults_of (note h ∷ []) ≡ 0) → HostsNotes c (with_host o change note old)
+  at_host : (c : Call) (o : Option ℕ) (change : HostView → HostView) (note : ℕ → Note)
+      → ((h : ℕ) → o ≡ Some h → AreNamed (length old.hosts) (note h ∷ [])) → ((h : ℕ) → faults_of (note h ∷ []) ≡ 0)
+      → HostsNotes c (with_host o change note old)
   at_host c None change note named clean = record { notes = []; joined = sym (append-nil old.journal); named = tt; faultless = refl }
   at_host c (Some h) change note named clean = record { notes = note h ∷ []; joined = refl; named = named h refl; faultless = clean h }
 

@@ -84,6 +84,7 @@ outcome_same (Err (world.Refused cause)) P same = tt
 outcome_same (Err world.OutOfMemory) P same = same refl
 
 -- a run whose finish found no memory
-pub run_same : (r : Result (Unit {0}) EventFault) (world : WorldView) (name : List ℕ) (h : ℕ) (R P : Type 0) → number_in name world ≡ Some h → (R → IsUnstoredAt h world) → OnErr r ((k : ℕ) → number_in name world ≡ Some k → IsUnstoredAt k world → P) → OnErr r (R → P)
+pub run_same : (r : Result (Unit {0}) EventFault) (world : WorldView) (name : List ℕ) (h : ℕ) (R P : Type 0) → number_in name world ≡ Some h
+    → (R → IsUnstoredAt h world) → OnErr r ((k : ℕ) → number_in name world ≡ Some k → IsUnstoredAt k world → P) → OnErr r (R → P)
 run_same (Ok x) world name h R P number unstored same = tt
 run_same (Err f) world name h R P number unstored same = λ rested. same h number (unstored rested)

@@ -34,7 +34,8 @@ use Rattle.fam_events.proofs.OverMedia.{added}
 use Rattle.fam_events.proofs.WithoutMedia.{still_adds, still_keeps}
 
 -- operations of an idle host are none
-pub operations_idle : (h k limit : ℕ) (old : Machines) (notes : List Note) (mid : Machines) → k ≤ limit → DoesOperations h k old notes mid → busy_at h mid ≡ false → DoesOperations h limit old notes mid
+pub operations_idle : (h k limit : ℕ) (old : Machines) (notes : List Note) (mid : Machines) → k ≤ limit → DoesOperations h k old notes mid
+    → busy_at h mid ≡ false → DoesOperations h limit old notes mid
 operations_idle h zero zero old notes mid within does idle = does
 operations_idle h zero (suc limit) old notes mid within does idle = inl (subst (λ (m : Machines). busy_at h m ≡ false) does.1 idle, does.0, does.1)
 operations_idle h (suc k) zero old notes mid within does idle = absurd (omega (arith, within))
@@ -57,7 +58,8 @@ module _ (name : List ℕ) (a : WorldChange) (shaped : IsShaped a.old) (fits : F
   last_standing = record { world = a.new; media = a.media.new }
 
   -- so many operations of a host that had a task
-  module _ (at count : ℕ) (over : Bool) (number : number_in name a.old ≡ Some at) (free : refusal_in (call.Steps name) a.old a.lines ≡ None) (s : SoFar at a.lines count over first_standing last_standing) (modelled : IfModelled a.media.old.image (λ image. length image ≡ a.lines)) where
+  module _ (at count : ℕ) (over : Bool) (number : number_in name a.old ≡ Some at) (free : refusal_in (call.Steps name) a.old a.lines ≡ None)
+      (s : SoFar at a.lines count over first_standing last_standing) (modelled : IfModelled a.media.old.image (λ image. length image ≡ a.lines)) where
     abbrev notes : List Note
     notes = s.adds.notes
 
@@ -98,7 +100,19 @@ module _ (name : List ℕ) (a : WorldChange) (shaped : IsShaped a.old) (fits : F
     pub part_event : (limit : ℕ) → count ≤ limit → over ≡ false → EventPart (Step name limit) a
     part_event limit most on = record {
       adds = added (call.Steps name) a shaped fits (ShapeOfPart (Step name limit)) s.adds
-          (inr (record { host = at; number = number_told; part = record { operations = s.shape shaped; runs = ap (λ (fs : List HostShape). runs_shape (slice_get fs at)) (sym shapes_last) ∙ runs_last ∙ ap not on } }, (steps_shape limit most).within));
+          (inr (
+            record {
+              host = at;
+              number = number_told;
+              part =
+                  record {
+                    operations = s.shape shaped;
+                    runs = ap (λ (fs : List HostShape). runs_shape (slice_get fs at)) (sym shapes_last) ∙ runs_last
+                        ∙ ap not on;
+                  };
+            },
+            (steps_shape limit most).within,
+          ));
       keeps = λ start files state files_are told_is held.
           let r = s.ran start state told_is held in
           record {
@@ -131,7 +145,14 @@ module _ (name : List ℕ) (a : WorldChange) (shaped : IsShaped a.old) (fits : F
               last = session r.left a.copied;
               notes = notes;
               does = (
-                inl record { host = at; number = number_is start state told_is held; busy = not_idle start state told_is held; does = all_of state r.left r.does (λ is. busy_last start r.left r.held ∙ ap not is); copied = refl },
+                inl record {
+                  host = at;
+                  number = number_is start state told_is held;
+                  busy = not_idle start state told_is held;
+                  does =
+                      all_of state r.left r.does (λ is. busy_last start r.left r.held ∙ ap not is);
+                  copied = refl;
+                },
                 sym copied,
               );
               told_is = r.told_is;
@@ -141,7 +162,8 @@ module _ (name : List ℕ) (a : WorldChange) (shaped : IsShaped a.old) (fits : F
           };
     }
       where
-        all_by : (state left : Machines) → DoesOperations at count state notes left → (over ≡ true → busy_at at left ≡ false) → (count ≡ limit) ⊎ (over ≡ true) → DoesOperations at limit state notes left
+        all_by : (state left : Machines) → DoesOperations at count state notes left → (over ≡ true → busy_at at left ≡ false)
+            → (count ≡ limit) ⊎ (over ≡ true) → DoesOperations at limit state notes left
         all_by state left does idle (inl same) = subst (λ (n : ℕ). DoesOperations at n state notes left) same does
         all_by state left does idle (inr is) = operations_idle at count limit state notes left most does (idle is)
 
@@ -156,7 +178,9 @@ module _ (name : List ℕ) (a : WorldChange) (shaped : IsShaped a.old) (fits : F
   }
 
   -- it was refused at once
-  module _ (cause : Refusal) (new : WorldView) (told : Option Image) (faults : ℕ) (still : IsStill a) (w : StepCall name a.lines (Some cause) false (media_change a.media.new.image a.media.new.faults told faults) a.new new) (modelled : IfModelled a.media.old.image (λ image. length image ≡ a.lines)) (limit : ℕ) where
+  module _ (cause : Refusal) (new : WorldView) (told : Option Image) (faults : ℕ) (still : IsStill a)
+      (w : StepCall name a.lines (Some cause) false (media_change a.media.new.image a.media.new.faults told faults) a.new new)
+      (modelled : IfModelled a.media.old.image (λ image. length image ≡ a.lines)) (limit : ℕ) where
     first_cause : (own : Refusal) × (refusal_in (call.Steps name) a.new a.lines ≡ Some own)
     first_cause = go (refusal_in (call.Steps name) a.new a.lines) refl
       where
@@ -177,7 +201,8 @@ module _ (name : List ℕ) (a : WorldChange) (shaped : IsShaped a.old) (fits : F
     abbrev b : WorldChange
     b = next_of a new told faults
 
-    refused_row : (state : Machines) (notes : List Note) (left : Machines) → refusal_of (call.Steps name) state ≡ Some own → Does (call.Steps name) state notes left → (notes ≡ Refused name own ∷ []) × (left ≡ state)
+    refused_row : (state : Machines) (notes : List Note) (left : Machines) → refusal_of (call.Steps name) state ≡ Some own
+        → Does (call.Steps name) state notes left → (notes ≡ Refused name own ∷ []) × (left ≡ state)
     refused_row state notes left is row = subst (λ (o : Option Refusal). ByRefusal name o notes state left (Acts (call.Steps name) state notes left)) is row
 
     state_first : (state : Machines) → refusal_of (call.Steps name) state ≡ Some own → on_host (number_of name state) (λ h. idle_refusal h state) ≡ Some own

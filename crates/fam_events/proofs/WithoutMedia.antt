@@ -36,7 +36,8 @@ module _ (c : Call) (lines : ℕ) (answered : Option Refusal) (old new : WorldVi
       let x = row_done state old stands c (subst (λ (n : ℕ). TakesNoMedia c n old) (sym lines_are) takes) in
       let same : world_after c (length state.memory) old ≡ new = ap (λ (n : ℕ). world_after c n old) lines_are ∙ sym w.after in
       let joined : new.journal ≡ old.journal ++ x.notes = sym (ap (λ (z : WorldView). z.journal) same) ∙ x.joined in
-      let here : WorldStands (length start) x.left new = subst (λ (z : WorldView). WorldStands (length start) x.left z) same (subst (λ (n : ℕ). WorldStands n x.left (world_after c (length state.memory) old)) held.kept.held.lines x.stands) in
+      let here : WorldStands (length start) x.left new = subst (λ (z : WorldView). WorldStands (length start) x.left z) same
+      (subst (λ (n : ℕ). WorldStands n x.left (world_after c (length state.memory) old)) held.kept.held.lines x.stands) in
       record {
         state = x.left;
         notes = x.notes;
@@ -46,7 +47,8 @@ module _ (c : Call) (lines : ℕ) (answered : Option Refusal) (old new : WorldVi
         held = kept_on start state x.left old new c x.notes held sound x.row here joined;
       }
 
-  pub quiet_adds : IsShaped old → FitsMedia lines old.hosts → (told : Option Image) (faults : ℕ) (files : Option Files) (copied copied_now : ℕ) → AddsShape (DoesShape c) (asking lines old new told faults files copied copied_now)
+  pub quiet_adds : IsShaped old → FitsMedia lines old.hosts → (told : Option Image) (faults : ℕ) (files : Option Files) (copied copied_now : ℕ)
+      → AddsShape (DoesShape c) (asking lines old new told faults files copied copied_now)
   quiet_adds shaped fits told faults files copied copied_now =
       let x = solo_shape lines old shaped c takes in
       let n = hosts_notes lines old c takes in
@@ -88,7 +90,9 @@ module _ (a : WorldChange) (still : IsStill a) where
     shape = is;
   }
 
-  pub still_keeps : (P : Files → Rattle.fam_journal.specs.Events.Session → List Note → Rattle.fam_journal.specs.Events.Session → Type 0) → ((files : Files) (start : Image) (state : Machines) → a.files ≡ Some files → a.media.old.image ≡ Some state.memory → Held start state a.old state.memory → P files (session state a.copied) [] (session state a.copied))
+  pub still_keeps : (P : Files → Rattle.fam_journal.specs.Events.Session → List Note → Rattle.fam_journal.specs.Events.Session → Type 0)
+      → ((files : Files) (start : Image) (state : Machines) → a.files ≡ Some files → a.media.old.image ≡ Some state.memory
+      → Held start state a.old state.memory → P files (session state a.copied) [] (session state a.copied))
       → Told (λ files start. ComesHeld (P files) start) a
   still_keeps P each start files state files_are told_is held = record {
     comes = record {
@@ -121,7 +125,8 @@ module _ (c : Call) (lines : ℕ) (old new : WorldView) (sound : IsSoundCall c) 
         };
   }
 
-  pub quiet_says : (called : Result (Unit {0}) WorldFault) → IfAnswered called (λ answered. WorldCall c lines answered old new) → (IsErrOf called fault.OutOfMemory → new ≡ old) → CallSays c (still lines old new told faults files copied) (outcome called)
+  pub quiet_says : (called : Result (Unit {0}) WorldFault) → IfAnswered called (λ answered. WorldCall c lines answered old new)
+      → (IsErrOf called fault.OutOfMemory → new ≡ old) → CallSays c (still lines old new told faults files copied) (outcome called)
   quiet_says (Ok x) w undone = quiet_done None w
   quiet_says (Err (fault.Refused cause)) w undone = quiet_done (Some cause) w
   quiet_says (Err fault.OutOfMemory) w undone = still_part (still lines old new told faults files copied) (record { world = undone refl; media = refl; count = refl }) c shaped fits

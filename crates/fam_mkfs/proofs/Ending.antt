@@ -26,7 +26,8 @@ expected_first true (Some k) p line s t cut = cut_first read_ops _ line s t cut
 expected_first false halt p line s t cut = cut
 
 -- the media failed in the reading
-pub cut_early : (p : Params) (force : Bool) (halt : Option ℕ) (size : ℕ) (line : LineNo) (s t : CacheOver) (before now : ℕ) → line.0 < size → Rose before now → AreCut read_ops line s t → IsCut p force halt size line s t before now
+pub cut_early : (p : Params) (force : Bool) (halt : Option ℕ) (size : ℕ) (line : LineNo) (s t : CacheOver) (before now : ℕ) → line.0 < size
+    → Rose before now → AreCut read_ops line s t → IsCut p force halt size line s t before now
 cut_early p force halt size line s t before now within rose cut = record {
   within = within;
   rose = rose;
@@ -34,7 +35,12 @@ cut_early p force halt size line s t before now within rose cut = record {
 }
 
 -- the media failed in the writing
-pub cut_late : (p : Params) (force : Bool) (halt : Option ℕ) (writing : List Op) (size : ℕ) (line : LineNo) (s t u : CacheOver) (lines : List (List ℕ)) (before mid now mid_size : ℕ) → expected_by true halt p ≡ read_ops ++ writing → line.0 < mid_size → mid_size ≡ size → before ≤ mid → Rose mid now → ((image : Image) → s.image ≡ Some image → (have : ℕ) → super_in (line_at lines) have ≡ super_in (line_at (operated_all read_ops (machine image s.lines)).image) have) → goes_on force (super_in (line_at lines) p.device) ≡ true → AreDone read_ops s t → AreCut writing line t u → IsCut p force halt size line s u before now
+pub cut_late : (p : Params) (force : Bool) (halt : Option ℕ) (writing : List Op) (size : ℕ) (line : LineNo) (s t u : CacheOver)
+    (lines : List (List ℕ)) (before mid now mid_size : ℕ) → expected_by true halt p ≡ read_ops ++ writing → line.0 < mid_size → mid_size ≡ size
+    → before ≤ mid → Rose mid now → ((image : Image) → s.image ≡ Some image → (have : ℕ)
+    → super_in (line_at lines) have ≡ super_in (line_at (operated_all read_ops (machine image s.lines)).image) have)
+    → goes_on force (super_in (line_at lines) p.device) ≡ true → AreDone read_ops s t → AreCut writing line t u
+    → IsCut p force halt size line s u before now
 cut_late p force halt writing size line s t u lines before mid now mid_size expected within same later rose says goes done cut = record {
   within = omega arith;
   rose = rose_since before mid now later rose;
@@ -44,20 +50,48 @@ cut_late p force halt writing size line s t u lines before mid now mid_size expe
 }
 
 -- all that was expected was done
-all_done : (p : Params) (force : Bool) (halt : Option ℕ) (writing : List Op) (size : ℕ) (s t u : CacheOver) (lines : List (List ℕ)) (before now : ℕ) → expected_by true halt p ≡ read_ops ++ writing → ((image : Image) → s.image ≡ Some image → (have : ℕ) → super_in (line_at lines) have ≡ super_in (line_at (operated_all read_ops (machine image s.lines)).image) have) → goes_on force (super_in (line_at lines) p.device) ≡ true → AreDone read_ops s t → AreDone writing t u → MkfsEnds p force halt size s u before now (done_end p halt)
+all_done : (p : Params) (force : Bool) (halt : Option ℕ) (writing : List Op) (size : ℕ) (s t u : CacheOver) (lines : List (List ℕ)) (before now : ℕ)
+    → expected_by true halt p ≡ read_ops ++ writing
+    → ((image : Image) → s.image ≡ Some image → (have : ℕ)
+    → super_in (line_at lines) have ≡ super_in (line_at (operated_all read_ops (machine image s.lines)).image) have)
+    → goes_on force (super_in (line_at lines) p.device) ≡ true → AreDone read_ops s t → AreDone writing t u
+    → MkfsEnds p force halt size s u before now (done_end p halt)
 all_done p force None writing size s t u lines before now expected says goes done puts = (
   refl,
-  record { unhalted = refl; done = record { done = done_as _ _ s u (sym expected) (done_both read_ops writing s t u done puts); free = λ image is. sym (ap (goes_on force) (says image is p.device)) ∙ goes } },
+  record {
+    unhalted = refl;
+    done =
+        record {
+          done = done_as _ _ s u (sym expected) (done_both read_ops writing s t u done puts);
+          free = λ image is.
+              sym (ap (goes_on force) (says image is p.device)) ∙ goes;
+        };
+  },
 )
 all_done p force (Some k) writing size s t u lines before now expected says goes done puts =
-    record { asked = refl; done = record { done = done_as _ _ s u (sym expected) (done_both read_ops writing s t u done puts); free = λ image is. sym (ap (goes_on force) (says image is p.device)) ∙ goes } }
+    record {
+      asked = refl;
+      done = record {
+        done = done_as _ _ s u (sym expected) (done_both read_ops writing s t u done puts);
+        free = λ image is.
+            sym (ap (goes_on force) (says image is p.device)) ∙ goes;
+      };
+    }
 
-pub all_ended : (p : Params) (force : Bool) (halt : Option ℕ) (writing : List Op) (size : ℕ) (s t u : CacheOver) (lines : List (List ℕ)) (before now : ℕ) (end : MkfsEnd) → end ≡ done_end p halt → expected_by true halt p ≡ read_ops ++ writing → ((image : Image) → s.image ≡ Some image → (have : ℕ) → super_in (line_at lines) have ≡ super_in (line_at (operated_all read_ops (machine image s.lines)).image) have) → goes_on force (super_in (line_at lines) p.device) ≡ true → AreDone read_ops s t → AreDone writing t u → MkfsEnds p force halt size s u before now end
+pub all_ended : (p : Params) (force : Bool) (halt : Option ℕ) (writing : List Op) (size : ℕ) (s t u : CacheOver) (lines : List (List ℕ))
+    (before now : ℕ) (end : MkfsEnd) → end ≡ done_end p halt → expected_by true halt p ≡ read_ops ++ writing
+    → ((image : Image) → s.image ≡ Some image → (have : ℕ)
+    → super_in (line_at lines) have ≡ super_in (line_at (operated_all read_ops (machine image s.lines)).image) have)
+    → goes_on force (super_in (line_at lines) p.device) ≡ true → AreDone read_ops s t → AreDone writing t u
+    → MkfsEnds p force halt size s u before now end
 all_ended p force halt writing size s t u lines before now end is expected says goes done puts =
     subst (λ (end : MkfsEnd). MkfsEnds p force halt size s u before now end) (sym is) (all_done p force halt writing size s t u lines before now expected says goes done puts)
 
 -- a superblock stands in the way
-pub is_found : (p : Params) (force : Bool) (id : List ℕ) (s t : CacheOver) (lines : List (List ℕ)) → ((image : Image) → s.image ≡ Some image → (have : ℕ) → super_in (line_at lines) have ≡ super_in (line_at (operated_all read_ops (machine image s.lines)).image) have) → Stands force (super_in (line_at lines) p.device) id → AreDone read_ops s t → FindsSuper p force id s t
+pub is_found : (p : Params) (force : Bool) (id : List ℕ) (s t : CacheOver) (lines : List (List ℕ))
+    → ((image : Image) → s.image ≡ Some image → (have : ℕ)
+    → super_in (line_at lines) have ≡ super_in (line_at (operated_all read_ops (machine image s.lines)).image) have)
+    → Stands force (super_in (line_at lines) p.device) id → AreDone read_ops s t → FindsSuper p force id s t
 is_found p force id s t lines says stands done = record {
   unforced = stands.unforced;
   done = done;

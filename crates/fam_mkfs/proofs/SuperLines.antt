@@ -23,7 +23,8 @@ unfoldable pub loaded_image : ℕ → Machine → Image
 loaded_image line m = (operated_all (load_ops line 8) m).image
 
 -- the loaded words are memory's
-loaded_words : (line : ℕ) (s t : CacheOver) (image : Image) → AreDone (load_ops line 8) s t → s.image ≡ Some image → eight (words_of (cell_at t.lines line)) ≡ line_at (loaded_image line (machine image s.lines)) line
+loaded_words : (line : ℕ) (s t : CacheOver) (image : Image) → AreDone (load_ops line 8) s t → s.image ≡ Some image
+    → eight (words_of (cell_at t.lines line)) ≡ line_at (loaded_image line (machine image s.lines)) line
 unfolding loaded_image
 loaded_words line s t image p is =
     let m = machine image s.lines in
@@ -66,7 +67,10 @@ one_modelled : (modelled : Option Image) (a b : Image) → modelled ≡ Some a �
 one_modelled modelled a b is too = cc
 
 -- what the words say is what memory says
-pub super_loaded : (magic prefix rest : List ℕ) (s t u v : CacheOver) (image : Image) → AreDone (load_ops 0 8) s t → AreDone (load_ops 1 8) t u → AreDone (load_ops 2 8) u v → magic ≡ eight (words_of (cell_at t.lines 0)) → prefix ≡ eight (words_of (cell_at u.lines 1)) → rest ≡ eight (words_of (cell_at v.lines 2)) → s.image ≡ Some image → (have : ℕ) → super_in (line_at (magic ∷ prefix ∷ rest ∷ [])) have ≡ super_in (line_at (operated_all read_ops (machine image s.lines)).image) have
+pub super_loaded : (magic prefix rest : List ℕ) (s t u v : CacheOver) (image : Image) → AreDone (load_ops 0 8) s t → AreDone (load_ops 1 8) t u
+    → AreDone (load_ops 2 8) u v → magic ≡ eight (words_of (cell_at t.lines 0)) → prefix ≡ eight (words_of (cell_at u.lines 1))
+    → rest ≡ eight (words_of (cell_at v.lines 2)) → s.image ≡ Some image → (have : ℕ) → super_in (line_at (magic ∷ prefix ∷ rest ∷ [])) have
+    ≡ super_in (line_at (operated_all read_ops (machine image s.lines)).image) have
 super_loaded magic prefix rest s t u v image p q r m f e is have =
     let i1 = loaded_image 0 (machine image s.lines) in
     let i2 = loaded_image 1 (machine i1 t.lines) in
@@ -76,7 +80,8 @@ super_loaded magic prefix rest s t u v image p q r m f e is have =
     let is2 : u.image ≡ Some i2 = modelled_loaded 1 t u i1 q is1 in
     let is3 : v.image ≡ Some i3 = modelled_loaded 2 u v i2 r is2 in
     let end : i3 ≡ now = one_modelled v.image i3 now is3 ((lines_read s t u v p q r).is image is).image in
-    let m1 : magic ≡ line_at now 0 = m ∙ loaded_words 0 s t image p is ∙ sym (loaded_elsewhere 1 (machine i1 t.lines) 0 (λ e. omega arith)) ∙ sym (loaded_elsewhere 2 (machine i2 u.lines) 0 (λ e. omega arith)) ∙ ap (λ (i : Image). line_at i 0) end in
+    let m1 : magic ≡ line_at now 0 = m ∙ loaded_words 0 s t image p is ∙ sym (loaded_elsewhere 1 (machine i1 t.lines) 0 (λ e. omega arith))
+    ∙ sym (loaded_elsewhere 2 (machine i2 u.lines) 0 (λ e. omega arith)) ∙ ap (λ (i : Image). line_at i 0) end in
     let f1 : prefix ≡ line_at now 1 = f ∙ loaded_words 1 t u i1 q is1 ∙ sym (loaded_elsewhere 2 (machine i2 u.lines) 1 (λ e. omega arith)) ∙ ap (λ (i : Image). line_at i 1) end in
     let e1 : rest ≡ line_at now 2 = e ∙ loaded_words 2 u v i2 r is2 ∙ ap (λ (i : Image). line_at i 2) end in
     ap₂ (λ (w : ℕ) (ws : List ℕ). super_of w ws have) (ap (λ (ws : List ℕ). slice_index (eight ws) 0) m1)

@@ -69,7 +69,8 @@ header_size header = refl
 pub header_front : (header : List ℕ) (n m : ℕ) → m ≡ n - 9 → take n (put_ops (gate_line, zero_line)) ++ take m (put_ops (log_line, header)) ≡ take n (header_puts header)
 header_front header n m is = front_row n m 9 (put_ops (gate_line, zero_line)) (put_ops (log_line, header)) (put_size (gate_line, zero_line)) is
 
-pub words_front : (magic first second : List ℕ) (n m k : ℕ) → m ≡ n - 9 → k ≡ m - 9 → take n (put_ops (1, first)) ++ (take m (put_ops (2, second)) ++ take k (put_ops (0, magic))) ≡ take n (word_puts magic first second)
+pub words_front : (magic first second : List ℕ) (n m k : ℕ) → m ≡ n - 9 → k ≡ m - 9
+    → take n (put_ops (1, first)) ++ (take m (put_ops (2, second)) ++ take k (put_ops (0, magic))) ≡ take n (word_puts magic first second)
 words_front magic first second n m k is next =
     ap (λ (ops : List Op). take n (put_ops (1, first)) ++ ops) (front_row m k 9 (put_ops (2, second)) (put_ops (0, magic)) (put_size (2, second)) next)
     ∙ front_row n m 9 (put_ops (1, first)) (put_ops (2, second) ++ put_ops (0, magic)) (put_size (1, first)) is

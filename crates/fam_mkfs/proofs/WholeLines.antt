@@ -92,7 +92,8 @@ more ops f k s t u p q =
     (done_both (ops ++ map f (range_with_len 0 k)) (f k ∷ []) s t u p q)
 
 -- the next word fails
-fails_at : (ops : List Op) (f : ℕ → Op) (k : ℕ) (line : LineNo) (s t u : CacheOver) → k < 8 → AreDone (ops ++ map f (range_with_len 0 k)) s t → AreCut (f k ∷ []) line t u → AreCut (ops ++ map f (range_with_len 0 8)) line s u
+fails_at : (ops : List Op) (f : ℕ → Op) (k : ℕ) (line : LineNo) (s t u : CacheOver) → k < 8 → AreDone (ops ++ map f (range_with_len 0 k)) s t
+    → AreCut (f k ∷ []) line t u → AreCut (ops ++ map f (range_with_len 0 8)) line s u
 fails_at ops f k line s t u below p q =
     let rest = map f (range_with_len (k + 1) (7 - k)) in
     cut_as _ (ops ++ map f (range_with_len 0 8)) line s u
@@ -112,7 +113,8 @@ drop_cut line at s t cut = cut_first (Invalidate (line_no line) ∷ []) (map (λ
 
 -- A line is stored, sent and dropped.
 
-pub store_more : (line : ℕ) (words : List ℕ) (k : ℕ) (s t u : CacheOver) → AreDone (stores line words k) s t → AreDone (Store (line_no line) k (get_or words k 0) ∷ []) t u → AreDone (stores line words (k + 1)) s u
+pub store_more : (line : ℕ) (words : List ℕ) (k : ℕ) (s t u : CacheOver) → AreDone (stores line words k) s t
+    → AreDone (Store (line_no line) k (get_or words k 0) ∷ []) t u → AreDone (stores line words (k + 1)) s u
 store_more line words k s t u p q = more [] (λ k. Store (line_no line) k (get_or words k 0)) k s t u p q
 
 -- what is cut in some of the stores is cut in more of them
@@ -124,7 +126,8 @@ cut_more line words k (suc more) at s u cut =
     let last = cut_as _ _ at s u (sym (map-range_with_len_more f 0 (k + more) (k + more) (omega arith))) (cut_first (stores line words (k + more)) (f (k + more) ∷ []) at s u upto) in
     subst (λ (n : ℕ). AreCut (stores line words n) at s u) (let e : k + more + 1 ≡ k + suc more = omega arith in e) last
 
-pub store_cut : (line : ℕ) (words : List ℕ) (k count : ℕ) (at : LineNo) (s t u : CacheOver) → k < count → AreDone (stores line words k) s t → AreCut (Store (line_no line) k (get_or words k 0) ∷ []) at t u → AreCut (stores line words count) at s u
+pub store_cut : (line : ℕ) (words : List ℕ) (k count : ℕ) (at : LineNo) (s t u : CacheOver) → k < count → AreDone (stores line words k) s t
+    → AreCut (Store (line_no line) k (get_or words k 0) ∷ []) at t u → AreCut (stores line words count) at s u
 store_cut line words k count at s t u below p q =
     let f : ℕ → Op = λ (k : ℕ). Store (line_no line) k (get_or words k 0) in
     let here = cut_as _ _ at s u (sym (map-range_with_len_more f 0 k k (omega arith))) (cut_second (stores line words k) (f k ∷ []) at s t u p q) in
@@ -163,11 +166,14 @@ pub held_spare_kept : (word first old new : ℕ) (IsThere : Type 0) → (0 < wor
 held_spare_kept zero first old new IsThere held begun held_spare before = omega (arith, held_spare (begun refl))
 held_spare_kept (suc word) first old new IsThere held begun held_spare before = omega (arith, held_spare (held (omega arith)))
 
-same_copy : (word : ℕ) (modelled : Option Image) (line : ℕ) (old new : Cache) → 0 < word → (0 < word → IsHeld (cell_at old line)) → FromMemory modelled line (λ memory. new ≡ cell_changed line (brought memory) old) → cell_at new line ≡ cell_at old line
+same_copy : (word : ℕ) (modelled : Option Image) (line : ℕ) (old new : Cache) → 0 < word → (0 < word → IsHeld (cell_at old line))
+    → FromMemory modelled line (λ memory. new ≡ cell_changed line (brought memory) old) → cell_at new line ≡ cell_at old line
 same_copy word modelled line old new some held from = ap (λ (cache : Cache). cell_at cache line) (held_loaded modelled line old new (held some) from)
 
 -- one word more was loaded from the line's copy
-pub words_more : (words : List ℕ) (k value : ℕ) (modelled : Option Image) (line : ℕ) (old new : Cache) → length words ≡ 8 → k < 8 → ((j : ℕ) → j < k → get_or words j 0 ≡ get_or (words_of (cell_at old line)) j 0) → (0 < k → IsHeld (cell_at old line)) → FromMemory modelled line (λ memory. new ≡ cell_changed line (brought memory) old) → value ≡ get_or (words_of (cell_at new line)) k 0
+pub words_more : (words : List ℕ) (k value : ℕ) (modelled : Option Image) (line : ℕ) (old new : Cache) → length words ≡ 8 → k < 8
+    → ((j : ℕ) → j < k → get_or words j 0 ≡ get_or (words_of (cell_at old line)) j 0) → (0 < k → IsHeld (cell_at old line))
+    → FromMemory modelled line (λ memory. new ≡ cell_changed line (brought memory) old) → value ≡ get_or (words_of (cell_at new line)) k 0
     → (j : ℕ) → j < k + 1 → get_or (set words k value) j 0 ≡ get_or (words_of (cell_at new line)) j 0
 words_more words k value modelled line old new wide below before held from read =
     below_more (λ j. get_or (set words k value) j 0 ≡ get_or (words_of (cell_at new line)) j 0) k

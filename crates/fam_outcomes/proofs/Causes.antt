@@ -156,10 +156,13 @@ module _ (grammar : Grammar) (storms : Storms) (out : Outside) (given : Status) 
 
   runs_fault : (command : Option Command) → CommandRuns grammar storms command out given text own → own ≡ status.MediaFault → HasRisen out.media.old.faults out.media.new.faults
   runs_fault None x e = absurd x
-  runs_fault (Some (Single me shot)) x e = risen out.media.old.faults out.media.new.faults x.run.journal x.run.counted (shot_fault out x.events x.run.journal shot x.ending x.run.caused (sym x.run.status_is ∙ e))
-  runs_fault (Some (Script name)) x e = risen out.media.old.faults out.media.new.faults x.run.journal x.run.counted (script_fault out x.events x.run.journal x.ending x.run.caused (sym x.run.status_is ∙ e))
+  runs_fault (Some (Single me shot)) x e = risen out.media.old.faults out.media.new.faults x.run.journal x.run.counted
+      (shot_fault out x.events x.run.journal shot x.ending x.run.caused (sym x.run.status_is ∙ e))
+  runs_fault (Some (Script name)) x e = risen out.media.old.faults out.media.new.faults x.run.journal x.run.counted
+      (script_fault out x.events x.run.journal x.ending x.run.caused (sym x.run.status_is ∙ e))
   runs_fault (Some (Storm seed size true)) x e = absurd x
-  runs_fault (Some (Storm seed size false)) x e = risen out.media.old.faults out.media.new.faults x.run.journal x.run.counted (storm_fault out x.events x.run.journal x.ending x.run.caused (sym x.run.status_is ∙ e))
+  runs_fault (Some (Storm seed size false)) x e = risen out.media.old.faults out.media.new.faults x.run.journal x.run.counted
+      (storm_fault out x.events x.run.journal x.ending x.run.caused (sym x.run.status_is ∙ e))
 
   runs_source : (command : Option Command) → CommandRuns grammar storms command out given text own → own ≡ status.SourceFault → SourceRose out
   runs_source None x e = absurd x
@@ -179,7 +182,8 @@ module _ (grammar : Grammar) (storms : Storms) (out : Outside) (given : Status) 
   early_source command (ScriptFails end) x e = script_end end command x
   early_source command c x e = absurd cc
 
-  shows_fault : (command : Option Command) → EndsEarly grammar storms command out text own ⊎ CommandRuns grammar storms command out given text own → own ≡ status.MediaFault → HasRisen out.media.old.faults out.media.new.faults
+  shows_fault : (command : Option Command) → EndsEarly grammar storms command out text own ⊎ CommandRuns grammar storms command out given text own
+      → own ≡ status.MediaFault → HasRisen out.media.old.faults out.media.new.faults
   shows_fault command (inl x) e = absurd (early_fault x.early (sym x.status_is ∙ e))
   shows_fault command (inr x) e = runs_fault command x e
 
@@ -192,7 +196,8 @@ module _ (grammar : Grammar) (storms : Storms) (command : Option Command) (out :
   own_status : (wanted : Status) → given ≡ wanted → (wanted ≡ status.SinkFault → ⊥) → top.own ≡ wanted
   own_status wanted e other = go top.put.outcome
     where
-      go : ((given ≡ top.own) × (out.sink.new.bytes ≡ option_map (with_piece top.text) out.sink.old.bytes)) ⊎ ((given ≡ status.SinkFault) × IsPartlyPut out.sink.old.bytes out.sink.new.bytes top.text) → top.own ≡ wanted
+      go : ((given ≡ top.own) × (out.sink.new.bytes ≡ option_map (with_piece top.text) out.sink.old.bytes))
+          ⊎ ((given ≡ status.SinkFault) × IsPartlyPut out.sink.old.bytes out.sink.new.bytes top.text) → top.own ≡ wanted
       go (inl x) = sym x.0 ∙ e
       go (inr x) = absurd (other (sym e ∙ x.0))
 

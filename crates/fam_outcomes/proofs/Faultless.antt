@@ -35,7 +35,8 @@ module _ (files : Files) where
   event_ends (event.Run name what) old new notes clean (inr (inr x)) = inr (x.cause, x.does.0)
   event_ends e old new notes clean x = tt
 
-  pub all_end : (events : List Event) (old : Session) (journal : List Note) (new : Session) → IsFaultless journal → (follows : Follows files events old journal new) → RunsEnd files events old journal new follows
+  pub all_end : (events : List Event) (old : Session) (journal : List Note) (new : Session) → IsFaultless journal
+      → (follows : Follows files events old journal new) → RunsEnd files events old journal new follows
   all_end [] old journal new clean x = tt
   all_end (e ∷ events) old journal new clean x = (
     event_ends e old x.0 x.1 (clean_prefix x.1 x.2 journal x.5 clean) x.3,
@@ -60,7 +61,8 @@ module _ (out : Outside) (none : NoneRose out) where
         go zero is = is
         go (suc n) is = absurd (no_fault (omega (arith, is)))
 
-    complete : (start : Image) (files : Files) (events : List Event) (last : Session) → IsImage start → AreSound events → Follows files events (first_session start) journal last → IsComplete files events start journal
+    complete : (start : Image) (files : Files) (events : List Event) (last : Session) → IsImage start → AreSound events
+        → Follows files events (first_session start) journal last → IsComplete files events start journal
     complete start files events last image sound follows = record {
       last = last;
       follows = follows;
@@ -69,7 +71,9 @@ module _ (out : Outside) (none : NoneRose out) where
       ends = all_end files events (first_session start) journal last is_clean follows;
     }
 
-    pub run_complete : (ending : Ending) (files : Files) (events : List Event) (start : Image) (now : Option Image) → IsImage start → AreSound events → IsCaused ending events journal out → RunsOn ending files events start now journal → ((ending ≡ AllDone) × IsComplete files events start journal) ⊎ (ending ≡ EndsOutOfMemory)
+    pub run_complete : (ending : Ending) (files : Files) (events : List Event) (start : Image) (now : Option Image) → IsImage start → AreSound events
+        → IsCaused ending events journal out → RunsOn ending files events start now journal
+        → ((ending ≡ AllDone) × IsComplete files events start journal) ⊎ (ending ≡ EndsOutOfMemory)
     run_complete AllDone files events start now image sound caused on = inl (refl, complete start files events on.last image sound on.follows)
     run_complete MkfsFails files events start now image sound caused on = absurd (no_fault (broken_faults events journal caused))
     run_complete (SourceFails end) files events start now image sound caused on = absurd (no_source end caused)
@@ -86,7 +90,8 @@ module _ (out : Outside) (none : NoneRose out) where
   good_run true = inl refl
   good_run false = inr (inl refl)
 
-  script_run : (events : List Event) (journal : List Note) → HasCounted out.media.old.faults out.media.new.faults journal → (ending : Ending) → IsCaused ending events journal out → IsRun (script_status ending journal)
+  script_run : (events : List Event) (journal : List Note) → HasCounted out.media.old.faults out.media.new.faults journal → (ending : Ending)
+      → IsCaused ending events journal out → IsRun (script_status ending journal)
   script_run events journal counted AllDone caused = good_run (is_good journal)
   script_run events journal counted MkfsFails caused = absurd (no_fault journal counted (broken_faults events journal caused))
   script_run events journal counted (SourceFails end) caused = absurd (no_source end caused)
@@ -94,7 +99,8 @@ module _ (out : Outside) (none : NoneRose out) where
   script_run events journal counted EndsOutOfMemoryBroken caused = absurd (no_fault journal counted (broken_faults events journal caused))
   script_run events journal counted SinkFails caused = absurd (none.sink caused)
 
-  storm_run : (events : List Event) (journal : List Note) → HasCounted out.media.old.faults out.media.new.faults journal → (ending : Ending) → IsCaused ending events journal out → (storm_status ending journal ≡ status.Done) ⊎ (storm_status ending journal ≡ status.OutOfMemory)
+  storm_run : (events : List Event) (journal : List Note) → HasCounted out.media.old.faults out.media.new.faults journal → (ending : Ending)
+      → IsCaused ending events journal out → (storm_status ending journal ≡ status.Done) ⊎ (storm_status ending journal ≡ status.OutOfMemory)
   storm_run events journal counted AllDone caused = inl refl
   storm_run events journal counted MkfsFails caused = absurd (no_fault journal counted (broken_faults events journal caused))
   storm_run events journal counted (SourceFails end) caused = absurd (no_source end caused)
@@ -106,11 +112,13 @@ module _ (out : Outside) (none : NoneRose out) where
     own_is : (command : Option Command) (top : TopEnds grammar storms command out given) → given ≡ top.own
     own_is command top = go top.put.outcome
       where
-        go : ((given ≡ top.own) × (out.sink.new.bytes ≡ option_map (with_piece top.text) out.sink.old.bytes)) ⊎ ((given ≡ status.SinkFault) × IsPartlyPut out.sink.old.bytes out.sink.new.bytes top.text) → given ≡ top.own
+        go : ((given ≡ top.own) × (out.sink.new.bytes ≡ option_map (with_piece top.text) out.sink.old.bytes))
+            ⊎ ((given ≡ status.SinkFault) × IsPartlyPut out.sink.old.bytes out.sink.new.bytes top.text) → given ≡ top.own
         go (inl x) = x.0
         go (inr x) = absurd (none.sink (top.put.rose x.0))
 
-    module _ (name : List ℕ) (files : Files) (bytes : List ℕ) (events : List Event) (told : out.shelf.old.files ≡ Some files) (holds : finmap.get files name ≡ Some bytes) (within : length bytes ≤ script_limit) (reads : grammar bytes ≡ Ok events) where
+    module _ (name : List ℕ) (files : Files) (bytes : List ℕ) (events : List Event) (told : out.shelf.old.files ≡ Some files)
+        (holds : finmap.get files name ≡ Some bytes) (within : length bytes ≤ script_limit) (reads : grammar bytes ≡ Ok events) where
       early_run : (early : Early) → IsEarly grammar storms (Some (Script name)) out early → IsRun (early_status early)
       early_run NoCommand x = absurd cc
       early_run (NoScript own) x = absurd (let missing = x.1 files told in cc)
@@ -143,7 +151,8 @@ module _ (out : Outside) (none : NoneRose out) where
     early_storm seed size EarlyOutOfMemory x = inr refl
     early_storm seed size e x = absurd x
 
-    shows_storm : (seed size : ℕ) (text : List ℕ) (own : Status) → EndsEarly grammar storms (Some (Storm seed size false)) out text own ⊎ CommandRuns grammar storms (Some (Storm seed size false)) out given text own → IsStormRun own
+    shows_storm : (seed size : ℕ) (text : List ℕ) (own : Status) → EndsEarly grammar storms (Some (Storm seed size false)) out text own
+        ⊎ CommandRuns grammar storms (Some (Storm seed size false)) out given text own → IsStormRun own
     shows_storm seed size text own (inl x) = subst IsStormRun (sym x.status_is) (early_storm seed size x.early x.is)
     shows_storm seed size text own (inr x) = subst IsStormRun (sym x.run.status_is) (storm_run x.events x.run.journal x.run.counted x.ending x.run.caused)
 

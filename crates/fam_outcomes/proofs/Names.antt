@@ -48,7 +48,8 @@ render_more a b = rendered_both [] a b
 
 -- The names are those of the past's hosts.
 
-changed_names : (h : ℕ) (f : HostPast → HostPast) → ((x : HostPast) → (f x).name ≡ x.name) → (xs : List HostPast) → map (λ (x : HostPast). x.name) (changed_at h f xs) ≡ map (λ (x : HostPast). x.name) xs
+changed_names : (h : ℕ) (f : HostPast → HostPast) → ((x : HostPast) → (f x).name ≡ x.name) → (xs : List HostPast)
+    → map (λ (x : HostPast). x.name) (changed_at h f xs) ≡ map (λ (x : HostPast). x.name) xs
 changed_names h f same [] = refl
 changed_names zero f same (x ∷ xs) = ap (λ (n : List ℕ). n ∷ map (λ (x : HostPast). x.name) xs) (same x)
 changed_names (suc h) f same (x ∷ xs) = ap (λ (ns : List (List ℕ)). x.name ∷ ns) (changed_names h f same xs)
@@ -160,7 +161,8 @@ module _ (m : Machines) where
   refusal_named (call.Umounts name) =
       names_on (length m.hosts) (number_of name m) (λ h. umounts_refusal h m) (number_below name) (λ h below.
       names_or (length m.hosts) _ _ (names_when (length m.hosts) (busy_at h m) (why.Busy (record { 0 = h })) below) (names_when (length m.hosts) (not (keeps_at h m)) why.NotMounted tt))
-  refusal_named (call.Moves name line move) = names_on (length m.hosts) (number_of name m) (λ h. line_refusal line m) (number_below name) (λ h below. names_when (length m.hosts) (nat_le (length m.memory) line) (why.NoLine line (length m.memory)) tt)
+  refusal_named (call.Moves name line move) = names_on (length m.hosts) (number_of name m) (λ h. line_refusal line m) (number_below name)
+      (λ h below. names_when (length m.hosts) (nat_le (length m.memory) line) (why.NoLine line (length m.memory)) tt)
   refusal_named (call.Refuses name cause) = tt
 
 -- how many hosts are declared behind these notes
@@ -237,7 +239,8 @@ named_as old new left notes told e f is =
     subst (λ (z : Machines). Named old notes z) (sym f) (subst (λ (z : List Note). Named old z left) (sym e) is)
 
 -- of one host, with as many hosts
-named_same : (old new : Machines) (notes : List Note) → length new.hosts ≡ length old.hosts → NameDeclared (length old.hosts) notes → declared_behind (length old.hosts) notes ≡ length old.hosts → Named old notes new
+named_same : (old new : Machines) (notes : List Note) → length new.hosts ≡ length old.hosts → NameDeclared (length old.hosts) notes
+    → declared_behind (length old.hosts) notes ≡ length old.hosts → Named old notes new
 named_same old new notes same are count = record { named = are; count = same ∙ sym count }
 
 named_cut : (h : ℕ) (m : Machines) (o : Option Failure) (d : Done) → h < length m.hosts → cut_task h m o ≡ Some d → Named m d.notes d.left
@@ -245,12 +248,14 @@ named_cut h m None d below is = absurd cc
 named_cut h m (Some failure) d below is =
     subst (λ (z : Done). Named m z.notes z.left) (same_Some _ d is) (named_same m _ _ (length-changed_at h _ m.hosts) (below, tt) refl)
 
-named_served : (h : ℕ) (m : Machines) (host : HostState) (t : TaskState) (op : Op) (note : Option row.RowNote) (d : Done) → h < length m.hosts → served h m host t op note ≡ Some d → Named m d.notes d.left
+named_served : (h : ℕ) (m : Machines) (host : HostState) (t : TaskState) (op : Op) (note : Option row.RowNote) (d : Done) → h < length m.hosts
+    → served h m host t op note ≡ Some d → Named m d.notes d.left
 named_served h m host t op None d below is = absurd cc
 named_served h m host t op (Some note) d below is =
     subst (λ (z : Done). Named m z.notes z.left) (same_Some _ d is) (named_same m _ _ (length-changed_at h _ m.hosts) (noted_named (length m.hosts) h note below) (noted_count (length m.hosts) h note))
 
-named_op : (outcome : Outcome) (h : ℕ) (m : Machines) (host : HostState) (t : TaskState) (op : Option Op) (d : Done) → h < length m.hosts → op_done outcome h m host t op ≡ Some d → Named m d.notes d.left
+named_op : (outcome : Outcome) (h : ℕ) (m : Machines) (host : HostState) (t : TaskState) (op : Option Op) (d : Done) → h < length m.hosts
+    → op_done outcome h m host t op ≡ Some d → Named m d.notes d.left
 named_op outcome h m host t None d below is = absurd cc
 named_op Passes h m host t (Some op) d below is = named_served h m host t op _ d below is
 named_op (Fails through) h m host t (Some op) d below is = named_cut h m _ d below is
@@ -283,7 +288,8 @@ operates_named h zero old notes new o = named_quiet old new notes o.0 o.1
 operates_named h (suc count) old notes new (inl o) = named_quiet old new notes o.1 o.2
 operates_named h (suc count) old notes new (inr o) = named_parts old o.1 new o.2 o.3 notes o.6 (operation_named h old o.2 o.1 o.4) (operates_named h count o.1 o.3 new o.5)
 
-making_named : (halt : Option ℕ) (h : ℕ) (p : Params) (force : Bool) (host : HostState) (old : Machines) (notes : List Note) (new : Machines) → h < length old.hosts → MakesOrHalts halt h p force host old notes new → Named old notes new
+making_named : (halt : Option ℕ) (h : ℕ) (p : Params) (force : Bool) (host : HostState) (old : Machines) (notes : List Note) (new : Machines)
+    → h < length old.hosts → MakesOrHalts halt h p force host old notes new → Named old notes new
 making_named None h p force host old notes new below x = named_as old new _ notes _ x.notes_are x.left (named_same old _ _ (length-changed_at h _ old.hosts) (below, tt) refl)
 making_named (Some k) h p force host old notes new below x = named_as old new _ notes _ x.notes_are x.left (named_same old _ _ (length-changed_at h _ old.hosts) (below, tt) refl)
 
@@ -379,8 +385,10 @@ module _ (files : Files) where
   begun_named name what old new notes x = does_named old.machines notes new.machines (call.Begins name x.cmd) tt x.does
 
   refused_named : (name : List ℕ) (what : Ask) (old new : Session) (notes : List Note) → RefusesEvent files name what old notes new → Named old.machines notes new.machines
-  refused_named name what old new notes (inl x) = one_refusal name x.cause old.machines new.machines notes (begin_named name (mounts what) old.machines x.cause x.first) x.notes_are (ap (λ (s : Session). s.machines) x.same)
-  refused_named name what old new notes (inr x) = does_named old.machines notes new.machines (call.Refuses name x.cause) (source_named files old.copied what (length old.machines.hosts) x.cause x.copied x.says) x.does
+  refused_named name what old new notes (inl x) = one_refusal name x.cause old.machines new.machines notes
+      (begin_named name (mounts what) old.machines x.cause x.first) x.notes_are (ap (λ (s : Session). s.machines) x.same)
+  refused_named name what old new notes (inr x) = does_named old.machines notes new.machines (call.Refuses name x.cause)
+      (source_named files old.copied what (length old.machines.hosts) x.cause x.copied x.says) x.does
 
   not_step_named : (name : List ℕ) (old new : Session) (notes : List Note) → MayNotStep name old notes new → Named old.machines notes new.machines
   not_step_named name old new notes x = one_refusal name x.cause old.machines new.machines notes (step_named name old.machines x.cause x.first) x.notes_are (ap (λ (s : Session). s.machines) x.same)
@@ -389,7 +397,8 @@ module _ (files : Files) where
   event_named (event.Begin name what) old new notes (inl x) = begun_named name what old new notes x
   event_named (event.Begin name what) old new notes (inr x) = refused_named name what old new notes x
   event_named (event.Run name what) old new notes (inl x) =
-      named_parts old.machines x.mid.machines new.machines x.first x.rest notes x.joined (begun_named name what old x.mid x.first x.begun) (operates_named x.host x.does.count x.mid.machines x.rest new.machines x.does.does)
+      named_parts old.machines x.mid.machines new.machines x.first x.rest notes x.joined (begun_named name what old x.mid x.first x.begun)
+      (operates_named x.host x.does.count x.mid.machines x.rest new.machines x.does.does)
   event_named (event.Run name what) old new notes (inr x) = refused_named name what old new notes x
   event_named (event.Step name count) old new notes (inl x) = operates_named x.host count old.machines notes new.machines x.does
   event_named (event.Step name count) old new notes (inr x) = not_step_named name old new notes x

@@ -26,11 +26,13 @@ use Rattle.fam_alloc.specs.Taken.{is_taken}
 use Rattle.fam_plan.specs.State.{PlanState, IsHistory, IsPlan, MayBeAdded}
 
 -- a decision of an appending command is that of its wish
-wish_decided : (s : PlanState) (me : List ℕ) (w : Wish) (e : Entry) (o : Option (Result Entry Refused)) → o ≡ Some (decide_wish s.params me s.entries w) → o ≡ Some (Ok e) → decide_wish s.params me s.entries w ≡ Ok e
+wish_decided : (s : PlanState) (me : List ℕ) (w : Wish) (e : Entry) (o : Option (Result Entry Refused))
+    → o ≡ Some (decide_wish s.params me s.entries w) → o ≡ Some (Ok e) → decide_wish s.params me s.entries w ≡ Ok e
 wish_decided s me w e o is given =
     let h : ◌≡◌ {A = Option (Result Entry Refused)} (Some (decide_wish s.params me s.entries w)) (Some (Ok e)) = sym is ∙ given in cc h
 
-pub decided_added : (s : PlanState) (me : List ℕ) (cmd : Cmd) (w : Wish) (e : Entry) → IsHistory s → wish_of cmd ≡ Some w → IsSoundWish w → decide s.params me s.entries cmd ≡ Some (Ok e) → MayBeAdded s e
+pub decided_added : (s : PlanState) (me : List ℕ) (cmd : Cmd) (w : Wish) (e : Entry) → IsHistory s → wish_of cmd ≡ Some w → IsSoundWish w
+    → decide s.params me s.entries cmd ≡ Some (Ok e) → MayBeAdded s e
 decided_added s me cmd w e h wants sound given =
     let may = may_append s.params me s.entries w e h.params sound
     (wish_decided s me w e (decide s.params me s.entries cmd) (ap (λ (o : Option Wish). option_map (decide_wish s.params me s.entries) o) wants) given) in record {
@@ -69,7 +71,8 @@ module _ (s now : PlanState) (held : Tree) (map : List Bool) (plan : IsPlan s he
       omega (arith, mul-le-mul_right s.params.unit units, div-mul-le_self s.params.device s.params.unit, plan.history.params.device)
 
   -- the room of the rule, by the count and what the map found
-  pub simple_by : (size count : ℕ) (o : Option ℕ) → count ≡ div_ceil size s.params.unit → o ≡ room (is_taken map) 0 (length map) count → simple_room now.params now.entries size ≡ room_or count (option_map (one_extent s.params.unit count) o)
+  pub simple_by : (size count : ℕ) (o : Option ℕ) → count ≡ div_ceil size s.params.unit → o ≡ room (is_taken map) 0 (length map) count
+      → simple_room now.params now.entries size ≡ room_or count (option_map (one_extent s.params.unit count) o)
   simple_by size count o counted found =
       let given : ℕ → Option ℕ → Result Room Refused = λ k r. room_or k (option_map (one_extent now.params.unit k) r) in
       let is : count ≡ div_ceil size now.params.unit = counted ∙ ap (λ (t : PlanState). div_ceil size t.params.unit) view in
@@ -78,12 +81,16 @@ module _ (s now : PlanState) (held : Tree) (map : List Bool) (plan : IsPlan s he
       ∙ ap (λ (t : PlanState). room_or count (option_map (one_extent t.params.unit count) o)) (sym view)
 
   -- and the strips of the rule
-  pub striped_by : (size : ℕ) (x : Stripe) (count seq : ℕ) (o : Option (List ℕ)) → count ≡ min (strip_bytes size x.chunk x.nstrips / s.params.unit) (2 ^ 64 - 1) → seq ≡ length now.entries → o ≡ strips (is_taken map) (length map) count x.nstrips x.nbuckets seq → striped_room now.params now.entries size x ≡ room_or count (option_map (strip_extents s.params.unit x.chunk count) o)
+  pub striped_by : (size : ℕ) (x : Stripe) (count seq : ℕ) (o : Option (List ℕ))
+      → count ≡ min (strip_bytes size x.chunk x.nstrips / s.params.unit) (2 ^ 64 - 1) → seq ≡ length now.entries
+      → o ≡ strips (is_taken map) (length map) count x.nstrips x.nbuckets seq
+      → striped_room now.params now.entries size x ≡ room_or count (option_map (strip_extents s.params.unit x.chunk count) o)
   striped_by size x count seq o counted number found =
       let given : ℕ → Option (List ℕ) → Result Room Refused = λ k r. room_or k (option_map (strip_extents now.params.unit x.chunk k) r) in
       let is : count ≡ strip_length now.params size x = counted ∙ ap (λ (t : PlanState). strip_length t.params size x) view in
       sym (ap (λ (k : ℕ). given k (strips (is_used now.params now.entries) (device_units now.params) k x.nstrips x.nbuckets (length now.entries))) is)
-      ∙ ap (given count) (sym (found ∙ strips_of_list count x.nstrips x.nbuckets seq ∙ ap (λ (n : ℕ). strips (is_used now.params now.entries) (device_units now.params) count x.nstrips x.nbuckets n) number))
+      ∙ ap (given count) (sym (found ∙ strips_of_list count x.nstrips x.nbuckets seq
+      ∙ ap (λ (n : ℕ). strips (is_used now.params now.entries) (device_units now.params) count x.nstrips x.nbuckets n) number))
       ∙ ap (λ (t : PlanState). room_or count (option_map (strip_extents t.params.unit x.chunk count) o)) (sym view)
 
   -- a stripe that may be asked for, by the plan's own parameters
@@ -91,7 +98,8 @@ module _ (s now : PlanState) (held : Tree) (map : List Bool) (plan : IsPlan s he
   stripe_here x good = subst (λ (t : PlanState). IsGoodStripe t.params x) (sym view) good
 
   -- each of its strips has some units
-  pub strip_some : (size : ℕ) (x : Stripe) (count : ℕ) → IsGoodStripe s.params x → 0 < size → size < 2 ^ 64 → x.chunk < 2 ^ 64 → count ≡ min (strip_bytes size x.chunk x.nstrips / s.params.unit) (2 ^ 64 - 1) → 0 < count
+  pub strip_some : (size : ℕ) (x : Stripe) (count : ℕ) → IsGoodStripe s.params x → 0 < size → size < 2 ^ 64 → x.chunk < 2 ^ 64
+      → count ≡ min (strip_bytes size x.chunk x.nstrips / s.params.unit) (2 ^ 64 - 1) → 0 < count
   strip_some size x count good bytes size_fits chunk_fits is =
       omega (arith, is, (strip_count s.params size x.chunk x.nstrips plan.history.params bytes size_fits chunk_fits good.chunk good.whole good.some).some)
 
@@ -106,7 +114,8 @@ strips_within used units k n buckets seq starts is =
     (runs_of_strips used units k n buckets seq starts (subst (IsStrips used (units / buckets) k n buckets seq) (sym is) (strips_first used units k n buckets seq))).fits
 
 -- the extents of strips whose runs end within the units
-pub ends_fit : (s now : PlanState) (held : Tree) (map : List Bool) (plan : IsPlan s held map) (view : s ≡ now) (k n buckets seq : ℕ) (starts : List ℕ) → Some starts ≡ strips (is_taken map) (length map) k n buckets seq → All (λ i. (i + k) * s.params.unit < 2 ^ 64) starts
+pub ends_fit : (s now : PlanState) (held : Tree) (map : List Bool) (plan : IsPlan s held map) (view : s ≡ now) (k n buckets seq : ℕ) (starts : List ℕ)
+    → Some starts ≡ strips (is_taken map) (length map) k n buckets seq → All (λ i. (i + k) * s.params.unit < 2 ^ 64) starts
 ends_fit s now held map plan view k n buckets seq starts is =
     All-weaker (λ i. i + k ≤ length map) (λ i. (i + k) * s.params.unit < 2 ^ 64) (λ i within. end_fits s now held map plan view k i within) starts
     (strips_within (is_taken map) (length map) k n buckets seq starts is)

@@ -73,7 +73,9 @@ pub record AreEntries (tree : Tree) (order : List (List ℕ)) (list : List Entry
   pub own : paths_in (entries_at tree order) ≡ order
 
 -- with one entry more
-pub entries_with : (tree more : Tree) (order longer : List (List ℕ)) (e : Entry) → finmap.get tree e.path ≡ None → AreHeld tree order → paths_in (entries_at tree order) ≡ order → more ≡ with_entry tree e → longer ≡ order ++ e.path ∷ [] → AreEntries more longer (entries_at tree order ++ e ∷ [])
+pub entries_with : (tree more : Tree) (order longer : List (List ℕ)) (e : Entry) → finmap.get tree e.path ≡ None → AreHeld tree order
+    → paths_in (entries_at tree order) ≡ order → more ≡ with_entry tree e → longer ≡ order ++ e.path ∷ []
+    → AreEntries more longer (entries_at tree order ++ e ∷ [])
 entries_with tree more order longer e free held own is_more is_longer = record {
   entries = entries;
   own =

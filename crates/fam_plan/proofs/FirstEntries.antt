@@ -35,10 +35,13 @@ lies_in_device p e proper =
     All-weaker (IsInDevice p) (λ x. x.offset + x.length ≤ device_units p * p.unit) (λ x is. omega (arith, is.before)) e.extents (proper_inside p e proper)
 
 -- where no entry stands: a parent other than the root is missing, and superblock and log alone are used
-pub fault_of_first : (p : Params) (e : Entry) → join_fault p [] e ≡ or_else (root_fault (replay []) (parent_of e.path)) (overlap_fault (first_overlap (λ u. nat_lt u (head_units p)) (units_in p.unit e.extents)))
+pub fault_of_first : (p : Params) (e : Entry)
+    → join_fault p [] e ≡ or_else (root_fault (replay []) (parent_of e.path))
+    (overlap_fault (first_overlap (λ u. nat_lt u (head_units p)) (units_in p.unit e.extents)))
 unfolding join_fault
 fault_of_first p e =
-    ap (λ (o : Option Entry). or_else (or_else (exists_fault o) (root_fault (replay []) (parent_of e.path))) (overlap_fault (first_overlap (is_used p []) (units_in p.unit e.extents)))) (finmap.get-empty path_cmp e.path)
+    ap (λ (o : Option Entry). or_else (or_else (exists_fault o) (root_fault (replay []) (parent_of e.path)))
+    (overlap_fault (first_overlap (is_used p []) (units_in p.unit e.extents)))) (finmap.get-empty path_cmp e.path)
     ∙ ap (λ (o : Option ℕ). or_else (root_fault (replay []) (parent_of e.path)) (overlap_fault o))
     (overlap_same (is_used p []) (λ u. nat_lt u (head_units p)) (units_in p.unit e.extents) (λ u. sym (or_false (nat_lt u (head_units p)))))
 
@@ -88,7 +91,8 @@ room_for_asked p w = by_size (w.size == 0)
     by_size false = room_by_asked p w w.size w.stripe
 
 -- what is against a wish, in the order of the tests
-wish_by : (p : Params) (me : List ℕ) (w : Wish) → SoundParams p → early_refusal p me w.path ≡ None → stripe_refusal p w.stripe ≡ None → decide_wish p me [] w ≡ stop (parent_refusal (replay []) (parent_of w.path)) (entry_or w (room_for p [] w))
+wish_by : (p : Params) (me : List ℕ) (w : Wish) → SoundParams p → early_refusal p me w.path ≡ None → stripe_refusal p w.stripe ≡ None
+    → decide_wish p me [] w ≡ stop (parent_refusal (replay []) (parent_of w.path)) (entry_or w (room_for p [] w))
 unfolding decide_wish
 wish_by p me w sound early stripe =
     let full : full_refusal p [] ≡ None = grind (arith, nat_tests, has_slot p sound) in

@@ -45,7 +45,9 @@ lie_within s tree map e plan proper =
     omega (arith, is.before, same)) e.extents (proper_inside s.params e proper)
 
 -- the map and the list have one first overlap
-pub overlap_same : (s : PlanState) (tree : Tree) (map : List Bool) (e : Entry) → IsPlan s tree map → Proper s.params e → overlap_fault (first_overlap (is_taken map) (units_in s.params.unit e.extents)) ≡ overlap_fault (first_overlap (is_used s.params s.entries) (units_in s.params.unit e.extents))
+pub overlap_same : (s : PlanState) (tree : Tree) (map : List Bool) (e : Entry) → IsPlan s tree map → Proper s.params e
+    → overlap_fault (first_overlap (is_taken map) (units_in s.params.unit e.extents))
+    ≡ overlap_fault (first_overlap (is_used s.params s.entries) (units_in s.params.unit e.extents))
 overlap_same s tree map e plan proper =
     ap overlap_fault (overlap_same_on (is_taken map) (is_used s.params s.entries) (units_in s.params.unit e.extents) (λ u h.
     let below : u < length map = units_below s.params.unit (length map) e.extents (unit_some s.params plan.history.params) (lie_within s tree map e plan proper) u h in
@@ -64,7 +66,8 @@ used_more p list e u =
     ∙ sym (or_assoc (nat_lt u (head_units p)) (holds (list_units p.unit list) u) (holds (units_in p.unit e.extents) u))
 
 -- an entry of the longer list is one of the shorter, or the last
-added_more : (s : PlanState) (e : Entry) → IsHistory s → IsAdded s.params s.entries e → (i : ℕ) (x : Entry) → slice_get (s.entries ++ e ∷ []) i ≡ Some x → IsAdded s.params (take i (s.entries ++ e ∷ [])) x
+added_more : (s : PlanState) (e : Entry) → IsHistory s → IsAdded s.params s.entries e → (i : ℕ) (x : Entry)
+    → slice_get (s.entries ++ e ∷ []) i ≡ Some x → IsAdded s.params (take i (s.entries ++ e ∷ [])) x
 added_more s e h is i x at =
     let longer : List Entry = s.entries ++ e ∷ [] in
     elim (cases_lt i (length s.entries)) [
@@ -92,7 +95,9 @@ history_more s e h left is = record {
   added = added_more s e h is;
 }
 
-pub plan_more : (s : PlanState) (held more : Tree) (map after : List Bool) (e : Entry) → IsPlan s held map → length s.entries < s.params.slots → IsAdded s.params s.entries e → more ≡ with_entry held e → length after ≡ length map → ((u : ℕ) → is_taken after u ≡ (is_taken map u || holds (units_in s.params.unit e.extents) u)) → IsPlan (with_last s e) more after
+pub plan_more : (s : PlanState) (held more : Tree) (map after : List Bool) (e : Entry) → IsPlan s held map → length s.entries < s.params.slots
+    → IsAdded s.params s.entries e → more ≡ with_entry held e → length after ≡ length map
+    → ((u : ℕ) → is_taken after u ≡ (is_taken map u || holds (units_in s.params.unit e.extents) u)) → IsPlan (with_last s e) more after
 plan_more s held more map after e plan left is added count taken = record {
   history = history_more s e plan.history left is;
   tree = added ∙ ap (λ (t : Tree). with_entry t e) plan.tree ∙ sym (replay_more s.entries e);
@@ -102,14 +107,16 @@ plan_more s held more map after e plan left is added count taken = record {
 }
 
 -- the faults against an entry: the tree's, then the first overlap
-pub fault_by_parts : (s : PlanState) (held : Tree) (map : List Bool) (e : Entry) → IsPlan s held map → Proper s.params e → or_else (tree_fault held e) (overlap_fault (first_overlap (is_taken map) (units_in s.params.unit e.extents))) ≡ join_fault s.params s.entries e
+pub fault_by_parts : (s : PlanState) (held : Tree) (map : List Bool) (e : Entry) → IsPlan s held map → Proper s.params e
+    → or_else (tree_fault held e) (overlap_fault (first_overlap (is_taken map) (units_in s.params.unit e.extents))) ≡ join_fault s.params s.entries e
 unfolding join_fault
 fault_by_parts s held map e plan proper =
     ap (λ (t : Tree). or_else (tree_fault t e) (overlap_fault (first_overlap (is_taken map) (units_in s.params.unit e.extents)))) plan.tree
     ∙ ap (λ (f : Option Reason). or_else (tree_fault (replay s.entries) e) f) (overlap_same s held map e plan proper)
 
 -- an entry that fits the tree has the first overlap as its fault
-pub fault_by_units : (s : PlanState) (held : Tree) (map : List Bool) (e : Entry) → IsPlan s held map → Proper s.params e → tree_fault held e ≡ None → overlap_fault (first_overlap (is_taken map) (units_in s.params.unit e.extents)) ≡ join_fault s.params s.entries e
+pub fault_by_units : (s : PlanState) (held : Tree) (map : List Bool) (e : Entry) → IsPlan s held map → Proper s.params e → tree_fault held e ≡ None
+    → overlap_fault (first_overlap (is_taken map) (units_in s.params.unit e.extents)) ≡ join_fault s.params s.entries e
 fault_by_units s held map e plan proper fits =
     ap (λ (f : Option Reason). or_else f (overlap_fault (first_overlap (is_taken map) (units_in s.params.unit e.extents)))) (sym fits)
     ∙ fault_by_parts s held map e plan proper
@@ -135,7 +142,11 @@ module _ (s now : PlanState) (held : Tree) (map : List Bool) (e : Entry) (plan :
   added_of_view fits free = record { proper = proper_here; joins = sym (fault_by_units s held map e plan proper_here fits) ∙ free }
 
   -- the plan with that entry
-  pub plan_added : (list : List Entry) (more : Tree) (after : List Bool) → tree_fault held e ≡ None → overlap_fault (first_overlap (is_taken map) (units_in s.params.unit e.extents)) ≡ None → length now.entries < now.params.slots → list ≡ s.entries ++ e ∷ [] → more ≡ with_entry held e → length after ≡ length map → ((u : ℕ) → is_taken after u ≡ (is_taken map u || holds (units_in s.params.unit e.extents) u)) → IsPlan (record { params = s.params; entries = list }) more after
+  pub plan_added : (list : List Entry) (more : Tree) (after : List Bool) → tree_fault held e ≡ None
+      → overlap_fault (first_overlap (is_taken map) (units_in s.params.unit e.extents)) ≡ None → length now.entries < now.params.slots
+      → list ≡ s.entries ++ e ∷ [] → more ≡ with_entry held e → length after ≡ length map
+      → ((u : ℕ) → is_taken after u ≡ (is_taken map u || holds (units_in s.params.unit e.extents) u))
+      → IsPlan (record { params = s.params; entries = list }) more after
   plan_added list more after fits free left is added count taken =
       let room : length s.entries < s.params.slots = subst (λ (t : PlanState). length t.entries < t.params.slots) (sym view) left in
       subst (λ (l : List Entry). IsPlan (record { params = s.params; entries = l }) more after) (sym is)

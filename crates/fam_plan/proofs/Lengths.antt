@@ -33,7 +33,9 @@ no_length p path fits = rw fits refl
 module _ (p : Params) (me : List ℕ) (list : List Entry) (w : Wish) where
   -- what comes behind the tests of master and length
   rest : Result Entry Refused
-  rest = stop (stripe_refusal p w.stripe) (stop (exists_refusal (finmap.get (replay list) w.path)) (stop (parent_refusal (replay list) (parent_of w.path)) (stop (full_refusal p list) (entry_or w (room_for p list w)))))
+  rest = stop (stripe_refusal p w.stripe)
+      (stop (exists_refusal (finmap.get (replay list) w.path))
+      (stop (parent_refusal (replay list) (parent_of w.path)) (stop (full_refusal p list) (entry_or w (room_for p list w)))))
 
   pub behind_length : decide_wish p me list w ≡ stop (early_refusal p me w.path) (plan_decide_wish p me list w)
   unfolding decide_wish plan_decide_wish rest
@@ -67,7 +69,8 @@ module _ (p : Params) (me : List ℕ) (list : List Entry) (w : Wish) (refused : 
   first_there cause = sym (in_roomy p me list w) ∙ refused_there (roomy p) me list w refused cause
 
 -- what a plan decides for a sound wish whose path fits may be added
-pub plan_may : (s : PlanState) (me : List ℕ) (w : Wish) (r : Result Entry Refused) → IsHistory s → IsSoundWish w → path_fits s.params w.path ≡ true → r ≡ plan_decide_wish s.params me s.entries w → IfOk r (λ e. MayBeAdded s e)
+pub plan_may : (s : PlanState) (me : List ℕ) (w : Wish) (r : Result Entry Refused) → IsHistory s → IsSoundWish w → path_fits s.params w.path ≡ true
+    → r ≡ plan_decide_wish s.params me s.entries w → IfOk r (λ e. MayBeAdded s e)
 plan_may s me w r h sound fits is = may_of s me w r h sound (is ∙ sym (fits_length s.params me s.entries w fits))
 
 -- a wish that is wanted is the one for which it was tested

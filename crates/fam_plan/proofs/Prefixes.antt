@@ -31,12 +31,15 @@ first_more list i e below at =
     take_more list i e below ∙ ap (λ (x : Entry). take i list ++ x ∷ []) (get_or_from_slice_get list i e e at)
 
 -- what stands at a path by them
-pub held_more : (list : List Entry) (i : ℕ) (e : Entry) (path : List ℕ) → i < length list → slice_get list i ≡ Some e → finmap.get (replay (take (i + 1) list)) path ≡ cond (path_eq e.path path) (Some e) (finmap.get (replay (take i list)) path)
+pub held_more : (list : List Entry) (i : ℕ) (e : Entry) (path : List ℕ) → i < length list → slice_get list i ≡ Some e
+    → finmap.get (replay (take (i + 1) list)) path ≡ cond (path_eq e.path path) (Some e) (finmap.get (replay (take i list)) path)
 held_more list i e path below at =
     ap (λ (l : List Entry). finmap.get (replay l) path) (first_more list i e below at) ∙ tree_more (take i list) e path
 
 -- the first unit of a run that they use
-pub next_more : (p : Params) (list : List Entry) (i : ℕ) (e : Entry) (from to a b : ℕ) → i < length list → slice_get list i ≡ Some e → IsNext (is_used p (take i list)) true from to a → IsNext (holds (units_in p.unit e.extents)) true from a b → IsNext (is_used p (take (i + 1) list)) true from to b
+pub next_more : (p : Params) (list : List Entry) (i : ℕ) (e : Entry) (from to a b : ℕ) → i < length list → slice_get list i ≡ Some e
+    → IsNext (is_used p (take i list)) true from to a → IsNext (holds (units_in p.unit e.extents)) true from a b
+    → IsNext (is_used p (take (i + 1) list)) true from to b
 next_more p list i e from to a b below at before here =
     next_same (λ u. is_used p (take i list) u || holds (units_in p.unit e.extents) u) (is_used p (take (i + 1) list)) true from to b
     (λ u. sym (ap (λ (l : List Entry). is_used p l u) (first_more list i e below at) ∙ used_more p (take i list) e u))

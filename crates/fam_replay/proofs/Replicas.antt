@@ -68,12 +68,15 @@ all_found p gate None fits all = tt
 all_found p gate (Some s) fits all = omega (arith, fits.1, all, length-take s.found s.entries)
 
 -- what comes of an entry that was read
-pub reads_by : {E : Type 0} (p : Params) (words : List ℕ) (old new : List Entry) (e : Entry) (result : Result (Option Reason) E) → entry_of p words (length old) ≡ Ok e → IfOk result (λ reason. Joins reason p old e new) → IfOk result (λ reason. ReadsNext reason p words old new)
+pub reads_by : {E : Type 0} (p : Params) (words : List ℕ) (old new : List Entry) (e : Entry) (result : Result (Option Reason) E)
+    → entry_of p words (length old) ≡ Ok e → IfOk result (λ reason. Joins reason p old e new)
+    → IfOk result (λ reason. ReadsNext reason p words old new)
 reads_by p words old new e (Ok None) read joins = record { entry = e; read = read; joins = joins.0; added = joins.1 }
 reads_by p words old new e (Ok (Some reason)) read joins = (Refused e read joins.0, joins.1)
 reads_by p words old new e (Err fault) read joins = tt
 
 -- why an entry that was read doesn't join is against its words
-pub against_by : {E : Type 0} (p : Params) (words : List ℕ) (list : List Entry) (e : Entry) (result : Result Reason E) → entry_of p words (length list) ≡ Ok e → IfOk result (λ reason. join_fault p list e ≡ Some reason) → IfOk result (IsAgainst p words list)
+pub against_by : {E : Type 0} (p : Params) (words : List ℕ) (list : List Entry) (e : Entry) (result : Result Reason E)
+    → entry_of p words (length list) ≡ Ok e → IfOk result (λ reason. join_fault p list e ≡ Some reason) → IfOk result (IsAgainst p words list)
 against_by p words list e (Ok reason) read fault = Refused e read fault
 against_by p words list e (Err fault) read is = tt

@@ -17,7 +17,8 @@ unfolding reading_of
 by_superblock image size count = ap (λ (n : ℕ). read_super (line_at image) (super_in (line_at image) (line_bytes * n))) count
 
 -- by the header, behind a superblock that reads
-pub by_header : (image : Image) (size : ℕ) (p : Params) → length image ≡ size → super_in (line_at image) (line_bytes * size) ≡ Ok p → reading image ≡ read_log (line_at image) p (log_fault (line_at image log_line) p)
+pub by_header : (image : Image) (size : ℕ) (p : Params) → length image ≡ size → super_in (line_at image) (line_bytes * size) ≡ Ok p
+    → reading image ≡ read_log (line_at image) p (log_fault (line_at image log_line) p)
 by_header image size p count told = by_superblock image size count ∙ ap (read_super (line_at image)) told
 
 -- a fault tells what is read, however that is written
@@ -39,7 +40,8 @@ slots_of_log lines p q count at params is head line =
     inr (head, subst (λ (n : ℕ). IsOfSlots lines p n at) is (subst (λ (r : Params). IsOfSlots lines r count at) params line))
 
 -- the slots that are left, by what a plan has
-pub slots_left : (memory : Lines) (p q : Params) (count slot : ℕ) (entries : List Entry) → q ≡ p → length entries ≡ slot → slot < count → read_slots memory p 0 count [] ≡ read_slots memory p slot (count - slot) entries
+pub slots_left : (memory : Lines) (p q : Params) (count slot : ℕ) (entries : List Entry) → q ≡ p → length entries ≡ slot → slot < count
+    → read_slots memory p 0 count [] ≡ read_slots memory p slot (count - slot) entries
     → read_slots memory p 0 count [] ≡ read_slots memory q (length entries) (suc (count - (slot + 1))) entries
 slots_left memory p q count slot entries params is below told =
     let more : count - slot ≡ suc (count - (slot + 1)) = omega arith in
@@ -49,7 +51,8 @@ slots_left memory p q count slot entries params is below told =
     ∙ ap (λ (r : Params). read_slots memory r (length entries) (suc (count - (slot + 1))) entries) (sym params)
 
 -- before the first slot
-pub slots_first : (memory : Lines) (p : Params) (slot : ℕ) (entries : List Entry) → entries ≡ [] → slot ≡ 0 → (more : ℕ) → read_slots memory p 0 (slot + more) [] ≡ read_slots memory p slot more entries
+pub slots_first : (memory : Lines) (p : Params) (slot : ℕ) (entries : List Entry) → entries ≡ [] → slot ≡ 0 → (more : ℕ)
+    → read_slots memory p 0 (slot + more) [] ≡ read_slots memory p slot more entries
 slots_first memory p slot entries none first more =
     let count : slot + more ≡ more = omega (arith, first) in
     ap (λ (n : ℕ). read_slots memory p 0 n []) count

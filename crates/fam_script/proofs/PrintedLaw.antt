@@ -239,7 +239,8 @@ module _ (attr : Attr) (spelled : IsSpelledAttr attr) where
   stripe_read given (Some s) is column =
       option_step creat_takes (record attr_given { seed = given }) (record attr_given { seed = given; stripe = Some s }) column (codes "stripe=" ++ stripe_value s) [] (stripe_taken given s is)
 
-module _ (path : List ℕ) (size : ℕ) (attr : Attr) (stripe : Option Stripe) (fill : Content) (is : is_path path ≡ true) (small : size < 2 ^ 64) (spelled : IsSpelledAttr attr) (striped : IsSpelledStripe stripe) (filled : IsSpelledContent fill) (column end : ℕ) where
+module _ (path : List ℕ) (size : ℕ) (attr : Attr) (stripe : Option Stripe) (fill : Content) (is : is_path path ≡ true) (small : size < 2 ^ 64)
+    (spelled : IsSpelledAttr attr) (striped : IsSpelledStripe stripe) (filled : IsSpelledContent fill) (column end : ℕ) where
   abbrev options : List (List ℕ)
   options = seed_words fill ++ stripe_words stripe
 
@@ -256,13 +257,28 @@ module _ (path : List ℕ) (size : ℕ) (attr : Attr) (stripe : Option Stripe) (
       ∙ ap (λ (l : List ℕ). escaped path ++ (number size ++ l))
       (ap (λ (l : List ℕ). l ++ (seed_text fill ++ stripe_text stripe)) (attr_words attr)
       ∙ ap (λ (l : List ℕ). spaced (mode_word attr ∷ uid_word attr ∷ gid_word attr ∷ []) ++ l)
-      (ap (λ (l : List ℕ). l ++ stripe_text stripe) (seed_text_is fill) ∙ ap (λ (l : List ℕ). spaced (seed_words fill) ++ l) (stripe_text_is stripe) ∙ sym (spaced-append (seed_words fill) (stripe_words stripe)))
+      (ap (λ (l : List ℕ). l ++ stripe_text stripe) (seed_text_is fill) ∙ ap (λ (l : List ℕ). spaced (seed_words fill) ++ l) (stripe_text_is stripe)
+      ∙ sym (spaced-append (seed_words fill) (stripe_words stripe)))
       ∙ sym (spaced-append (mode_word attr ∷ uid_word attr ∷ gid_word attr ∷ []) options)))
 
   creat_words : words_from column (cmd_text (cmd.Creat path size attr stripe fill)) ≡ placed column (codes "creat" ∷ behind_creat)
   creat_words =
-      read_as _ (codes "creat") behind_creat column creat_text
-      ((refl, (refl, (refl, (refl, (refl, tt))))), (path_word path is, (decimal_word size small, (mode_is_word attr, (uid_is_word attr spelled, (gid_is_word attr spelled, are-append (seed_words fill) (stripe_words stripe) (seeds_are fill filled) (stripes_are stripe striped)))))))
+      read_as _ (codes "creat") behind_creat column creat_text (
+        (refl, (refl, (refl, (refl, (refl, tt))))),
+        (
+          path_word path is,
+          (
+            decimal_word size small,
+            (
+              mode_is_word attr,
+              (
+                uid_is_word attr spelled,
+                (gid_is_word attr spelled, are-append (seed_words fill) (stripe_words stripe) (seeds_are fill filled) (stripes_are stripe striped)),
+              ),
+            ),
+          ),
+        ),
+      )
 
   options_read : (at : ℕ) → file_options creat_takes no_file_options (placed at (mode_word attr ∷ uid_word attr ∷ gid_word attr ∷ options))
       ≡ Reads (record { mode = Some attr.mode; uid = Some attr.uid; gid = Some attr.gid; seed = seed_of fill; stripe = stripe }) []

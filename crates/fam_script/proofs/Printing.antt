@@ -56,7 +56,8 @@ render_is journal = refl
 -- The last note alone.
 
 -- it names a host that is declared before it
-pub last_named : (names : List (List ℕ)) (front : List Kept) (last : Kept) → NameDeclared (length names) (notes_view (front ++ last ∷ [])) → NamesHost (length (names_behind names (notes_view front))) (note_view last)
+pub last_named : (names : List (List ℕ)) (front : List Kept) (last : Kept) → NameDeclared (length names) (notes_view (front ++ last ∷ []))
+    → NamesHost (length (names_behind names (notes_view front))) (note_view last)
 last_named names [] last named = named.0
 last_named names (note ∷ front) last named =
     last_named (names_after names (note_view note)) front last (subst (λ (n : ℕ). NameDeclared n (notes_view (front ++ last ∷ []))) (sym (length_names names (note_view note))) named.1)

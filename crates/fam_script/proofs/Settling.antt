@@ -44,12 +44,14 @@ joins p history (Some f) = ap (λ (n : ℕ). Some (record { length = n; pending 
 shows_told : (m : ℕ) (state : State) → summary (past.shows m state) ≡ later (length_shown m) (summary state)
 shows_told m (Bad origin damage gate) = refl
 shows_told m (Sound p history pending) =
-    either (m == length history + 1) (Sound p (with_pending history pending) None) (Sound p history pending) (length_joined (told history pending)) (told history pending) (joins p history pending) refl
+    either (m == length history + 1) (Sound p (with_pending history pending) None) (Sound p history pending) (length_joined (told history pending))
+    (told history pending) (joins p history pending) refl
 
 finds_told : (n : ℕ) (state : State) → summary (past.finds n state) ≡ later (length_found n) (summary state)
 finds_told n (Bad origin damage gate) = refl
 finds_told n (Sound p history pending) =
-    either (n == length history) (Sound p history None) (past.shows n (Sound p history pending)) (record { length = length history; pending = false }) (length_shown n (told history pending)) refl (shows_told n (Sound p history pending))
+    either (n == length history) (Sound p history None) (past.shows n (Sound p history pending)) (record { length = length history; pending = false })
+    (length_shown n (told history pending)) refl (shows_told n (Sound p history pending))
 
 acknowledges_told : (seq : ℕ) (state : State) → summary (past.acknowledges seq state) ≡ later (length_acknowledged seq) (summary state)
 acknowledges_told seq (Bad origin damage gate) = refl
@@ -178,7 +180,8 @@ chosen false n o none is = ap length_of (none refl)
 -- the counts tell the same
 pub settled_is : (journal : List Note) → length_of (settled_behind None journal) ≡ cond (list_any is_made_note journal) (past.settled_length (past_of [] journal).state) 0
 settled_is journal =
-    chosen (list_any is_made_note journal) (past.settled_length (past_of [] journal).state) (settled_behind None journal) (none_made journal) (state_length (past_of [] journal).state ∙ ap length_of (whole_told journal))
+    chosen (list_any is_made_note journal) (past.settled_length (past_of [] journal).state) (settled_behind None journal) (none_made journal)
+    (state_length (past_of [] journal).state ∙ ap length_of (whole_told journal))
 
 -- Room: each note settles at most one entry more.
 

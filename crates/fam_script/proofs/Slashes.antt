@@ -19,14 +19,17 @@ module _ (bytes : List ℕ) (i : ℕ) (below : i < length bytes) where
   pub at_slash : get_or bytes i 0 ≡ 47 → prefixes_behind (take i bytes) (drop i bytes) ≡ take i bytes ∷ prefixes_behind (take (i + 1) bytes) (drop (i + 1) bytes)
   at_slash is =
       here
-      ∙ ap (λ (b : Bool). cond b (take i bytes ∷ prefixes_behind (take i bytes ++ get_or bytes i 0 ∷ []) (drop (i + 1) bytes)) (prefixes_behind (take i bytes ++ get_or bytes i 0 ∷ []) (drop (i + 1) bytes))) (let e : (get_or bytes i 0 == slash) ≡ true = ap (λ (b : ℕ). b == slash) is in e)
+      ∙ ap (λ (b : Bool). cond b (take i bytes ∷ prefixes_behind (take i bytes ++ get_or bytes i 0 ∷ []) (drop (i + 1) bytes))
+      (prefixes_behind (take i bytes ++ get_or bytes i 0 ∷ []) (drop (i + 1) bytes)))
+      (let e : (get_or bytes i 0 == slash) ≡ true = ap (λ (b : ℕ). b == slash) is in e)
       ∙ ap (λ (l : List (List ℕ)). take i bytes ∷ l) more
 
   -- and no other byte does
   pub at_other : (get_or bytes i 0 ≡ 47 → ⊥) → prefixes_behind (take i bytes) (drop i bytes) ≡ prefixes_behind (take (i + 1) bytes) (drop (i + 1) bytes)
   at_other is =
       here
-      ∙ ap (λ (b : Bool). cond b (take i bytes ∷ prefixes_behind (take i bytes ++ get_or bytes i 0 ∷ []) (drop (i + 1) bytes)) (prefixes_behind (take i bytes ++ get_or bytes i 0 ∷ []) (drop (i + 1) bytes))) (ne_eqb (get_or bytes i 0) slash is)
+      ∙ ap (λ (b : Bool). cond b (take i bytes ∷ prefixes_behind (take i bytes ++ get_or bytes i 0 ∷ []) (drop (i + 1) bytes))
+      (prefixes_behind (take i bytes ++ get_or bytes i 0 ∷ []) (drop (i + 1) bytes))) (ne_eqb (get_or bytes i 0) slash is)
       ∙ more
 
   -- a slash adds the path before it

@@ -28,7 +28,8 @@ whole seed size events counts crc =
     behind (front_text seed size events) (codes " answers") (number counts.answers) (codes " refused") (number counts.refused) (codes " settled") (number counts.settled) (codes " crc") (number crc)
 
 -- the line of a journal, by its own numbers
-pub storm_line_is : (seed size : ℕ) (events : List Event) (journal : List Note) (counts : Counts) (crc : ℕ) → counts.answers ≡ (counted journal).answers → counts.refused ≡ (counted journal).refused → counts.settled ≡ (counted journal).settled
+pub storm_line_is : (seed size : ℕ) (events : List Event) (journal : List Note) (counts : Counts) (crc : ℕ)
+    → counts.answers ≡ (counted journal).answers → counts.refused ≡ (counted journal).refused → counts.settled ≡ (counted journal).settled
     → crc ≡ crc32 (render journal) → line (storm_text seed size (length events) counts crc) ≡ storm_line seed size events journal
 storm_line_is seed size events journal counts crc answers refused settled checksum =
     ap₂ (λ (n m : ℕ). line (storm_text seed size (length events) (record { answers = n; refused = m; settled = counts.settled }) crc)) answers refused

@@ -40,7 +40,8 @@ module _ (tree : Tree) (before now : ℕ) where
       no_clash held told = sym (met_is entries distinct held) ∙ clear held told
 
       -- the puts, done or cut
-      pub puts_end : (result : Result (Unit {0}) ShadowFault) → OnOk result (new ≡ option_map (with_entries entries) old) → OnErr result (EntriesPartlyPut entries old new) → IfErr result (PassFault entries before now)
+      pub puts_end : (result : Result (Unit {0}) ShadowFault) → OnOk result (new ≡ option_map (with_entries entries) old)
+          → OnErr result (EntriesPartlyPut entries old new) → IfErr result (PassFault entries before now)
           → NodesBecome old new (ShadowEnds tree result)
       puts_end (Ok done) put cut is held told = (
         with_entries entries held,

@@ -13,7 +13,8 @@ rose_since before mid now later rose = elim rose [
   | inr most ↦ inr most
 ]
 
-pub fault_of_pass : (entries done rest : List Entry) (e : Entry) (before mid now : ℕ) → entries ≡ done ++ e ∷ rest → before ≤ mid → (f : ShadowFault) → EntryFault e mid now f → PassFault entries before now f
+pub fault_of_pass : (entries done rest : List Entry) (e : Entry) (before mid now : ℕ) → entries ≡ done ++ e ∷ rest → before ≤ mid → (f : ShadowFault)
+    → EntryFault e mid now f → PassFault entries before now f
 fault_of_pass entries done rest e before mid now parts later (fault.Clash name) is = is
 fault_of_pass entries done rest e before mid now parts later (fault.ShadeFault name) is =
     ((done, rest, e, (parts, is.0)), rose_since before mid now later is.1)

@@ -20,7 +20,8 @@ or_more (Some x) b own rest = refl
 
 module _ (entries : List Entry) (old now next : ShadeState) where
   module _ (e : Entry) (rest : List Entry) (seen met : Option (List ℕ)) where
-    pub more_seen : AreSeen entries (e ∷ rest) old now seen → is_path e.path ≡ true → IfModelled now.nodes (λ held. met ≡ first_met (e ∷ []) held) → next.nodes ≡ now.nodes → IsOneMore now.calls next.calls → next.faults ≡ now.faults
+    pub more_seen : AreSeen entries (e ∷ rest) old now seen → is_path e.path ≡ true → IfModelled now.nodes (λ held. met ≡ first_met (e ∷ []) held)
+        → next.nodes ≡ now.nodes → IsOneMore now.calls next.calls → next.faults ≡ now.faults
         → AreSeen entries rest old next (option_or seen met)
     more_seen before path is same call steady = record {
       done = before.done ++ e ∷ [];

@@ -32,7 +32,8 @@ apart a b path_a path_b less same =
     let tied : path_cmp a.path b.path ≡ Equal = ap (path_cmp a.path) (sym paths) ∙ tied_itself nat_list_cmp_total a.path in
     absurd (cc (less, tied))
 
-new_behind : (e : Entry) (entries : List Entry) → is_path e.path ≡ true → AreProper entries → AllByRecursion (λ y. path_cmp e.path y ≡ Less) (map (λ x. x.path) entries) → HasNewName (name_of e) entries
+new_behind : (e : Entry) (entries : List Entry) → is_path e.path ≡ true → AreProper entries
+    → AllByRecursion (λ y. path_cmp e.path y ≡ Less) (map (λ x. x.path) entries) → HasNewName (name_of e) entries
 new_behind e [] path proper less = tt
 new_behind e (x ∷ entries) path proper less = (apart e x path proper.0 less.0, new_behind e entries path proper.1 less.1)
 

@@ -32,7 +32,8 @@ no_clash (x ∷ done) e rest held none = no_clash done e rest held (by_test (is_
 
 module _ (entries : List Entry) (old : ShadeState) where
   module _ (e : Entry) (rest : List Entry) (now : ShadeState) (before : EntriesPut entries (e ∷ rest) old now) where
-    pub more_put : (next : ShadeState) → next.nodes ≡ option_map (with_node (name_of e) (node_of e)) now.nodes → IsOneMore now.calls next.calls → next.faults ≡ now.faults → EntriesPut entries rest old next
+    pub more_put : (next : ShadeState) → next.nodes ≡ option_map (with_node (name_of e) (node_of e)) now.nodes → IsOneMore now.calls next.calls
+        → next.faults ≡ now.faults → EntriesPut entries rest old next
     more_put next is call steady = record {
       done = before.done ++ e ∷ [];
       parts = before.parts ∙ sym (append_assoc before.done (e ∷ []) rest);
@@ -45,7 +46,8 @@ module _ (entries : List Entry) (old : ShadeState) where
     pub clear_at : AreDistinct entries → IfModelled old.nodes (λ held. first_met entries held ≡ None) → IfModelled now.nodes (λ held. is_clash (Some (node_of e)) (map.get held (name_of e)) ≡ false)
     clear_at distinct clear held told = by_old old.nodes (sym told ∙ before.is) clear
       where
-        by_old : (o : Option Nodes) → Some held ≡ option_map (with_entries before.done) o → IfModelled o (λ held. first_met entries held ≡ None) → is_clash (Some (node_of e)) (map.get held (name_of e)) ≡ false
+        by_old : (o : Option Nodes) → Some held ≡ option_map (with_entries before.done) o → IfModelled o (λ held. first_met entries held ≡ None)
+            → is_clash (Some (node_of e)) (map.get held (name_of e)) ≡ false
         by_old None is none = absurd (cc (is))
         by_old (Some first) is none =
             let now_is : held ≡ with_entries before.done first = cc (is) in

@@ -140,7 +140,8 @@ kept : (line : List ℕ) → No 13 line → without_return line ≡ line
 kept line none = ap (λ (t : Bool). cond t (take (length line - 1) line) line) (no_at line (length line - 1) none)
 
 -- a line whose words read as an event
-event_of : (first : List ℕ) (rest : List (List ℕ)) (e : Event) → AreGood (first ∷ rest) → (slice_index first 0 == 35) ≡ false → ((end : ℕ) → event_line end (placed 1 (first ∷ rest)) ≡ Reads e []) → IsEventLine (first ∷ rest)
+event_of : (first : List ℕ) (rest : List (List ℕ)) (e : Event) → AreGood (first ∷ rest) → (slice_index first 0 == 35) ≡ false
+    → ((end : ℕ) → event_line end (placed 1 (first ∷ rest)) ≡ Reads e []) → IsEventLine (first ∷ rest)
 unfolding line_reads
 event_of first rest e good plain reads =
     let line : List ℕ = line_text (first ∷ rest) in
@@ -185,7 +186,8 @@ seed_taken : (seed : ℕ) → seed < 2 ^ 64 → with_file_word creat_takes no_fi
 unfolding file_option_of
 seed_taken seed small = rw (number-decimal seed small) refl
 
-seed_read : (column seed : ℕ) → seed < 2 ^ 64 → file_options creat_takes no_file_options (record { column = column; text = seed_word seed } ∷ []) ≡ Reads (record no_file_options { seed = Some seed }) []
+seed_read : (column seed : ℕ) → seed < 2 ^ 64 → file_options creat_takes no_file_options (record { column = column; text = seed_word seed } ∷ [])
+    ≡ Reads (record no_file_options { seed = Some seed }) []
 seed_read column seed small = ap (choose (Misfit column) (λ next. file_options creat_takes next [])) (seed_taken seed small)
 
 creat_line : (i size : ℕ) → i < 2 ^ 64 → size < 2 ^ 64 → IsWholeLine (creat_words i size)
@@ -239,7 +241,8 @@ halt_line = event_is (codes "halt" ∷ codes "m" ∷ []) (event.Halt (codes "m")
 
 gate_line : IsWholeLine (codes "evict" ∷ codes "m" ∷ codes "32769" ∷ [])
 unfolding event_line event_word is_host_name number_of_text AreGood
-gate_line = event_is (codes "evict" ∷ codes "m" ∷ codes "32769" ∷ []) (event.Evict (codes "m") (record { 0 = 32769 })) (literal _ _ refl, (literal _ _ refl, (literal _ _ refl, tt))) refl refl (λ end. refl)
+gate_line = event_is (codes "evict" ∷ codes "m" ∷ codes "32769" ∷ []) (event.Evict (codes "m") (record { 0 = 32769 }))
+    (literal _ _ refl, (literal _ _ refl, (literal _ _ refl, tt))) refl refl (λ end. refl)
 
 -- Clients' lines.
 
@@ -348,7 +351,8 @@ host_line_3 =
 mkfs_line : IsWholeLine (codes "mkfs" ∷ codes "m" ∷ codes "00000000-0000-0000-0000-0000000000ff" ∷ codes "unit=4096" ∷ codes "log=65536" ∷ codes "force" ∷ [])
 unfolding event_line event_word is_host_name by_index mkfs_option_of size_of_text number_of_text AreGood
 mkfs_line =
-    event_is (codes "mkfs" ∷ codes "m" ∷ codes "00000000-0000-0000-0000-0000000000ff" ∷ codes "unit=4096" ∷ codes "log=65536" ∷ codes "force" ∷ []) (event.Mkfs (codes "m") (0 ∷ 0 ∷ 0 ∷ 0 ∷ 0 ∷ 0 ∷ 0 ∷ 0 ∷ 0 ∷ 0 ∷ 0 ∷ 0 ∷ 0 ∷ 0 ∷ 0 ∷ 255 ∷ []) 4096 65536 1 true None)
+    event_is (codes "mkfs" ∷ codes "m" ∷ codes "00000000-0000-0000-0000-0000000000ff" ∷ codes "unit=4096" ∷ codes "log=65536" ∷ codes "force" ∷ [])
+    (event.Mkfs (codes "m") (0 ∷ 0 ∷ 0 ∷ 0 ∷ 0 ∷ 0 ∷ 0 ∷ 0 ∷ 0 ∷ 0 ∷ 0 ∷ 0 ∷ 0 ∷ 0 ∷ 0 ∷ 255 ∷ []) 4096 65536 1 true None)
     (literal _ _ refl, (literal _ _ refl, (literal _ _ refl, (literal _ _ refl, (literal _ _ refl, (literal _ _ refl, tt)))))) refl refl
     (λ end. rw (uuid_read (codes "00000000-0000-0000-0000-0000000000ff") (0 ∷ 0 ∷ 0 ∷ 0 ∷ 0 ∷ 0 ∷ 0 ∷ 0 ∷ 0 ∷ 0 ∷ 0 ∷ 0 ∷ 0 ∷ 0 ∷ 0 ∷ 255 ∷ []) refl refl) refl)
 
@@ -425,7 +429,11 @@ module _ (i : ℕ) (few : i < 100000) (s : List ℕ) where
   client_events : (case : ℕ) → AreEvents (client_round i case s).lines
   client_events case =
       either_way (nat_lt case 13) _ _ (begin_line (drawn 3 s) (client_below s), tt)
-      (either_way (nat_lt case 14) _ _ (client_step_line (drawn 3 s) (1 + drawn 4000 (after s)) (client_below s) (ne_eqb _ 0 (λ e. omega (arith, e))) (omega (arith, below_bound (plus_plus (after s)).0 4000 (omega arith))), tt)
+      (either_way (nat_lt case 14) _ _ (
+        client_step_line (drawn 3 s) (1 + drawn 4000 (after s)) (client_below s) (ne_eqb _ 0 (λ e. omega (arith, e)))
+            (omega (arith, below_bound (plus_plus (after s)).0 4000 (omega arith))),
+        tt,
+      )
       (either_way (nat_lt case 15) _ _ (finish_line (drawn 3 s) (client_below s), tt)
       (verify_line (drawn 3 s) (drawn (i + 1) (after s)) (client_below s) (word_of (i + 1) (after s) (omega arith) (omega (arith, few))), tt)))
 

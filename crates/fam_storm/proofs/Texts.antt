@@ -23,7 +23,8 @@ rounds_more : (i size : ℕ) (s : List ℕ) → i < size → rounds i (size - i)
 rounds_more i size s below =
     ap (λ (n : ℕ). rounds i n s) (let e : size - i ≡ suc (size - (i + 1)) = omega arith in e)
 
-pub round_put : (i size : ℕ) (s state old new all : List ℕ) → i < size → new ≡ old ++ text_of (round i s).lines → state ≡ (round i s).state → old ++ text_of (rounds i (size - i) s) ≡ all → new ++ text_of (rounds (i + 1) (size - (i + 1)) state) ≡ all
+pub round_put : (i size : ℕ) (s state old new all : List ℕ) → i < size → new ≡ old ++ text_of (round i s).lines → state ≡ (round i s).state
+    → old ++ text_of (rounds i (size - i) s) ≡ all → new ++ text_of (rounds (i + 1) (size - (i + 1)) state) ≡ all
 round_put i size s state old new all below put is so_far =
     ap (λ (t : List ℕ). new ++ text_of (rounds (i + 1) (size - (i + 1)) t)) is
     ∙ ap (λ (l : List ℕ). l ++ text_of (rounds (i + 1) (size - (i + 1)) (round i s).state)) put
@@ -51,7 +52,9 @@ unfolding round
 round_is i n s t number state = ap₂ (λ (m : ℕ) (u : List ℕ). text_of (round_of i m u).lines) number state
 
 -- the lines of an append that is cut off
-pub cut_put : (old mid more s : List ℕ) (i n k e : ℕ) → mid ≡ old ++ text_of (begun_words i n ∷ []) → more ≡ mid ++ text_of (step_words k ∷ []) → n ≡ drawn 20000 s → k ≡ 1 + drawn 12000 (after s) → e ≡ drawn 3 (after (after s)) → more ++ text_of (end_lines e) ≡ old ++ text_of (cut_round i s).lines
+pub cut_put : (old mid more s : List ℕ) (i n k e : ℕ) → mid ≡ old ++ text_of (begun_words i n ∷ []) → more ≡ mid ++ text_of (step_words k ∷ [])
+    → n ≡ drawn 20000 s → k ≡ 1 + drawn 12000 (after s) → e ≡ drawn 3 (after (after s))
+    → more ++ text_of (end_lines e) ≡ old ++ text_of (cut_round i s).lines
 cut_put old mid more s i n k e first second n_is k_is e_is =
     let begun : List Words = begun_words i n ∷ [] in
     let step : List Words = step_words k ∷ [] in
@@ -63,7 +66,8 @@ cut_put old mid more s i n k e first second n_is k_is e_is =
 
 -- The front.
 
-pub begins : (seed size : ℕ) (script generator new : List ℕ) → new ≡ [] → script ≡ new ++ text_of front_lines → generator ≡ stream_state seed 0 → script ++ text_of (rounds 0 (size - 0) generator) ≡ storm seed size
+pub begins : (seed size : ℕ) (script generator new : List ℕ) → new ≡ [] → script ≡ new ++ text_of front_lines → generator ≡ stream_state seed 0
+    → script ++ text_of (rounds 0 (size - 0) generator) ≡ storm seed size
 unfolding storm
 begins seed size script generator new none front start =
     ap₂ (λ (l s : List ℕ). l ++ text_of (rounds 0 (size - 0) s)) (front ∙ ap (λ (l : List ℕ). l ++ text_of front_lines) none) start

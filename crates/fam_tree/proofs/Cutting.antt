@@ -104,7 +104,8 @@ cases : (bytes : List ℕ) → IsSolo bytes ⊎ (parts bytes ≡ front line_feed
 cases [] = inl (record { whole = refl; front = refl; back = refl })
 cases (b ∷ bytes) = at (cases bytes) (b == line_feed) refl
   where
-    at : IsSolo bytes ⊎ (parts bytes ≡ front line_feed bytes ∷ parts (back line_feed bytes)) → (t : Bool) → (b == line_feed) ≡ t → IsSolo (b ∷ bytes) ⊎ (parts (b ∷ bytes) ≡ front line_feed (b ∷ bytes) ∷ parts (back line_feed (b ∷ bytes)))
+    at : IsSolo bytes ⊎ (parts bytes ≡ front line_feed bytes ∷ parts (back line_feed bytes)) → (t : Bool) → (b == line_feed) ≡ t
+        → IsSolo (b ∷ bytes) ⊎ (parts (b ∷ bytes) ≡ front line_feed (b ∷ bytes) ∷ parts (back line_feed (b ∷ bytes)))
     at later true is = inr (
         ap (λ (t : Bool). cond t ([] ∷ parts bytes) (onto_first b (parts bytes))) is
         ∙ sym (ap₂ (λ (l : List ℕ) (m : List ℕ). l ∷ parts m) (ap (λ (t : Bool). cond t [] (b ∷ front line_feed bytes)) is) (ap (λ (t : Bool). cond t bytes (back line_feed bytes)) is)))

@@ -19,12 +19,15 @@ use Rattle.fam_tree.proofs.Cutting.{no_lines, lines_more}
 -- One line more.
 
 module _ (n : ℕ) (before : Option (List ℕ)) (bytes line : List ℕ) (some : 0 < length bytes) (is : line ≡ front line_feed bytes) where
-  more_said : (e : Entry) (said : Result (List Entry) ℕ) → IsListingLine before line e → LinesSay (n + 1) (Some e.path) (text_lines (back line_feed bytes)) said → LinesSay n before (line ∷ text_lines (back line_feed bytes)) (onto (e ∷ []) said)
+  more_said : (e : Entry) (said : Result (List Entry) ℕ) → IsListingLine before line e
+      → LinesSay (n + 1) (Some e.path) (text_lines (back line_feed bytes)) said
+      → LinesSay n before (line ∷ text_lines (back line_feed bytes)) (onto (e ∷ []) said)
   more_said e (Ok more) own rest = (e, more, own, rest, refl)
   more_said e (Err bad) own rest = inr (e, own, rest)
 
   -- a line that is an entry's
-  pub line_said : (e : Entry) (said : Result (List Entry) ℕ) → IsListingLine before line e → LinesSay (n + 1) (Some e.path) (text_lines (back line_feed bytes)) said → LinesSay n before (text_lines bytes) (onto (e ∷ []) said)
+  pub line_said : (e : Entry) (said : Result (List Entry) ℕ) → IsListingLine before line e
+      → LinesSay (n + 1) (Some e.path) (text_lines (back line_feed bytes)) said → LinesSay n before (text_lines bytes) (onto (e ∷ []) said)
   line_said e said own rest =
       subst (λ (lines : List (List ℕ)). LinesSay n before lines (onto (e ∷ []) said))
       (ap (λ (l : List ℕ). l ∷ text_lines (back line_feed bytes)) is ∙ sym (lines_more bytes some)) (more_said e said own rest)
@@ -46,7 +49,8 @@ Tells first bytes entries n before rest =
     (said : Result (List Entry) ℕ) → LinesSay n before (text_lines rest) said → LinesSay first None (text_lines bytes) (onto entries said)
 
 module _ (first : ℕ) (bytes : List ℕ) (entries : List Entry) (n : ℕ) (before : Option (List ℕ)) (rest line : List ℕ) (tells : Tells first bytes entries n before rest) where
-  pub tells_more : 0 < length rest → line ≡ front line_feed rest → (e : Entry) (more : List ℕ) (longer : List Entry) → more ≡ back line_feed rest → longer ≡ entries ++ e ∷ [] → IsListingLine before line e → Tells first bytes longer (n + 1) (Some e.path) more
+  pub tells_more : 0 < length rest → line ≡ front line_feed rest → (e : Entry) (more : List ℕ) (longer : List Entry) → more ≡ back line_feed rest
+      → longer ≡ entries ++ e ∷ [] → IsListingLine before line e → Tells first bytes longer (n + 1) (Some e.path) more
   tells_more some is e more longer behind pushed own said h =
       subst (LinesSay first None (text_lines bytes)) (onto_more entries e said ∙ ap (λ (l : List Entry). onto l said) (sym pushed))
       (tells (onto (e ∷ []) said) (line_said n before rest line some is e said own (subst (λ (l : List ℕ). LinesSay (n + 1) (Some e.path) (text_lines l) said) behind h)))
@@ -118,11 +122,13 @@ pub empty_listing : IsListing []
 empty_listing = nothing_listed
 
 module _ (bytes : List ℕ) (some : 0 < length bytes) (said : Result (List Entry) ℕ) where
-  whole_said : BodySays (path_eq (front line_feed bytes) (played_line (length (text_lines (back line_feed bytes))))) (front line_feed bytes) (text_lines (back line_feed bytes)) said → ListingSays bytes said
+  whole_said : BodySays (path_eq (front line_feed bytes) (played_line (length (text_lines (back line_feed bytes))))) (front line_feed bytes)
+      (text_lines (back line_feed bytes)) said → ListingSays bytes said
   whole_said h = subst (λ (lines : List (List ℕ)). TextSays lines said) (sym (lines_more bytes some)) h
 
   -- a first line that counts the others
-  pub counted_said : path_eq (front line_feed bytes) (played_line (length (text_lines (back line_feed bytes)))) ≡ true → LinesSay 2 None (text_lines (back line_feed bytes)) said → ListingSays bytes said
+  pub counted_said : path_eq (front line_feed bytes) (played_line (length (text_lines (back line_feed bytes)))) ≡ true
+      → LinesSay 2 None (text_lines (back line_feed bytes)) said → ListingSays bytes said
   counted_said counts h =
       whole_said (subst (λ (t : Bool). BodySays t (front line_feed bytes) (text_lines (back line_feed bytes)) said) (sym counts) h)
 

@@ -142,7 +142,8 @@ cut_entries [] k lower upper r within is cut = absurd (omega arith)
 cut_entries (x ∷ runs) zero lower upper r within is cut = same_entries lower upper x (entries_in runs) (cut ∙ is)
 cut_entries (x ∷ runs) (suc k) lower upper r within is cut = ap (λ (l : List Entry). x ++ l) (cut_entries runs k lower upper r (omega arith) is cut)
 
-module _ (runs : Runs) (k : ℕ) (lower upper r : List Entry) (within : k < length runs) (is : r ≡ get_or runs k r) (cut : lower ++ upper ≡ r) (new : Runs) (new_is : new ≡ insert (set runs k lower) (k + 1) upper) where
+module _ (runs : Runs) (k : ℕ) (lower upper r : List Entry) (within : k < length runs) (is : r ≡ get_or runs k r) (cut : lower ++ upper ≡ r)
+    (new : Runs) (new_is : new ≡ insert (set runs k lower) (k + 1) upper) where
   next : new ≡ insert (set runs k lower) (suc k) upper
   next = new_is ∙ ap (λ (i : ℕ). insert (set runs k lower) i upper) {x = k + 1} {y = suc k} (omega arith)
 

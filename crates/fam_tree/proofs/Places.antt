@@ -91,7 +91,8 @@ module _ (es : List Entry) (q : List ℕ) where
   rises (x ∷ xs) within order (suc i) zero d le below = absurd (omega arith)
   rises (x ∷ xs) within order (suc i) (suc j) d le below = rises xs within.1 order.1 i j d (omega arith) (omega arith)
 
-  here : (xs : List ℕ) (i : ℕ) → AreWithin (length es) xs → i < length xs → HoldsAt (λ (x : ℕ). place_cmp es q x ≡ Equal) xs i → option_map (λ (e : Entry). e.path) (slice_get (run_of es xs) i) ≡ Some q
+  here : (xs : List ℕ) (i : ℕ) → AreWithin (length es) xs → i < length xs → HoldsAt (λ (x : ℕ). place_cmp es q x ≡ Equal) xs i
+      → option_map (λ (e : Entry). e.path) (slice_get (run_of es xs) i) ≡ Some q
   here [] i within below same = absurd (omega arith)
   here (x ∷ xs) zero within below same = ap (λ (p : List ℕ). Some p) (path_cmp-IsAntisymmetric (entry_at es x).path q (sym (place_told es q x within.0) ∙ same x))
   here (x ∷ xs) (suc i) within below same = here xs i within.1 (omega arith) (λ d. same d)
@@ -117,14 +118,16 @@ module _ (es : List Entry) (q : List ℕ) where
     less_to less i d low high =
         let at : get_or xs m d ≡ get_or xs m 0 = get_or_default xs m d 0 below in
         least (place_cmp es q (get_or xs i d))
-        (subst (λ (n : ℕ). ordering_index (place_cmp es q (get_or xs i d)) ≤ n) (ap (λ (y : ℕ). ordering_index (place_cmp es q y)) at ∙ ap ordering_index less) (rises xs within order i m d (omega arith) below))
+        (subst (λ (n : ℕ). ordering_index (place_cmp es q (get_or xs i d)) ≤ n)
+        (ap (λ (y : ℕ). ordering_index (place_cmp es q y)) at ∙ ap ordering_index less) (rises xs within order i m d (omega arith) below))
 
     -- what stands behind a higher one is higher
     pub greater_from : place_cmp es q (get_or xs m 0) ≡ Greater → AllWithin (λ (y : ℕ). place_cmp es q y ≡ Greater) xs m (length xs)
     greater_from greater i d low high =
         let at : get_or xs m d ≡ get_or xs m 0 = get_or_default xs m d 0 below in
         most (place_cmp es q (get_or xs i d))
-        (subst (λ (n : ℕ). n ≤ ordering_index (place_cmp es q (get_or xs i d))) (ap (λ (y : ℕ). ordering_index (place_cmp es q y)) at ∙ ap ordering_index greater) (rises xs within order m i d low high))
+        (subst (λ (n : ℕ). n ≤ ordering_index (place_cmp es q (get_or xs i d)))
+        (ap (λ (y : ℕ). ordering_index (place_cmp es q y)) at ∙ ap ordering_index greater) (rises xs within order m i d low high))
 
     -- the path stands there
     pub found_at : place_cmp es q (get_or xs m 0) ≡ Equal → IsAt (run_of es xs) q m
@@ -134,7 +137,8 @@ module _ (es : List Entry) (q : List ℕ) where
     }
 
   -- a path between lower ones and higher ones would stand there
-  pub gap_at : (xs : List ℕ) (i : ℕ) → AreWithin (length es) xs → i ≤ length xs → AllWithin (λ (y : ℕ). place_cmp es q y ≡ Less) xs 0 i → AllWithin (λ (y : ℕ). place_cmp es q y ≡ Greater) xs i (length xs) → IsGap (run_of es xs) q i
+  pub gap_at : (xs : List ℕ) (i : ℕ) → AreWithin (length es) xs → i ≤ length xs → AllWithin (λ (y : ℕ). place_cmp es q y ≡ Less) xs 0 i
+      → AllWithin (λ (y : ℕ). place_cmp es q y ≡ Greater) xs i (length xs) → IsGap (run_of es xs) q i
   gap_at xs i within bound lower higher = record {
     within = rw (length-map xs (entry_at es)) bound;
     below = before xs i within bound lower;

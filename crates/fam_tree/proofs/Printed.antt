@@ -193,7 +193,8 @@ unfolding No
 map_no_space Empty xs la fx = (λ e. omega (arith, e), tt)
 map_no_space Simple xs la fx = extents_no space out_space (λ e. omega (arith, e)) (λ e. omega (arith, e)) xs fx
 map_no_space (Striped chunk) xs la fx =
-    no_both space (decimal chunk) (colon ∷ extents_text xs) (decimal_no space out_space chunk la.0) (λ e. omega (arith, e), extents_no space out_space (λ e. omega (arith, e)) (λ e. omega (arith, e)) xs fx)
+    no_both space (decimal chunk) (colon ∷ extents_text xs) (decimal_no space out_space chunk la.0)
+    (λ e. omega (arith, e), extents_no space out_space (λ e. omega (arith, e)) (λ e. omega (arith, e)) xs fx)
 
 -- Entries.
 
@@ -248,8 +249,25 @@ word_fits n fits = omega (arith, fits)
 
 pub words_no : (e : Entry) → IsListed e → Words space (entry_words e)
 unfolding Words
-words_no e is =
-    (kind_no e.kind, (mode_no e.mode, (decimal_no space out_space e.uid (word_fits e.uid is.uid), (decimal_no space out_space e.gid (word_fits e.gid is.gid), (decimal_no space out_space e.size is.size, (map_no_space e.map e.extents is.map (fits_of e is), (visible_no (escaped e.path) (escaped_visible e.path (path_fits e.path is.path)), tt)))))))
+words_no e is = (
+  kind_no e.kind,
+  (
+    mode_no e.mode,
+    (
+      decimal_no space out_space e.uid (word_fits e.uid is.uid),
+      (
+        decimal_no space out_space e.gid (word_fits e.gid is.gid),
+        (
+          decimal_no space out_space e.size is.size,
+          (
+            map_no_space e.map e.extents is.map (fits_of e is),
+            (visible_no (escaped e.path) (escaped_visible e.path (path_fits e.path is.path)), tt),
+          ),
+        ),
+      ),
+    ),
+  ),
+)
 
 -- two entries of one line are one
 pub printed_once : (a b : Entry) → IsListed a → IsListed b → entry_line a ≡ entry_line b → a ≡ b

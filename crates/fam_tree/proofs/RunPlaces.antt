@@ -99,7 +99,8 @@ module _ (es : List Entry) (q : List ℕ) (runs : Places) (are : AreRunsOf es ru
       ] refl
 
   -- the first run that doesn't end below the path, or else the last
-  module _ (low : ℕ) (within : low + 1 ≤ length runs) (below : AllWithin (λ (r : List ℕ). ends_before es q r ≡ true) runs 0 low) (above : AllWithin (λ (r : List ℕ). ends_before es q r ≡ false) runs low (length runs - 1)) where
+  module _ (low : ℕ) (within : low + 1 ≤ length runs) (below : AllWithin (λ (r : List ℕ). ends_before es q r ≡ true) runs 0 low)
+      (above : AllWithin (λ (r : List ℕ). ends_before es q r ≡ false) runs low (length runs - 1)) where
     at_last : (k : ℕ) (d : List ℕ) → k ≡ length runs - 1 → ends_before es q (get_or runs k d) ≡ ends_before es q (get_or runs (length runs - 1) [])
     at_last k d is =
         ap (λ (n : ℕ). ends_before es q (get_or runs n d)) is
@@ -107,7 +108,8 @@ module _ (es : List Entry) (q : List ℕ) (runs : Places) (are : AreRunsOf es ru
 
     last_ends : low ≡ length runs - 1 → ends_before es q (get_or runs (length runs - 1) []) ≡ true → IsRunFor (runs_of es runs) q low
     last_ends is ends =
-        subst (IsRunFor (runs_of es runs) q) {x = min (length runs) (length runs - 1)} (omega (arith, is, within)) (placed_places (length runs) (length runs - 1) (omega (arith, within)) (omega arith) (
+        subst (IsRunFor (runs_of es runs) q) {x = min (length runs) (length runs - 1)} (omega (arith, is, within))
+        (placed_places (length runs) (length runs - 1) (omega (arith, within)) (omega arith) (
           λ k d from to. elim (cases_lt k low) [
             | inl less ↦ below k d from less
             | inr not ↦ at_last k d (omega (arith, is, to, not)) ∙ ends
@@ -172,7 +174,8 @@ module _ (es more : List Entry) (runs : Places) (k : ℕ) (run : List ℕ) (e : 
 
 -- ---- a run that is cut
 
-module _ (es : List Entry) (runs : Places) (k : ℕ) (lower upper run : List ℕ) (below : k < length runs) (is : run ≡ get_or runs k run) (cut : lower ++ upper ≡ run) (new : Places) (new_is : new ≡ insert (set runs k lower) (k + 1) upper) where
+module _ (es : List Entry) (runs : Places) (k : ℕ) (lower upper run : List ℕ) (below : k < length runs) (is : run ≡ get_or runs k run)
+    (cut : lower ++ upper ≡ run) (new : Places) (new_is : new ≡ insert (set runs k lower) (k + 1) upper) where
   cut_of : run_of es lower ++ run_of es upper ≡ run_of es run
   cut_of = sym (map-append (entry_at es) lower upper) ∙ ap (run_of es) cut
 

@@ -100,7 +100,8 @@ below_first q (r ∷ runs) (suc k) order within all =
     all_joined (λ (e : Entry). path_cmp e.path q ≡ Less) r (entries_in (take k runs)) (ends_all q r (order_front r (entries_in runs) order) (all 0 r (omega arith) (omega arith)))
     (below_first q runs k (order_back r (entries_in runs) order) (omega arith) (λ i d low high. all (suc i) d (omega arith) (omega arith)))
 
-above_behind : (q : List ℕ) (runs : Runs) (k : ℕ) (d : List Entry) → InOrder (entries_in runs) → AreFilled runs → k < length runs → ends_below q (get_or runs k d) ≡ false → AllAbove q (entries_in (drop (suc k) runs))
+above_behind : (q : List ℕ) (runs : Runs) (k : ℕ) (d : List Entry) → InOrder (entries_in runs) → AreFilled runs → k < length runs
+    → ends_below q (get_or runs k d) ≡ false → AllAbove q (entries_in (drop (suc k) runs))
 above_behind q [] k d order filled within ends = absurd (omega arith)
 above_behind q (r ∷ runs) zero d order filled within ends = after_end q r (entries_in runs) filled.0 order ends
 above_behind q (r ∷ runs) (suc k) d order filled within ends = above_behind q runs k d (order_back r (entries_in runs) order) filled.1 (omega arith) ends

@@ -70,7 +70,9 @@ module _ (old k m u g s t i1 i2 i3 i4 i5 i6 i7 i8 : List ℕ) where
       behind old _ i8 _ _ e8 refl ∙ ap (λ (l : List ℕ). old ++ l) (simp append_assoc)
 
 -- they are an entry's, where its parts are these
-pub words_are : (e : Entry) → kind_letter e.kind ++ space ∷ (mode_text e.mode ++ space ∷ (decimal e.uid ++ space ∷ (decimal e.gid ++ space ∷ (decimal e.size ++ space ∷ (map_text e.map e.extents ++ space ∷ []))))) ≡ first_words e
+pub words_are : (e : Entry) → kind_letter e.kind
+    ++ space ∷ (mode_text e.mode ++ space ∷
+    (decimal e.uid ++ space ∷ (decimal e.gid ++ space ∷ (decimal e.size ++ space ∷ (map_text e.map e.extents ++ space ∷ []))))) ≡ first_words e
 unfolding first_words
 words_are e = refl
 

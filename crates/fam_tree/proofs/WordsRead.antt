@@ -272,7 +272,9 @@ module _ (text w x : List ℕ) (more : List (List ℕ)) (is : text ≡ join_with
   rest_read : back space text ≡ join_with_byte space (x ∷ more)
   rest_read = ap (back space) is ∙ back_joined space w x more none
 
-pub words_found : (e : Entry) → IsListed e → (line r1 r2 r3 r4 r5 k m u g s t p : List ℕ) → line ≡ entry_line e → k ≡ front space line → r1 ≡ back space line → m ≡ front space r1 → r2 ≡ back space r1 → u ≡ front space r2 → r3 ≡ back space r2 → g ≡ front space r3 → r4 ≡ back space r3 → s ≡ front space r4 → r5 ≡ back space r4 → t ≡ front space r5 → p ≡ back space r5 → WordsFound e k m u g s t p
+pub words_found : (e : Entry) → IsListed e → (line r1 r2 r3 r4 r5 k m u g s t p : List ℕ) → line ≡ entry_line e → k ≡ front space line
+    → r1 ≡ back space line → m ≡ front space r1 → r2 ≡ back space r1 → u ≡ front space r2 → r3 ≡ back space r2 → g ≡ front space r3
+    → r4 ≡ back space r3 → s ≡ front space r4 → r5 ≡ back space r4 → t ≡ front space r5 → p ≡ back space r5 → WordsFound e k m u g s t p
 unfolding Words
 words_found e listed line r1 r2 r3 r4 r5 k m u g s t p is ka k1 ma m2 ua u3 ga g4 sa s5 ta pa =
     let w = words_no e listed in

@@ -11,7 +11,9 @@ use Rattle.fam_words.specs.Simple.{rows_given, is_free_of_faults}
 use Rattle.fam_words.specs.declared.simple.Argument.{Argument}
 
 -- a command with one argument more
-pub one_more : (start before made : App) (arguments : List Argument) (i : ℕ) (d : Argument) → i < length arguments → before ≡ fold with_argument start (take i arguments) → made ≡ with_argument before (get_or arguments i d) → made ≡ fold with_argument start (take (i + 1) arguments)
+pub one_more : (start before made : App) (arguments : List Argument) (i : ℕ) (d : Argument) → i < length arguments
+    → before ≡ fold with_argument start (take i arguments) → made ≡ with_argument before (get_or arguments i d)
+    → made ≡ fold with_argument start (take (i + 1) arguments)
 one_more start before made arguments i d below e f =
     f ∙ ap (λ (app : App). with_argument app (get_or arguments i d)) e ∙ sym (fold_more with_argument start arguments i d below)
 

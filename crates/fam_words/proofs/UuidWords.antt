@@ -40,7 +40,8 @@ given_format (Some text) = of_option (format_of text) (format_is text)
 
 -- Commands of their own.
 
-mkfs_uuids : (unit log format : Option ℕ) (fs : Option (Option (List ℕ))) (force : Bool) → IfSome fs (λ o. IfSome o IsUuid) → IfSome format IsFormat → IfSome (mkfs_with unit log format fs force) HasShotUuids
+mkfs_uuids : (unit log format : Option ℕ) (fs : Option (Option (List ℕ))) (force : Bool) → IfSome fs (λ o. IfSome o IsUuid) → IfSome format IsFormat
+    → IfSome (mkfs_with unit log format fs force) HasShotUuids
 mkfs_uuids None log format fs force is good = tt
 mkfs_uuids (Some unit) None format fs force is good = tt
 mkfs_uuids (Some unit) (Some log) None fs force is good = tt

@@ -54,10 +54,16 @@ sink_fails files = record {
 }
 
 -- a host is declared, once
-declares : world_after (call.Declares (codes "m") id) 0 empty_world ≡ record { hosts = record { name = codes "m"; uuid = id; cache = finmap.empty; task = None; kept = None } ∷ []; journal = Host (codes "m") id ∷ [] }
+declares : world_after (call.Declares (codes "m") id) 0 empty_world
+    ≡ record {
+      hosts = record { name = codes "m"; uuid = id; cache = finmap.empty; task = None; kept = None } ∷ [];
+      journal =
+          Host (codes "m") id ∷ [];
+    }
 unfolding refusal_of
 declares = refl
 
 -- where the world has no cause to refuse, no step answers that there is no such host, whatever the media tells
-no_false_refusal : (name : List ℕ) (lines before now : ℕ) (old new : WorldView) → refusal_in (call.Steps name) old lines ≡ None → Answers (call.Steps name) lines (Some why.NoHost) before now old new → ⊥
+no_false_refusal : (name : List ℕ) (lines before now : ℕ) (old new : WorldView) → refusal_in (call.Steps name) old lines ≡ None
+    → Answers (call.Steps name) lines (Some why.NoHost) before now old new → ⊥
 no_false_refusal name lines before now old new free answers = answers.free why.NoHost free refl

@@ -46,7 +46,9 @@ made : List Note
 made =
     Host (codes "m") [] ∷ Start 0 (dir (codes "a")) ∷ Answered 0 (Replied (reply.NotAppended (cause.Exists Directory))) ∷ Start 0 (dir (codes "a/b")) ∷ Answered 0 (Replied (reply.Appended 1)) ∷ []
 
-both : IsWholeRun [] (MakesParents (codes "a/b") attr) (event.Host (codes "m") [] ∷ event.Run (codes "m") (ask.Plain (dir (codes "a"))) ∷ event.Run (codes "m") (ask.Plain (dir (codes "a/b"))) ∷ []) made
+both : IsWholeRun [] (MakesParents (codes "a/b") attr)
+    (event.Host (codes "m") [] ∷ event.Run (codes "m") (ask.Plain (dir (codes "a"))) ∷ event.Run (codes "m") (ask.Plain (dir (codes "a/b"))) ∷ [])
+    made
 unfolding made
 both = record { name = codes "m"; count = 2; events_are = refl; goes_on = refl; all = λ goes. refl }
 
@@ -181,7 +183,8 @@ module _ (script : List ℕ) (within : length script ≤ script_limit) (files : 
         caused = tt;
         text_is = refl;
         status_is = refl;
-        told = modelled [] (λ (start : Image). IfModelled out.shelf.old.files (λ (z : Files). RunsOn AllDone z two start out.media.new.image notes)) (modelled files (λ (z : Files). RunsOn AllDone z two [] out.media.new.image notes) ran);
+        told = modelled [] (λ (start : Image). IfModelled out.shelf.old.files (λ (z : Files). RunsOn AllDone z two start out.media.new.image notes))
+            (modelled files (λ (z : Files). RunsOn AllDone z two [] out.media.new.image notes) ran);
       };
       whole = λ e. refl;
       each = each;

@@ -23,7 +23,8 @@ both_true true b is = (refl, is)
 both_true false b is = absurd (false≢true is)
 
 -- parameters of a good unit and log are such as a copy may have
-pub are_asked : (request : MkfsRequest) (me : List ℕ) (lines size : ℕ) (p : Params) → p ≡ asked request me lines → lines ≡ size → IsTrue (is_format request.format) → is_geometry request.unit request.log ≡ true → AreAsked p size
+pub are_asked : (request : MkfsRequest) (me : List ℕ) (lines size : ℕ) (p : Params) → p ≡ asked request me lines → lines ≡ size
+    → IsTrue (is_format request.format) → is_geometry request.unit request.log ≡ true → AreAsked p size
 are_asked request me lines size p is count format good =
     let parts = both_true (is_unit request.unit) (is_log_length request.unit request.log) good in
     subst (λ (q : Params). AreAsked q size) (sym is)
@@ -87,7 +88,9 @@ module _ (copy : CopyAsked) (out : CopyOutside) (given : Status) (good : is_geom
       caused = caused;
       named = named;
       asked =
-          subst (λ (q : Params). IfErr ended (λ fault. IfModelled out.from.old.image (λ source. IfModelled out.to.old.image (λ old. IsAskedIn source old out.to.new.image q copy.request.force fault)))) is told.asked;
+          subst (λ (q : Params). IfErr ended
+          (λ fault. IfModelled out.from.old.image
+          (λ source. IfModelled out.to.old.image (λ old. IsAskedIn source old out.to.new.image q copy.request.force fault)))) is told.asked;
       counted_from = counted from_counted ended out.from_exact out.from.old.faults out.from.new.faults told.quiet_from told.counted_from;
       counted_to = counted to_counted ended out.to_exact out.to.old.faults out.to.new.faults told.quiet_to told.counted_to;
       put = put;

@@ -60,12 +60,14 @@ has_first : (prefix path : List ℕ) → HasFirst (prefixes_behind prefix path)
 has_first prefix [] = record { first = prefix; more = []; is = refl }
 has_first prefix (byte ∷ bytes) = by_test (byte == slash) (has_first (prefix ++ byte ∷ []) bytes)
   where
-    by_test : (t : Bool) → HasFirst (prefixes_behind (prefix ++ byte ∷ []) bytes) → HasFirst (cond t (prefix ∷ prefixes_behind (prefix ++ byte ∷ []) bytes) (prefixes_behind (prefix ++ byte ∷ []) bytes))
+    by_test : (t : Bool) → HasFirst (prefixes_behind (prefix ++ byte ∷ []) bytes)
+        → HasFirst (cond t (prefix ∷ prefixes_behind (prefix ++ byte ∷ []) bytes) (prefixes_behind (prefix ++ byte ∷ []) bytes))
     by_test true later = record { first = prefix; more = prefixes_behind (prefix ++ byte ∷ []) bytes; is = refl }
     by_test false later = later
 
 -- the last note is an answer or a refusal
-pub parents_end : (name me path : List ℕ) (attr : Attr) (out : Outside) (journal : List Note) → HasStopped out (alone_events name me (MakesParents path attr)) journal → last_passes ends_command journal ≡ true
+pub parents_end : (name me path : List ℕ) (attr : Attr) (out : Outside) (journal : List Note)
+    → HasStopped out (alone_events name me (MakesParents path attr)) journal → last_passes ends_command journal ≡ true
 parents_end name me path attr out journal x = by_stop (last_stops journal) refl
   where
     first : HasFirst (path_prefixes path)
@@ -84,14 +86,17 @@ parents_end name me path attr out journal x = by_stop (last_stops journal) refl
 
 -- Commands alone make no file system.
 
-none_at : {A : Type 0} (name : List ℕ) (asks : A → Ask) (xs : List A) (k : ℕ) (e : Event) (lines : ℕ) (hosts : List HostShape) (notes : List Note) → slice_get (map (λ x. event.Run name (asks x)) xs) k ≡ Some e → EventBreaksShape e lines hosts notes → ⊥
+none_at : {A : Type 0} (name : List ℕ) (asks : A → Ask) (xs : List A) (k : ℕ) (e : Event) (lines : ℕ) (hosts : List HostShape) (notes : List Note)
+    → slice_get (map (λ x. event.Run name (asks x)) xs) k ≡ Some e → EventBreaksShape e lines hosts notes → ⊥
 none_at name asks [] k e lines hosts notes is x = absurd cc
 none_at name asks (a ∷ xs) zero e lines hosts notes is x = subst (λ (z : Event). EventBreaksShape z lines hosts notes) (sym (same_Some (event.Run name (asks a)) e is)) x
 none_at name asks (a ∷ xs) (suc k) e lines hosts notes is x = none_at name asks xs k e lines hosts notes is x
 
-behind_host : {A : Type 0} (name me : List ℕ) (asks : A → Ask) (xs : List A) (k : ℕ) (e : Event) (lines : ℕ) (hosts : List HostShape) (notes : List Note) → slice_get (event.Host name me ∷ map (λ x. event.Run name (asks x)) xs) k ≡ Some e → EventBreaksShape e lines hosts notes → ⊥
+behind_host : {A : Type 0} (name me : List ℕ) (asks : A → Ask) (xs : List A) (k : ℕ) (e : Event) (lines : ℕ) (hosts : List HostShape)
+    (notes : List Note) → slice_get (event.Host name me ∷ map (λ x. event.Run name (asks x)) xs) k ≡ Some e → EventBreaksShape e lines hosts notes → ⊥
 behind_host name me asks xs zero e lines hosts notes is x = subst (λ (z : Event). EventBreaksShape z lines hosts notes) (sym (same_Some (event.Host name me) e is)) x
 behind_host name me asks xs (suc k) e lines hosts notes is x = none_at name asks xs k e lines hosts notes is x
 
-pub none_breaks : {A : Type 0} (name me : List ℕ) (asks : A → Ask) (xs : List A) (out : Outside) (journal : List Note) → HasEnded MkfsFails out (event.Host name me ∷ map (λ x. event.Run name (asks x)) xs) journal → ⊥
+pub none_breaks : {A : Type 0} (name me : List ℕ) (asks : A → Ask) (xs : List A) (out : Outside) (journal : List Note)
+    → HasEnded MkfsFails out (event.Host name me ∷ map (λ x. event.Run name (asks x)) xs) journal → ⊥
 none_breaks name me asks xs out journal x = behind_host name me asks xs x.shape.count x.shape.event out.lines (shapes_behind [] x.shape.whole_notes) x.shape.part_notes x.shape.is x.shape.part

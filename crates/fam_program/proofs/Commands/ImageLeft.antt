@@ -39,7 +39,8 @@ rested_of lines state world stands clean h view is =
 
 module _ (b : Base) (one : IsOneRun b.events) where
   -- up to so many events
-  events_of : (count : ℕ) (files : Files) (start : Image) (n : Now) (f : FarOn files (take count b.events) start n) → Follows files (take count (one_run one.name one.me one.what)) (first_session start) n.world.journal f.last
+  events_of : (count : ℕ) (files : Files) (start : Image) (n : Now) (f : FarOn files (take count b.events) start n)
+      → Follows files (take count (one_run one.name one.me one.what)) (first_session start) n.world.journal f.last
   events_of count files start n f = subst (λ (es : List Event). Follows files (take count es) (first_session start) n.world.journal f.last) one.events_are f.follows
 
   -- all that was run is done, and its last line wants memory
@@ -64,7 +65,8 @@ module _ (b : Base) (one : IsOneRun b.events) where
         first_is : f.last.machines.memory ≡ start
         first_is = ap (λ (z : Session). z.machines.memory) (events_of 0 files start n f).1
 
-        by_part : (notes : List Note) (new : Session) → ((notes ≡ []) × (new ≡ session f.last.machines n.copied)) ⊎ PartOf files (event.Host one.name one.me) (session f.last.machines n.copied) notes new → new.machines.memory ≡ start
+        by_part : (notes : List Note) (new : Session) → ((notes ≡ []) × (new ≡ session f.last.machines n.copied))
+            ⊎ PartOf files (event.Host one.name one.me) (session f.last.machines n.copied) notes new → new.machines.memory ≡ start
         by_part notes new (inl none) = ap (λ (z : Session). z.machines.memory) none.1 ∙ first_is
         by_part notes new (inr part) = absurd part
 
@@ -76,7 +78,8 @@ module _ (b : Base) (one : IsOneRun b.events) where
             k.comes.told_is ∙ ap Some (by_part k.comes.notes k.comes.last k.comes.does)
 
     -- its run
-    run_spares : Far b 1 n → (IsRested n.world → IfModelled n.media.image (λ image. m.media.image ≡ Some image)) → IfModelled b.media.image (λ start. IfModelled b.files (λ files. m.media.image ≡ Some start))
+    run_spares : Far b 1 n → (IsRested n.world → IfModelled n.media.image (λ image. m.media.image ≡ Some image))
+        → IfModelled b.media.image (λ start. IfModelled b.files (λ files. m.media.image ≡ Some start))
     run_spares far same start told_is files files_are =
         let f = far.on start told_is files files_are in
         let e = events_of 1 files start n f in
@@ -85,7 +88,9 @@ module _ (b : Base) (one : IsOneRun b.events) where
         let clean : AreClean f.last.machines = subst (λ (z : Session). AreClean z.machines) (sym e.4.1) begun.1 in
         same (rested_of _ f.last.machines n.world f.held.stands clean) start (f.left ∙ ap Some kept)
 
-    pub fault_spares : (count : ℕ) → Far b count n → (e : Event) → slice_get b.events count ≡ Some e → EventSays e shelf (next_of b n m) (Err x) → (IsRun e → IsRested n.world → IfModelled n.media.image (λ image. m.media.image ≡ Some image)) → IfModelled b.media.image (λ start. IfModelled b.files (λ files. m.media.image ≡ Some start))
+    pub fault_spares : (count : ℕ) → Far b count n → (e : Event) → slice_get b.events count ≡ Some e → EventSays e shelf (next_of b n m) (Err x)
+        → (IsRun e → IsRested n.world → IfModelled n.media.image (λ image. m.media.image ≡ Some image))
+        → IfModelled b.media.image (λ start. IfModelled b.files (λ files. m.media.image ≡ Some start))
     fault_spares count far e is says same = by_count count far (sym (ap (λ (es : List Event). slice_get es count) one.events_are) ∙ is)
       where
         by_count : (k : ℕ) → Far b k n → slice_get (one_run one.name one.me one.what) k ≡ Some e → IfModelled b.media.image (λ start. IfModelled b.files (λ files. m.media.image ≡ Some start))

@@ -58,7 +58,8 @@ answer_ends : (note : Note) → not (is_answer_note note || false) ≡ false →
 answer_ends (Answered host answer) h = refl
 answer_ends e h = cc
 
-operations_end : (h : ℕ) (hosts : List HostShape) (notes : List Note) → runs_shape (slice_get hosts h) ≡ true → OperationsShape h hosts notes → runs_shape (slice_get (shapes_behind hosts notes) h) ≡ false → last_passes ends_command notes ≡ true
+operations_end : (h : ℕ) (hosts : List HostShape) (notes : List Note) → runs_shape (slice_get hosts h) ≡ true → OperationsShape h hosts notes
+    → runs_shape (slice_get (shapes_behind hosts notes) h) ≡ false → last_passes ends_command notes ≡ true
 operations_end h hosts [] runs x done = cc
 operations_end h hosts (note ∷ []) runs x done = answer_ends note (sym (step_runs h hosts (note ∷ []) x (omega arith) runs) ∙ done)
 operations_end h hosts (note ∷ next ∷ notes) runs x done =
@@ -80,14 +81,17 @@ started_end name what lines hosts notes x =
 refused_end : (name : List ℕ) (cause : Refusal) (notes : List Note) → notes ≡ Refused name cause ∷ [] → last_passes ends_command notes ≡ true
 refused_end name cause notes is = ap (last_passes ends_command) is
 
-run_end : (name : List ℕ) (what : Ask) (lines : ℕ) (hosts : List HostShape) (notes : List Note) (o : Option Refusal) → ShapeByRefusal name o notes (UnfitNotes name what notes ⊎ StartShape CompletesShape name what lines hosts notes) → last_passes ends_command notes ≡ true
+run_end : (name : List ℕ) (what : Ask) (lines : ℕ) (hosts : List HostShape) (notes : List Note) (o : Option Refusal)
+    → ShapeByRefusal name o notes (UnfitNotes name what notes ⊎ StartShape CompletesShape name what lines hosts notes)
+    → last_passes ends_command notes ≡ true
 run_end name what lines hosts notes None (inl x) = refused_end name x.why notes x.notes_are
 run_end name what lines hosts notes None (inr x) = started_end name what lines hosts notes x
 run_end name what lines hosts notes (Some cause) x = refused_end name cause notes x
 
 -- Commands one behind another.
 
-pub runs_end : {A : Type 0} (name : List ℕ) (ask : A → Ask) (first : A) (more : List A) (lines : ℕ) (hosts : List HostShape) (journal : List Note) → FollowsShape lines (map (λ x. event.Run name (ask x)) (first ∷ more)) hosts journal → last_passes ends_command journal ≡ true
+pub runs_end : {A : Type 0} (name : List ℕ) (ask : A → Ask) (first : A) (more : List A) (lines : ℕ) (hosts : List HostShape) (journal : List Note)
+    → FollowsShape lines (map (λ x. event.Run name (ask x)) (first ∷ more)) hosts journal → last_passes ends_command journal ≡ true
 runs_end name ask first [] lines hosts journal f =
     subst (λ (ns : List Note). last_passes ends_command ns ≡ true) (sym (f.4 ∙ ap (λ (ns : List Note). f.0 ++ ns) f.3 ∙ append-nil f.0))
     (run_end name (ask first) lines hosts f.0 (may_begin name (mounts (ask first)) (shown_shapes lines hosts)) f.2)
@@ -96,7 +100,8 @@ runs_end name ask first (next ∷ more) lines hosts journal f =
     (last_behind ends_command f.0 f.1 (runs_end name ask next more lines (shapes_behind hosts f.0) f.1 f.3))
 
 -- behind an event of any shape
-pub behind_first : (test : Note → Bool) (e : Event) (events : List Event) (lines : ℕ) (hosts : List HostShape) (journal : List Note) → ((fs : List HostShape) (notes : List Note) → FollowsShape lines events fs notes → last_passes test notes ≡ true)
+pub behind_first : (test : Note → Bool) (e : Event) (events : List Event) (lines : ℕ) (hosts : List HostShape) (journal : List Note)
+    → ((fs : List HostShape) (notes : List Note) → FollowsShape lines events fs notes → last_passes test notes ≡ true)
     → FollowsShape lines (e ∷ events) hosts journal → last_passes test journal ≡ true
 behind_first test e events lines hosts journal ends f =
     subst (λ (ns : List Note). last_passes test ns ≡ true) (sym f.4)
@@ -108,11 +113,14 @@ only : (test : Note → Bool) (note : Note) (notes : List Note) → notes ≡ no
 only test note notes is passes = ap (last_passes test) is ∙ passes
 
 -- a host that is declared stops nothing; one that is refused ends the run
-declared_end : (test : Note → Bool) (name uuid : List ℕ) (notes : List Note) (o : Option Refusal) → ((cause : Refusal) → test (Refused name cause) ≡ true) → last_stops notes ≡ true → ShapeByRefusal name o notes (notes ≡ Host name uuid ∷ []) → last_passes test notes ≡ true
+declared_end : (test : Note → Bool) (name uuid : List ℕ) (notes : List Note) (o : Option Refusal)
+    → ((cause : Refusal) → test (Refused name cause) ≡ true) → last_stops notes ≡ true → ShapeByRefusal name o notes (notes ≡ Host name uuid ∷ [])
+    → last_passes test notes ≡ true
 declared_end test name uuid notes None refused stops x = absurd (false≢true (sym (ap last_stops x) ∙ stops))
 declared_end test name uuid notes (Some cause) refused stops x = only test (Refused name cause) notes x (refused cause)
 
-pub host_end : (test : Note → Bool) (name uuid : List ℕ) (lines : ℕ) (journal : List Note) → ((cause : Refusal) → test (Refused name cause) ≡ true) → last_stops journal ≡ true → FollowsShape lines (event.Host name uuid ∷ []) [] journal → last_passes test journal ≡ true
+pub host_end : (test : Note → Bool) (name uuid : List ℕ) (lines : ℕ) (journal : List Note) → ((cause : Refusal) → test (Refused name cause) ≡ true)
+    → last_stops journal ≡ true → FollowsShape lines (event.Host name uuid ∷ []) [] journal → last_passes test journal ≡ true
 host_end test name uuid lines journal refused stops f =
     let alone : journal ≡ f.0 = f.4 ∙ ap (λ (ns : List Note). f.0 ++ ns) f.3 ∙ append-nil f.0 in
     subst (λ (ns : List Note). last_passes test ns ≡ true) (sym alone)
@@ -120,21 +128,27 @@ host_end test name uuid lines journal refused stops f =
 
 -- a file system is made by a host that doesn't halt, or there is a cause why not
 module _ (name : List ℕ) (request : MkfsRequest) (lines : ℕ) (unhalted : request.halt ≡ None) where
-  acts_end : (h : ℕ) (hosts : List HostShape) (notes : List Note) (o : Option HostShape) → OfHostShape o (λ host. ActsShape (call.Makes name request) h host lines hosts notes) → last_passes ends_mkfs notes ≡ true
+  acts_end : (h : ℕ) (hosts : List HostShape) (notes : List Note) (o : Option HostShape)
+      → OfHostShape o (λ host. ActsShape (call.Makes name request) h host lines hosts notes) → last_passes ends_mkfs notes ≡ true
   acts_end h hosts notes None x = absurd x
-  acts_end h hosts notes (Some host) (inl x) = only ends_mkfs (Made h (asked request host.uuid lines)) notes (x ∙ ap (λ (halt : Option ℕ). made_note halt h (asked request host.uuid lines) ∷ []) unhalted) refl
+  acts_end h hosts notes (Some host) (inl x) = only ends_mkfs (Made h (asked request host.uuid lines)) notes
+      (x ∙ ap (λ (halt : Option ℕ). made_note halt h (asked request host.uuid lines) ∷ []) unhalted) refl
   acts_end h hosts notes (Some host) (inr x) = only ends_mkfs (Refused name (why.HasSuper x.fs)) notes x.notes_are refl
 
   at_end : (hosts : List HostShape) (notes : List Note) (o : Option ℕ) → AtShape o hosts (λ h host. ActsShape (call.Makes name request) h host lines hosts notes) → last_passes ends_mkfs notes ≡ true
   at_end hosts notes None x = absurd x
   at_end hosts notes (Some h) x = acts_end h hosts notes (slice_get hosts h) x
 
-  making_end : (hosts : List HostShape) (notes : List Note) (o : Option Refusal) → ShapeByRefusal name o notes (HostActsShape (call.Makes name request) lines hosts notes ⊎ DirtyShape name lines hosts notes) → last_passes ends_mkfs notes ≡ true
+  making_end : (hosts : List HostShape) (notes : List Note) (o : Option Refusal)
+      → ShapeByRefusal name o notes (HostActsShape (call.Makes name request) lines hosts notes ⊎ DirtyShape name lines hosts notes)
+      → last_passes ends_mkfs notes ≡ true
   making_end hosts notes None (inl x) = at_end hosts notes (number_of name (shown_shapes lines hosts)) x
   making_end hosts notes None (inr x) = only ends_mkfs (Refused name (why.Dirty (record { 0 = x.dirty }))) notes x.notes_are refl
   making_end hosts notes (Some cause) x = only ends_mkfs (Refused name cause) notes x refl
 
-  pub mkfs_end : (hosts : List HostShape) (journal : List Note) → FollowsShape lines (event.Mkfs name request.fs request.unit request.log request.format request.force request.halt ∷ []) hosts journal → last_passes ends_mkfs journal ≡ true
+  pub mkfs_end : (hosts : List HostShape) (journal : List Note)
+      → FollowsShape lines (event.Mkfs name request.fs request.unit request.log request.format request.force request.halt ∷ []) hosts journal
+      → last_passes ends_mkfs journal ≡ true
   mkfs_end hosts journal f =
       let alone : journal ≡ f.0 = f.4 ∙ ap (λ (ns : List Note). f.0 ++ ns) f.3 ∙ append-nil f.0 in
       subst (λ (ns : List Note). last_passes ends_mkfs ns ≡ true) (sym alone) (making_end hosts f.0 (refusal_told (call.Makes name request) lines hosts) f.2)

@@ -163,8 +163,16 @@ module _ (h : ℕ) where
     passed first mid is =
         let same = same_Some passes (record { notes = first; left = mid }) (sym row ∙ is) in (ap (λ (z : machine.Done). z.notes) same, ap (λ (z : machine.Done). z.left) same)
 
-    host_left : (z : Turn) → slice_get (left z).hosts h ≡ Some (record here.host { cache = (operated (op_of t) m).cache; task = machine.task_behind (note_of z) on; kept = kept_after z t here.host.kept })
-    host_left z = changed_at_member h (λ y. record y { cache = (operated (op_of t) m).cache; task = machine.task_behind (note_of z) on; kept = kept_after z t here.host.kept }) state.hosts here.host here.host_is
+    host_left : (z : Turn) → slice_get (left z).hosts h
+        ≡ Some (record here.host {
+          cache = (operated (op_of t) m).cache;
+          task = machine.task_behind (note_of z) on;
+          kept =
+              kept_after z t here.host.kept;
+        })
+    host_left z = changed_at_member h
+        (λ y. record y { cache = (operated (op_of t) m).cache; task = machine.task_behind (note_of z) on; kept = kept_after z t here.host.kept })
+        state.hosts here.host here.host_is
 
     idle_left : (z : Turn) → machine.task_behind (note_of z) on ≡ None → busy_at h (left z) ≡ false
     idle_left z none = ap is_busy_host (host_left z) ∙ ap (λ (o : Option TaskState). is_some o) none
@@ -179,7 +187,8 @@ module _ (h : ℕ) where
       standing = record {
         joined = here.standing.joined;
         stands = subst (λ (k : ℕ). StandsFor here.s.kept here.s.cmd here.s.me k n (with_given here.s.words (given (op_of t) m)) (here.s.made + 1)) (sym (operated_length (op_of t) m))
-            (subst (λ (o : Option ℕ). StandsFor here.s.kept here.s.cmd here.s.me (length state.memory) n (with_given here.s.words o) (here.s.made + 1)) (same_given (op_of t) m) (goes word here.standing.stands next));
+            (subst (λ (o : Option ℕ). StandsFor here.s.kept here.s.cmd here.s.me (length state.memory) n (with_given here.s.words o)
+            (here.s.made + 1)) (same_given (op_of t) m) (goes word here.standing.stands next));
       };
     }
 
@@ -189,7 +198,9 @@ module _ (h : ℕ) where
     cut_row through =
         ap (machine.host_done (Fails through) h state) here.host_is
         ∙ ap (machine.task_done (Fails through) h state here.host) here.s_is
-        ∙ ap (machine.op_done (Fails through) h state here.host here.s) (next_operation here.s.kept here.s.cmd here.s.me (length state.memory) t here.s.words here.s.made here.standing.joined here.standing.stands)
+        ∙ ap (machine.op_done (Fails through) h state here.host here.s)
+        (next_operation here.s.kept here.s.cmd here.s.me (length state.memory) t here.s.words here.s.made here.standing.joined
+        here.standing.stands)
 
     record IsCutAt (through : Breaking) (first : List Note) (mid : Machines) : Type 0 where
       failure : Failure
@@ -203,7 +214,8 @@ module _ (h : ℕ) where
         by_failure : (o : Option Failure) → failed through (op_of t) m ≡ o → IsCutAt through first mid
         by_failure None fails = absurd (let bad : None ≡ Some (record { notes = first; left = mid }) = ap (cut_task h state) (sym fails) ∙ sym (cut_row through) ∙ is in cc)
         by_failure (Some x) fails =
-            let same = same_Some (record { notes = Answered h (MediaFault x.line.0) ∷ []; left = with_machine h x.left None state }) (record { notes = first; left = mid }) (ap (cut_task h state) (sym fails) ∙ sym (cut_row through) ∙ is) in
+            let same = same_Some (record { notes = Answered h (MediaFault x.line.0) ∷ []; left = with_machine h x.left None state })
+            (record { notes = first; left = mid }) (ap (cut_task h state) (sym fails) ∙ sym (cut_row through) ∙ is) in
             record { failure = x; fails = fails; first_is = sym (ap (λ (z : machine.Done). z.notes) same); mid_is = sym (ap (λ (z : machine.Done). z.left) same) }
 
     cut_idle : (through : Breaking) (first : List Note) (mid : Machines) → IsCutAt through first mid → busy_at h mid ≡ false
@@ -219,13 +231,15 @@ module _ (h : ℕ) where
   LaterWrites count new rest = (mid : Machines) (n : Task) → At mid n → (IsBeforeWrites n.phase → ⊥) → DoesOperations h count mid rest new → last_passes is_short rest ≡ true
 
   -- Of an append that has come to its first store they end with an entry, or with a fault.
-  writes_end : (count : ℕ) (state new : Machines) (notes : List Note) (t : Task) → At state t → (IsBeforeWrites t.phase → ⊥) → DoesOperations h count state notes new → busy_at h new ≡ false → last_passes is_short notes ≡ true
+  writes_end : (count : ℕ) (state new : Machines) (notes : List Note) (t : Task) → At state t → (IsBeforeWrites t.phase → ⊥)
+      → DoesOperations h count state notes new → busy_at h new ≡ false → last_passes is_short notes ≡ true
   writes_end zero state new notes t here writing does done = absurd (let a = busy state t here in let same = ap (busy_at h) does.1 in cc)
   writes_end (suc count) state new notes t here writing (inl x) done = absurd (let a = busy state t here in let b = x.0 in cc)
   writes_end (suc count) state new notes t here writing (inr x) done =
       by_outcome (λ mid n at_n writing_n does. writes_end count mid new x.3 n at_n writing_n does done) x.4.outcome x.4.is
     where
-      by_turn : LaterWrites count new x.3 → (first_is : notes_of h (note_of (turn state t here)) ≡ x.2) → left state t here (turn state t here) ≡ x.1 → (z : Turn) → turn state t here ≡ z → WritesOn z → last_passes is_short notes ≡ true
+      by_turn : LaterWrites count new x.3 → (first_is : notes_of h (note_of (turn state t here)) ≡ x.2) → left state t here (turn state t here) ≡ x.1
+          → (z : Turn) → turn state t here ≡ z → WritesOn z → last_passes is_short notes ≡ true
       by_turn later first_is left_is (Goes n) is on_is =
           behind_of is_short x.2 x.3 notes x.6
           (later (left state t here (Goes n)) n (next_at state t here (Goes n) n (ap task_after is) refl) on_is
@@ -241,7 +255,8 @@ module _ (h : ℕ) where
 
       by_outcome : LaterWrites count new x.3 → (o : Outcome) → operation o h state ≡ Some (record { notes = x.2; left = x.1 }) → last_passes is_short notes ≡ true
       by_outcome later Passes is =
-          by_turn later (passed state t here x.2 x.1 is).0 (passed state t here x.2 x.1 is).1 (turn state t here) refl (writes_on t.phase t (unwrap_or (given_by (op_of t) (word state t here)) 0) writing)
+          by_turn later (passed state t here x.2 x.1 is).0 (passed state t here x.2 x.1 is).1 (turn state t here) refl
+          (writes_on t.phase t (unwrap_or (given_by (op_of t) (word state t here)) 0) writing)
       by_outcome later (Fails through) is =
           let c = cut_of state t here through x.2 x.1 is in
           ends_short state t here is_short (Answered h (MediaFault c.failure.line.0)) x.2 x.3 notes c.first_is (none_behind count x.1 new x.3 (cut_idle state t here through x.2 x.1 c) x.5).0 x.6 refl
@@ -254,7 +269,9 @@ module _ (h : ℕ) where
   LaterReads count new rest =
       (mid : Machines) (n : Task) (at_n : At mid n) → IsBeforeWrites n.phase → IsClean at_n.host.cache → map eight mid.memory ≡ mid.memory → DoesOperations h count mid rest new → IsSpared mid new rest
 
-  reads_end : (count : ℕ) (state new : Machines) (notes : List Note) (t : Task) → (here : At state t) → IsBeforeWrites t.phase → IsClean here.host.cache → map eight state.memory ≡ state.memory → DoesOperations h count state notes new → busy_at h new ≡ false → IsSpared state new notes
+  reads_end : (count : ℕ) (state new : Machines) (notes : List Note) (t : Task) → (here : At state t) → IsBeforeWrites t.phase
+      → IsClean here.host.cache → map eight state.memory ≡ state.memory → DoesOperations h count state notes new → busy_at h new ≡ false
+      → IsSpared state new notes
   reads_end zero state new notes t here before clean normal does done = inr (ap (λ (z : Machines). z.memory) does.1)
   reads_end (suc count) state new notes t here before clean normal (inl x) done = inr (ap (λ (z : Machines). z.memory) x.2)
   reads_end (suc count) state new notes t here before clean normal (inr x) done =
@@ -270,7 +287,9 @@ module _ (h : ℕ) where
       on_from (inl short) same = inl (behind_of is_short x.2 x.3 notes x.6 short)
       on_from (inr kept) same = inr (kept ∙ same)
 
-      by_next : LaterReads count new x.3 → (z : Turn) (n : Task) → turn state t here ≡ z → task_after z ≡ Some n → machine.task_behind (note_of z) (on state t here) ≡ Some (on state t here) → left state t here z ≡ x.1 → IsUpToStore n → IsSpared state new notes
+      by_next : LaterReads count new x.3 → (z : Turn) (n : Task) → turn state t here ≡ z → task_after z ≡ Some n
+          → machine.task_behind (note_of z) (on state t here) ≡ Some (on state t here) → left state t here z ≡ x.1 → IsUpToStore n
+          → IsSpared state new notes
       by_next later z n is after task left_is (inl before_n) =
           on_from
           (subst (λ (y : Machines). IsSpared y new x.3) left_is
@@ -319,13 +338,16 @@ module _ (files : Files) (name : List ℕ) (what : Ask) (old new : Session) (not
   unfolding refusal_of
   begun_spares x =
       by_host (call.Begins name x.begun.cmd) old.machines x.mid.machines x.first
-      (subst (λ (o : Option Refusal). ByRefusal name o x.first old.machines x.mid.machines (Acts (call.Begins name x.begun.cmd) old.machines x.first x.mid.machines)) (begun_free files name what old x.mid x.first x.begun) x.begun.does) begun
+      (subst (λ (o : Option Refusal). ByRefusal name o x.first old.machines x.mid.machines
+      (Acts (call.Begins name x.begun.cmd) old.machines x.first x.mid.machines)) (begun_free files name what old x.mid x.first x.begun)
+      x.begun.does) begun
     where
       joined : (last_passes is_short x.rest ≡ true) ⊎ (new.machines.memory ≡ old.machines.memory) → IsSparedBy old new notes
       joined (inl short) = inl (behind_of is_short x.first x.rest notes x.joined short)
       joined (inr kept) = inr kept
 
-      begun : (h : ℕ) (host : HostState) → number_of name old.machines ≡ Some h → slice_get old.machines.hosts h ≡ Some host → ActsAt (call.Begins name x.begun.cmd) h host old.machines x.first x.mid.machines → IsSparedBy old new notes
+      begun : (h : ℕ) (host : HostState) → number_of name old.machines ≡ Some h → slice_get old.machines.hosts h ≡ Some host
+          → ActsAt (call.Begins name x.begun.cmd) h host old.machines x.first x.mid.machines → IsSparedBy old new notes
       begun h host number is acts =
           let task : TaskState = task_begun host.kept x.begun.cmd host.uuid in
           let mid : Machines = with_task h (Some task) old.machines in
@@ -348,7 +370,8 @@ module _ (files : Files) (name : List ℕ) (what : Ask) (old new : Session) (not
   run_spares (inl x) = begun_spares x
   run_spares (inr (inl x)) = inr (ap (λ (z : Session). z.machines.memory) x.same)
   run_spares (inr (inr x)) =
-      by_refusal {P = IsSparedBy old new notes} (call.Refuses name x.cause) old.machines new.machines notes x.does (λ cause noted same. inr (ap (λ (z : Machines). z.memory) same)) (λ free acts. inr (ap (λ (z : Machines). z.memory) acts.1))
+      by_refusal {P = IsSparedBy old new notes} (call.Refuses name x.cause) old.machines new.machines notes x.does
+      (λ cause noted same. inr (ap (λ (z : Machines). z.memory) same)) (λ free acts. inr (ap (λ (z : Machines). z.memory) acts.1))
 
 -- A run of the one host that is declared.
 

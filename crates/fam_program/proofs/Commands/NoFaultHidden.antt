@@ -114,7 +114,8 @@ cut_faultless e is lines hosts notes (inl none) = ap faults_of none
 cut_faultless e is lines hosts notes (inr x) = part_faultless e is lines hosts notes x
 
 -- An event that ends the run, where no note before it stops it.
-pub fault_hides : (b : Base) (n m : Now) (e : Event) → IsShotEvent e → (shelf : ShelfChange) (x : EventFault) → list_any note_stops n.world.journal ≡ false → EventSays e shelf (next_of b n m) (Err x) → HidesNoFault x m.world.journal
+pub fault_hides : (b : Base) (n m : Now) (e : Event) → IsShotEvent e → (shelf : ShelfChange) (x : EventFault)
+    → list_any note_stops n.world.journal ≡ false → EventSays e shelf (next_of b n m) (Err x) → HidesNoFault x m.world.journal
 fault_hides b n m e is shelf fault.MkfsFailed goes says = tt
 fault_hides b n m e is shelf (fault.SourceEnded end) goes says =
     let same : m.world.journal ≡ n.world.journal = says.0.adds.joined ∙ ap (λ (ns : List Note). n.world.journal ++ ns) says.0.adds.shape.none ∙ append-nil n.world.journal in

@@ -37,7 +37,8 @@ usage_own e = absurd cc
 module _ (out : Outside) (shade : ShadeChange) (given : Status) (later : NoneFalls out) where
   -- no event was run
   module _ (asked : Option (List ℕ)) (same : out.media.new.image ≡ out.media.old.image) (untouched : IsShadeUntouched shade) where
-    early : (cause : Early) → IsEarly script_events storm (option_map (λ me. Single me logplay) asked) out cause → IsOwn (early_status cause) → Put (early_status cause) (early_text cause) out.sink given → ShadowTop asked out shade given
+    early : (cause : Early) → IsEarly script_events storm (option_map (λ me. Single me logplay) asked) out cause → IsOwn (early_status cause)
+        → Put (early_status cause) (early_text cause) out.sink given → ShadowTop asked out shade given
     early cause is own put = record {
       text = early_text cause;
       own = early_status cause;
@@ -60,26 +61,56 @@ module _ (out : Outside) (shade : ShadeChange) (given : Status) (later : NoneFal
     shadowed x m tree shown written becomes caused calls (inl put) = record {
       text = shadow_text m written;
       own = shadow_status written;
-      shows = inr (inl record { events = take x.count (alone_events name me logplay); journal = journal; ended = x.ended; whole = stopped_whole name me logplay out journal x; m = m; tree = tree; shown = shown; written = written; becomes = becomes; caused = caused; calls = calls; says = inl (refl, refl) });
+      shows = inr (inl record {
+        events = take x.count (alone_events name me logplay);
+        journal = journal;
+        ended = x.ended;
+        whole =
+            stopped_whole name me logplay out journal x;
+        m = m;
+        tree = tree;
+        shown = shown;
+        written = written;
+        becomes = becomes;
+        caused = caused;
+        calls = calls;
+        says = inl (refl, refl);
+      });
       later = later;
       put = put_alone out (shadow_text m written) (shadow_status written) given (shadow_own written) put;
     }
     shadowed x m tree shown written becomes caused calls (inr put) = record {
       text = memory_line;
       own = status.OutOfMemory;
-      shows = inr (inl record { events = take x.count (alone_events name me logplay); journal = journal; ended = x.ended; whole = stopped_whole name me logplay out journal x; m = m; tree = tree; shown = shown; written = written; becomes = becomes; caused = caused; calls = calls; says = inr (refl, refl) });
+      shows = inr (inl record {
+        events = take x.count (alone_events name me logplay);
+        journal = journal;
+        ended = x.ended;
+        whole =
+            stopped_whole name me logplay out journal x;
+        m = m;
+        tree = tree;
+        shown = shown;
+        written = written;
+        becomes = becomes;
+        caused = caused;
+        calls = calls;
+        says = inr (refl, refl);
+      });
       later = later;
       put = put_alone out memory_line status.OutOfMemory given memory_own put;
     }
 
-    pub shadowed_top : (ended : Result (Unit {0}) EventFault) → ShotEnded ended out (alone_events name me logplay) journal → IsOk ended → (m : ℕ) (tree : Tree) → shown_tree journal ≡ Some (m, tree) → (written : Result (Unit {0}) ShadowFault)
+    pub shadowed_top : (ended : Result (Unit {0}) EventFault) → ShotEnded ended out (alone_events name me logplay) journal → IsOk ended
+        → (m : ℕ) (tree : Tree) → shown_tree journal ≡ Some (m, tree) → (written : Result (Unit {0}) ShadowFault)
         → NodesBecome shade.old.nodes shade.new.nodes (ShadowEnds tree written) → IfErr written (FaultCaused tree shade.old.faults shade.new.faults) → CallsMade tree shade written
         → Put (shadow_status written) (shadow_text m written) out.sink given ⊎ Put status.OutOfMemory memory_line out.sink given → ShadowTop (Some me) out shade given
     shadowed_top (Ok done) x ok = shadowed x
     shadowed_top (Err fault) x ok = absurd (cc (ok))
 
     -- logplay's own answer
-    pub logplayed_top : (ended : Result (Unit {0}) EventFault) → SparedRun logplay out (MayLack ended journal) → ShotEnded ended out (alone_events name me logplay) journal → ShotSays ended (last_status journal) journal out.sink given
+    pub logplayed_top : (ended : Result (Unit {0}) EventFault) → SparedRun logplay out (MayLack ended journal)
+        → ShotEnded ended out (alone_events name me logplay) journal → ShotSays ended (last_status journal) journal out.sink given
         → OnOk ended (shown_tree journal ≡ None) → IsShadeUntouched shade → ShadowTop (Some me) out shade given
     logplayed_top ended spared x says none untouched =
         let run = shot_ran name me out journal given (shown_tree journal ≡ None) logplay tt ended spared x says none in

@@ -168,7 +168,9 @@ module _ (name me : List ℕ) (shot : OneShot) (out : Outside) (journal : List N
     abbrev Comes : Type 0
     Comes = Ran me shot out journal fact given
 
-    ran : (ending : Ending) (events : List Event) (text : List ℕ) → HasEnded ending out events journal → ShotPuts me shot events ending journal text → IsOwn (shot_status shot ending journal) → SparesImage shot (shot_status shot ending journal) out → Put (shot_status shot ending journal) text out.sink given
+    ran : (ending : Ending) (events : List Event) (text : List ℕ) → HasEnded ending out events journal → ShotPuts me shot events ending journal text
+        → IsOwn (shot_status shot ending journal) → SparesImage shot (shot_status shot ending journal) out
+        → Put (shot_status shot ending journal) text out.sink given
         → (ending ≡ AllDone → fact) → Comes
     ran ending events text x puts other spares put known = record {
       text = text;
@@ -189,14 +191,18 @@ module _ (name me : List ℕ) (shot : OneShot) (out : Outside) (journal : List N
     wants spares x goes clean put = ran EndsOutOfMemory all memory_line x (whole goes, (refl, clean)) memory_own spares put (λ e. absurd cc)
 
     -- a source ended early
-    ended : SparesImage shot status.OutOfMemory out → (end : SourceEnd) → HasEnded (SourceFails end) out all journal → OnlyLastStops journal → IsFaultless journal → Put status.SourceFault (source_line end) out.sink given ⊎ Put status.OutOfMemory memory_line out.sink given → Comes
+    ended : SparesImage shot status.OutOfMemory out → (end : SourceEnd) → HasEnded (SourceFails end) out all journal → OnlyLastStops journal
+        → IsFaultless journal → Put status.SourceFault (source_line end) out.sink given ⊎ Put status.OutOfMemory memory_line out.sink given → Comes
     ended spares end x goes clean (inl put) = ran (SourceFails end) all (source_line end) x (whole goes, refl) source_own (own_spares shot status.SourceFault out (λ e. absurd cc)) put (λ e. absurd cc)
     ended spares end x goes clean (inr put) = wants spares (source_wants end out all journal x) goes clean put
 
     -- the run has come to its end
-    done : SparedRun shot out (last_passes is_short journal ≡ false) → (x : HasStopped out all journal) → last_passes (ends_shot shot) journal ≡ true → LastSays (done_status shot journal) journal out.sink given → fact → Comes
+    done : SparedRun shot out (last_passes is_short journal ≡ false) → (x : HasStopped out all journal) → last_passes (ends_shot shot) journal ≡ true
+        → LastSays (done_status shot journal) journal out.sink given → fact → Comes
     done spared x ends (inl put) known = ran AllDone (take x.count all) (shown journal) x.ended (stopped_whole x, (ends, refl)) (done_own shot journal) (done_spares shot journal out) put (λ e. known)
-    done spared x ends (inr put) known = ran EndsOutOfMemory (take x.count all) memory_line (done_wants out (take x.count all) journal x.ended) (stopped_whole x, (refl, long_faultless journal x.goes_on put.1)) memory_own (lack_spares shot status.OutOfMemory out (last_passes is_short journal ≡ false) spared put.1) put.0 (λ e. absurd cc)
+    done spared x ends (inr put) known = ran EndsOutOfMemory (take x.count all) memory_line (done_wants out (take x.count all) journal x.ended)
+        (stopped_whole x, (refl, long_faultless journal x.goes_on put.1)) memory_own
+        (lack_spares shot status.OutOfMemory out (last_passes is_short journal ≡ false) spared put.1) put.0 (λ e. absurd cc)
 
 -- The last note, by the command.
 
@@ -244,8 +250,12 @@ module _ (name me : List ℕ) (out : Outside) (journal : List Note) where
         by_count zero is = absurd (none_done name me makes out journal x is)
         by_count (suc zero) is = by_stop (last_stops journal) refl is
         by_count (suc (suc k)) is =
-            behind_first ends_mkfs (event.Host name me) (event.Mkfs name request.fs request.unit request.log request.format request.force request.halt ∷ []) out.lines [] journal (mkfs_end name request out.lines unhalted)
-            (subst (λ (es : List Event). FollowsShape out.lines (event.Host name me ∷ event.Mkfs name request.fs request.unit request.log request.format request.force request.halt ∷ es) [] journal) (take_none k) (shape_at (suc (suc k)) is))
+            behind_first ends_mkfs (event.Host name me)
+            (event.Mkfs name request.fs request.unit request.log request.format request.force request.halt ∷ []) out.lines [] journal
+            (mkfs_end name request out.lines unhalted)
+            (subst (λ (es : List Event). FollowsShape out.lines
+            (event.Host name me ∷ event.Mkfs name request.fs request.unit request.log request.format request.force request.halt ∷ es) [] journal)
+            (take_none k) (shape_at (suc (suc k)) is))
 
   shot_ends : (shot : OneShot) → IsUnhalted shot → HasStopped out (alone_events name me shot) journal → last_passes (ends_shot shot) journal ≡ true
   shot_ends (Makes request) unhalted x = mkfs_ends request unhalted x
@@ -258,18 +268,22 @@ module _ (name me : List ℕ) (out : Outside) (journal : List Note) where
 
   module _ (given : Status) (fact : Type 0) where
     -- the media failed in a mkfs
-    broken : (shot : OneShot) → HasEnded MkfsFails out (alone_events name me shot) journal → OnlyLastStops journal → LastSays status.MediaFault journal out.sink given → Ran me shot out journal fact given
-    broken (Makes request) x goes (inl put) = ran name me (Makes request) out journal given fact MkfsFails (alone_events name me (Makes request)) (shown journal) x (whole name me (Makes request) out journal goes, refl) media_own tt put (λ e. absurd cc)
+    broken : (shot : OneShot) → HasEnded MkfsFails out (alone_events name me shot) journal → OnlyLastStops journal
+        → LastSays status.MediaFault journal out.sink given → Ran me shot out journal fact given
+    broken (Makes request) x goes (inl put) = ran name me (Makes request) out journal given fact MkfsFails (alone_events name me (Makes request))
+        (shown journal) x (whole name me (Makes request) out journal goes, refl) media_own tt put (λ e. absurd cc)
     broken (Makes request) x goes (inr put) = absurd (false≢true (sym put.1 ∙ fault_short x.caused))
     broken (Runs what) x goes put = absurd (none_breaks name me (λ (w : Ask). w) (what ∷ []) out journal x)
     broken (MakesParents path attr) x goes put = absurd (none_breaks name me (makes_one attr) (path_prefixes path) out journal x)
 
     -- by how the run has ended, and what was put then
-    pub shot_ran : (shot : OneShot) → IsUnhalted shot → (ended_so : Result (Unit {0}) EventFault) → SparedRun shot out (MayLack ended_so journal) → ShotEnded ended_so out (alone_events name me shot) journal → ShotSays ended_so (done_status shot journal) journal out.sink given
+    pub shot_ran : (shot : OneShot) → IsUnhalted shot → (ended_so : Result (Unit {0}) EventFault) → SparedRun shot out (MayLack ended_so journal)
+        → ShotEnded ended_so out (alone_events name me shot) journal → ShotSays ended_so (done_status shot journal) journal out.sink given
         → OnOk ended_so fact → Ran me shot out journal fact given
     shot_ran shot unhalted (Ok x) spared stopped says known = done name me shot out journal given fact spared stopped (shot_ends shot unhalted stopped) says known
     shot_ran shot unhalted (Err fault.MkfsFailed) spared x says known = broken shot x.0 x.1 says
-    shot_ran shot unhalted (Err (fault.SourceEnded end)) spared x says known = ended name me shot out journal given fact (lack_spares shot status.OutOfMemory out ⊤ spared tt) (end_of end) x.0 x.1 x.2 says
+    shot_ran shot unhalted (Err (fault.SourceEnded end)) spared x says known = ended name me shot out journal given fact
+        (lack_spares shot status.OutOfMemory out ⊤ spared tt) (end_of end) x.0 x.1 x.2 says
     shot_ran shot unhalted (Err fault.OutOfMemory) spared x says known = wants name me shot out journal given fact (lack_spares shot status.OutOfMemory out ⊤ spared tt) x.0 x.1 x.2 says
 
 nothing_known : (ended_so : Result (Unit {0}) EventFault) → OnOk ended_so ⊤
@@ -278,7 +292,9 @@ nothing_known (Err fault) = tt
 
 module _ (name me : List ℕ) (out : Outside) (journal : List Note) (given : Status) (later : NoneFalls out) where
   -- as the top call tells it
-  pub shot_top : (shot : OneShot) → IsUnhalted shot → (ended_so : Result (Unit {0}) EventFault) → SparedRun shot out (MayLack ended_so journal) → ShotEnded ended_so out (alone_events name me shot) journal → ShotSays ended_so (done_status shot journal) journal out.sink given → TopEnds script_events storm (Some (Single me shot)) out given
+  pub shot_top : (shot : OneShot) → IsUnhalted shot → (ended_so : Result (Unit {0}) EventFault) → SparedRun shot out (MayLack ended_so journal)
+      → ShotEnded ended_so out (alone_events name me shot) journal → ShotSays ended_so (done_status shot journal) journal out.sink given
+      → TopEnds script_events storm (Some (Single me shot)) out given
   shot_top shot unhalted ended_so spared x says =
       let run = shot_ran name me out journal given ⊤ shot unhalted ended_so spared x says (nothing_known ended_so) in
       record { text = run.text; own = run.own; shows = inr run.runs; later = later; put = run.put }

@@ -29,7 +29,8 @@ are_one_run : (name me : List ℕ) (what : Ask) → IsOneRun (one_run name me wh
 are_one_run name me what = record { name = name; me = me; what = what; events_are = refl }
 
 -- what is told of it, by how it ended
-pub record IsAlone {M S : Type 0} (size : M → ℕ) (state : M → MediaState) (shelf_state : S → ShelfState) (events : List Event) (media next : M) (shelf shelf_next : S) (said : Result (Unit {0}) EventFault) (journal : List Note) : Type 0 where
+pub record IsAlone {M S : Type 0} (size : M → ℕ) (state : M → MediaState) (shelf_state : S → ShelfState) (events : List Event) (media next : M)
+    (shelf shelf_next : S) (said : Result (Unit {0}) EventFault) (journal : List Note) : Type 0 where
   pub ended : (sink : SinkChange) → ShotEnded said (outside_of size state media next (change shelf_state shelf shelf_next) sink) events journal
   pub same : MayLack said journal → IfModelled (state media).image (λ start. IfModelled (shelf_state shelf).files (λ files. (state next).image ≡ Some start))
   pub steady : IsSteady size state media next
@@ -40,15 +41,20 @@ pub none_before : (world : WorldView) → world ≡ empty_world → list_any not
 none_before world fresh = ap (λ (w : WorldView). list_any note_stops w.journal) fresh
 
 -- none of its events is done yet
-pub before_run : {M S : Type 0} (size : M → ℕ) (state : M → MediaState) (shelf_state : S → ShelfState) (name me : List ℕ) (what : Ask) (media : M) (shelf : S) (world : WorldView) → IsSoundAsk what → world ≡ empty_world → IfModelled (state media).image IsImage
+pub before_run : {M S : Type 0} (size : M → ℕ) (state : M → MediaState) (shelf_state : S → ShelfState) (name me : List ℕ) (what : Ask) (media : M)
+    (shelf : S) (world : WorldView) → IsSoundAsk what → world ≡ empty_world → IfModelled (state media).image IsImage
     → Turns size state shelf_state (one_run name me what) media media shelf shelf world 0 [] (one_run name me what)
 before_run size state shelf_state name me what media shelf world sound fresh is_image = first_turns media shelf refl (tt, (sound, tt)) fresh is_image
 
 -- One of its events comes to an end, behind which no event is left, or a note stops.
-module _ {M S : Type 0} {size : M → ℕ} {state : M → MediaState} {shelf_state : S → ShelfState} {name me : List ℕ} {what : Ask} {media here : M} {shelf shelf_here : S} {world : WorldView} {copied : ℕ} {passed left more : List Event} {e : Event}
-    (t : Turns size state shelf_state (one_run name me what) media here shelf shelf_here world copied passed left) (is : left ≡ e ∷ more) (goes : list_any note_stops world.journal ≡ false) (shot : IsShotEvent e)
+module _ {M S : Type 0} {size : M → ℕ} {state : M → MediaState} {shelf_state : S → ShelfState} {name me : List ℕ} {what : Ask} {media here : M}
+    {shelf shelf_here : S} {world : WorldView} {copied : ℕ} {passed left more : List Event} {e : Event}
+    (t : Turns size state shelf_state (one_run name me what) media here shelf shelf_here world copied passed left) (is : left ≡ e ∷ more)
+    (goes : list_any note_stops world.journal ≡ false) (shot : IsShotEvent e)
     (next : M) (shelf_next : S) (read : ℕ) (size_is : size next ≡ size here) (steady : IsShelfSteady (shelf_state shelf_here) (shelf_state shelf_next)) where
-  pub ends_alone : (said : Result (Unit {0}) EventFault) (after : WorldView) → EventSays e (change shelf_state shelf_here shelf_next) (world_change size state here next world after (shelf_state shelf_here).files copied read) said
+  pub ends_alone : (said : Result (Unit {0}) EventFault) (after : WorldView)
+      → EventSays e (change shelf_state shelf_here shelf_next)
+      (world_change size state here next world after (shelf_state shelf_here).files copied read) said
       → (IsRun e → OnErr said (IsRested world → IfModelled (state here).image (λ image. (state next).image ≡ Some image)))
       → (said ≡ Ok tt → last_stops after.journal ≡ false → take (suc (length passed)) (one_run name me what) ≡ one_run name me what)
       → IsAlone size state shelf_state (one_run name me what) media next shelf shelf_next said after.journal
@@ -56,7 +62,8 @@ module _ {M S : Type 0} {size : M → ℕ} {state : M → MediaState} {shelf_sta
       let u = turned t is next shelf_next after read (Ok x) size_is steady says in
       record {
         ended = λ sink. record { count = suc (length passed); ended = done_ends u sink; goes_on = done_goes_on u shot goes; all = all refl };
-        same = λ lacks. done_spares (base_of (one_run name me what) (size media) (state media) (shelf_state shelf)) (are_one_run name me what) (suc (length passed)) (now_of after (state next) read) (done_far u) lacks;
+        same = λ lacks. done_spares (base_of (one_run name me what) (size media) (state media) (shelf_state shelf)) (are_one_run name me what)
+            (suc (length passed)) (now_of after (state next) read) (done_far u) lacks;
         steady = u.steady;
         shelf_steady = u.shelf_steady;
       }
@@ -70,7 +77,9 @@ module _ {M S : Type 0} {size : M → ℕ} {state : M → MediaState} {shelf_sta
       }
 
   -- so where the journal is that of the world which is told
-  pub shown_alone : (said : Result (Unit {0}) EventFault) (after : WorldView) → EventShows e (change shelf_state shelf_here shelf_next) (world_change size state here next world after (shelf_state shelf_here).files copied read) said
+  pub shown_alone : (said : Result (Unit {0}) EventFault) (after : WorldView)
+      → EventShows e (change shelf_state shelf_here shelf_next)
+      (world_change size state here next world after (shelf_state shelf_here).files copied read) said
       → (IsRun e → OnErr said (IsRested world → IfModelled (state here).image (λ image. (state next).image ≡ Some image)))
       → take (suc (length passed)) (one_run name me what) ≡ one_run name me what
       → IsAlone size state shelf_state (one_run name me what) media next shelf shelf_next said after.journal

@@ -59,7 +59,14 @@ module _ (b : Base) (count : ℕ) (n : Now) (far : Far b count n) (shelf : Shelf
     caused = tt;
     told = λ start told_is files files_are.
         let f = far.on start told_is files files_are in
-        record { last = f.last; legal = f.held.kept.held.legal; follows = inl record { count = count; follows = f.follows }; left = f.left; reads = held_reads_as start f.last.machines n.world f.last.machines.memory f.held };
+        record {
+          last = f.last;
+          legal = f.held.kept.held.legal;
+          follows = inl record { count = count; follows = f.follows };
+          left = f.left;
+          reads =
+              held_reads_as start f.last.machines n.world f.last.machines.memory f.held;
+        };
   }
 
   -- all are done
@@ -88,7 +95,8 @@ module _ (b : Base) (count : ℕ) (n m : Now) (far : Far b count n) (e : Event) 
   abbrev end_out : Outside
   end_out = out_of b m shelf all
 
-  counted_more : (notes : List Note) → HasCounted n.media.faults m.media.faults notes → n.media.faults ≤ m.media.faults → m.world.journal ≡ n.world.journal ++ notes → HasCounted b.media.faults m.media.faults m.world.journal
+  counted_more : (notes : List Note) → HasCounted n.media.faults m.media.faults notes → n.media.faults ≤ m.media.faults
+      → m.world.journal ≡ n.world.journal ++ notes → HasCounted b.media.faults m.media.faults m.world.journal
   counted_more notes counted later joined =
       let x = far.counted in
       let sum = ap (λ (j : List Note). Rattle.fam_journal.specs.Ends.faults_of j) joined ∙ faults_both n.world.journal notes in
@@ -98,7 +106,8 @@ module _ (b : Base) (count : ℕ) (n m : Now) (far : Far b count n) (e : Event) 
   same_last s same = ap (λ (c : ℕ). session s.machines c) (sym same)
 
   -- the media failed in a mkfs
-  broken_caused : (e : Event) → slice_get b.events count ≡ Some e → (lines : ℕ) (hosts : List HostShape) (notes : List Note) → EventBreaksShape e lines hosts notes → m.world.journal ≡ n.world.journal ++ notes → EndsBroken b.events m.world.journal
+  broken_caused : (e : Event) → slice_get b.events count ≡ Some e → (lines : ℕ) (hosts : List HostShape) (notes : List Note)
+      → EventBreaksShape e lines hosts notes → m.world.journal ≡ n.world.journal ++ notes → EndsBroken b.events m.world.journal
   broken_caused (event.Mkfs name fs unit log format force halt) at lines hosts notes shape joined = record {
     count = count;
     event = event.Mkfs name fs unit log format force halt;
@@ -192,7 +201,8 @@ module _ (b : Base) (count : ℕ) (n m : Now) (far : Far b count n) (e : Event) 
       host = x.adds.shape.host;
       source = x.adds.shape.source;
       reads = x.adds.shape.reads;
-      free = subst (λ (j : List Note). Rattle.fam_journal.specs.Calls.may_begin x.adds.shape.host false (Rattle.fam_journal.specs.Shapes.shown_shapes b.lines (shapes_behind [] j)) ≡ None) (sym same) x.adds.shape.free;
+      free = subst (λ (j : List Note). Rattle.fam_journal.specs.Calls.may_begin x.adds.shape.host false
+          (Rattle.fam_journal.specs.Shapes.shown_shapes b.lines (shapes_behind [] j)) ≡ None) (sym same) x.adds.shape.free;
       follows = subst (λ (j : List Note). FollowsShape b.lines (take count b.events) [] j) (sym same) far.shape;
     };
     counted = counted_more x.adds.notes x.adds.counted x.adds.later x.adds.joined;
@@ -210,7 +220,8 @@ module _ (b : Base) (count : ℕ) (n m : Now) (far : Far b count n) (e : Event) 
             event = e;
             is = is;
             reads = subst (λ (z : Session). ReadsSource files e (end_of end) z) (sym k.comes.does.2) k.comes.does.0;
-            follows = subst (λ (j : List Note). Follows files (take count b.events) (first_session start) j k.comes.last) (sym same) (subst (λ (z : Session). Follows files (take count b.events) (first_session start) n.world.journal z) (sym back) f.follows);
+            follows = subst (λ (j : List Note). Follows files (take count b.events) (first_session start) j k.comes.last) (sym same)
+                (subst (λ (z : Session). Follows files (take count b.events) (first_session start) n.world.journal z) (sym back) f.follows);
           };
           left = k.comes.told_is;
           reads = held_reads_as start k.comes.last.machines m.world k.comes.last.machines.memory k.held;
@@ -241,15 +252,22 @@ module _ (b : Base) (count : ℕ) (n m : Now) (far : Far b count n) (e : Event) 
     where
       by_shape : (x.adds.notes ≡ []) ⊎ EventPartShape e b.lines (shapes_behind [] n.world.journal) x.adds.notes → EndsShape EndsOutOfMemory b.lines b.events [] m.world.journal
       by_shape (inl none) =
-          inl record { count = count; follows = subst (λ (j : List Note). FollowsShape b.lines (take count b.events) [] j) (sym (x.adds.joined ∙ ap (λ (ns : List Note). n.world.journal ++ ns) none ∙ append-nil n.world.journal)) far.shape }
+          inl record {
+            count = count;
+            follows = subst (λ (j : List Note). FollowsShape b.lines (take count b.events) [] j)
+                (sym (x.adds.joined ∙ ap (λ (ns : List Note). n.world.journal ++ ns) none ∙ append-nil n.world.journal)) far.shape;
+          }
       by_shape (inr part) = inr record { count = count; event = e; is = is; whole_notes = n.world.journal; part_notes = x.adds.notes; whole = far.shape; part = part; joined = x.adds.joined }
 
-      by_part : (start : Image) (files : Files) (mid : Session) → Follows files (take count b.events) (first_session start) n.world.journal mid → mid.copied ≡ n.copied → (notes : List Note) (new : Session) → m.world.journal ≡ n.world.journal ++ notes
-          → ((notes ≡ []) × (new ≡ session mid.machines n.copied)) ⊎ PartOf files e (session mid.machines n.copied) notes new → Rattle.fam_journal.specs.Ends.EventsDone EndsOutOfMemory files b.events (first_session start) m.world.journal new
+      by_part : (start : Image) (files : Files) (mid : Session) → Follows files (take count b.events) (first_session start) n.world.journal mid
+          → mid.copied ≡ n.copied → (notes : List Note) (new : Session) → m.world.journal ≡ n.world.journal ++ notes
+          → ((notes ≡ []) × (new ≡ session mid.machines n.copied)) ⊎ PartOf files e (session mid.machines n.copied) notes new
+          → Rattle.fam_journal.specs.Ends.EventsDone EndsOutOfMemory files b.events (first_session start) m.world.journal new
       by_part start files mid follows copied notes new joined (inl none) =
           inl record {
             count = count;
-            follows = subst (λ (j : List Note). Follows files (take count b.events) (first_session start) j new) (sym (joined ∙ ap (λ (ns : List Note). n.world.journal ++ ns) none.0 ∙ append-nil n.world.journal))
+            follows = subst (λ (j : List Note). Follows files (take count b.events) (first_session start) j new)
+                (sym (joined ∙ ap (λ (ns : List Note). n.world.journal ++ ns) none.0 ∙ append-nil n.world.journal))
                 (subst (λ (z : Session). Follows files (take count b.events) (first_session start) n.world.journal z) (sym (none.1 ∙ same_last mid copied)) follows);
           }
       by_part start files mid follows copied notes new joined (inr part) =

@@ -41,7 +41,8 @@ says_more e a b world_change (Err (fault.SourceEnded end)) earlier says = (says.
 says_more e a b world_change (Err fault.OutOfMemory) earlier says = says
 
 -- on a media of as many lines, with the same files
-pub says_from : (e : Event) (a b : ShelfChange) (world_change : WorldChange) (lines : ℕ) (files : Option Files) (r : Result (Unit {0}) EventFault) → world_change.lines ≡ lines → world_change.files ≡ files → IsEarlier a b → EventSays e a world_change r
+pub says_from : (e : Event) (a b : ShelfChange) (world_change : WorldChange) (lines : ℕ) (files : Option Files) (r : Result (Unit {0}) EventFault)
+    → world_change.lines ≡ lines → world_change.files ≡ files → IsEarlier a b → EventSays e a world_change r
     → EventSays e b (record world_change { lines = lines; files = files }) r
 says_from e a b world_change lines files r lines_are files_are earlier says =
     subst (λ (f : Option Files). EventSays e b (record world_change { lines = lines; files = f }) r) files_are

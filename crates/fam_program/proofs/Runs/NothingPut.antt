@@ -40,7 +40,8 @@ taken_ended b count n far shelf all = record {
 }
 
 -- of the notes of an event that ends a run at most the last one stops
-pub fault_goes : (b : Base) (n m : Now) (e : Event) → IsShotEvent e → (shelf : ShelfChange) (x : EventFault) → list_any note_stops n.world.journal ≡ false → EventSays e shelf (next_of b n m) (Err x) → OnlyLastStops m.world.journal
+pub fault_goes : (b : Base) (n m : Now) (e : Event) → IsShotEvent e → (shelf : ShelfChange) (x : EventFault)
+    → list_any note_stops n.world.journal ≡ false → EventSays e shelf (next_of b n m) (Err x) → OnlyLastStops m.world.journal
 fault_goes b n m e is shelf fault.MkfsFailed goes says =
     subst OnlyLastStops (sym says.adds.joined) (go_behind n.world.journal says.adds.notes goes (breaks_goes e b.lines (shapes_of n.world.journal) says.adds.notes says.adds.shape))
 fault_goes b n m e is shelf (fault.SourceEnded end) goes says =

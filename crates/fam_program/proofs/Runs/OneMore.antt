@@ -19,7 +19,8 @@ take_next [] k x is = absurd cc
 take_next (y ∷ xs) zero x is = ap (λ z. z ∷ []) (same_Some y x is)
 take_next (y ∷ xs) (suc k) x is = ap (λ zs. y ∷ zs) (take_next xs k x is)
 
-pub follows_more : (files : Files) (events : List Event) (e : Event) (old mid new : Session) (first rest : List Note) → Follows files events old first mid → DoesEvent files e mid rest new → Follows files (events ++ e ∷ []) old (first ++ rest) new
+pub follows_more : (files : Files) (events : List Event) (e : Event) (old mid new : Session) (first rest : List Note)
+    → Follows files events old first mid → DoesEvent files e mid rest new → Follows files (events ++ e ∷ []) old (first ++ rest) new
 follows_more files [] e old mid new first rest follows does =
     let here : mid ≡ old = follows.1 in
     (new, rest, [], subst (λ (s : Session). DoesEvent files e s rest new) here does, (refl, refl), ap (λ (z : List Note). z ++ rest) follows.0 ∙ sym (append-nil rest))
@@ -32,7 +33,9 @@ follows_more files (x ∷ events) e old mid new first rest follows does = (
   ap (λ (z : List Note). z ++ rest) follows.5 ∙ append_assoc follows.1 follows.2 rest,
 )
 
-pub shape_more : (lines : ℕ) (events : List Event) (e : Event) (hosts : List HostShape) (first rest : List Note) → FollowsShape lines events hosts first → EventShape e lines (shapes_behind hosts first) rest → FollowsShape lines (events ++ e ∷ []) hosts (first ++ rest)
+pub shape_more : (lines : ℕ) (events : List Event) (e : Event) (hosts : List HostShape) (first rest : List Note)
+    → FollowsShape lines events hosts first → EventShape e lines (shapes_behind hosts first) rest
+    → FollowsShape lines (events ++ e ∷ []) hosts (first ++ rest)
 shape_more lines [] e hosts first rest shape next = (
   rest,
   [],

@@ -44,7 +44,8 @@ memory_own e = absurd cc
 -- No event was run.
 
 module _ (command : Option Command) (out : Outside) (given : Status) (same : out.media.new.image ≡ out.media.old.image) (later : NoneFalls out) where
-  early : (why : Early) → IsEarly script_events storm command out why → IsOwn (early_status why) → Put (early_status why) (early_text why) out.sink given → TopEnds script_events storm command out given
+  early : (why : Early) → IsEarly script_events storm command out why → IsOwn (early_status why)
+      → Put (early_status why) (early_text why) out.sink given → TopEnds script_events storm command out given
   early why is other put = record {
     text = early_text why;
     own = early_status why;
@@ -56,13 +57,15 @@ module _ (command : Option Command) (out : Outside) (given : Status) (same : out
   pub early_wants : Put status.OutOfMemory memory_line out.sink given → TopEnds script_events storm command out given
   early_wants put = early EarlyOutOfMemory tt memory_own put
 
-pub prints_top : (seed size : ℕ) (prints : Bool) (out : Outside) (given : Status) → prints ≡ true → out.media.new.image ≡ out.media.old.image → NoneFalls out → Put status.Done (storm seed size) out.sink given → TopEnds script_events storm (Some (Storm seed size prints)) out given
+pub prints_top : (seed size : ℕ) (prints : Bool) (out : Outside) (given : Status) → prints ≡ true → out.media.new.image ≡ out.media.old.image
+    → NoneFalls out → Put status.Done (storm seed size) out.sink given → TopEnds script_events storm (Some (Storm seed size prints)) out given
 prints_top seed size prints out given is same later put =
     subst (λ (p : Bool). TopEnds script_events storm (Some (Storm seed size p)) out given) (sym is)
     (early (Some (Storm seed size true)) out given same later (Prints (storm seed size)) refl done_own put)
 
 -- where nothing is printed
-pub not_printed : (seed size : ℕ) (prints : Bool) (out : Outside) (given : Status) → prints ≡ false → TopEnds script_events storm (Some (Storm seed size false)) out given → TopEnds script_events storm (Some (Storm seed size prints)) out given
+pub not_printed : (seed size : ℕ) (prints : Bool) (out : Outside) (given : Status) → prints ≡ false
+    → TopEnds script_events storm (Some (Storm seed size false)) out given → TopEnds script_events storm (Some (Storm seed size prints)) out given
 not_printed seed size prints out given is top = subst (λ (p : Bool). TopEnds script_events storm (Some (Storm seed size p)) out given) (sym is) top
 
 -- No source ends a run of events that read none.
@@ -125,7 +128,8 @@ source_wants end out events journal x = record {
 -- A storm was run.
 
 module _ (seed size : ℕ) (events : List Event) (reads : script_events (storm seed size) ≡ Ok events) (out : Outside) (given : Status) (later : NoneFalls out) (journal : List Note) where
-  ran : (ending : Ending) (text : List ℕ) → HasEnded ending out events journal → StormPuts seed size events ending journal text → IsOwn (storm_status ending journal) → Put (storm_status ending journal) text out.sink given
+  ran : (ending : Ending) (text : List ℕ) → HasEnded ending out events journal → StormPuts seed size events ending journal text
+      → IsOwn (storm_status ending journal) → Put (storm_status ending journal) text out.sink given
       → TopEnds script_events storm (Some (Storm seed size false)) out given
   ran ending text x puts other put = record {
     text = text;

@@ -54,14 +54,16 @@ of_none (Some f) x = by_task f.task x
     by_task (Some t) x = x
 
 -- behind its answer nothing comes
-not_answered : (answer : Answer) (h host : ℕ) (hosts : List HostShape) (P : List ℕ → TaskShape → Type 0) → host ≡ h → OfRunning (slice_get (changed_at host (λ (f : HostShape). record f { task = None; keeps = keeps_behind answer f.keeps }) hosts) h) P → ⊥
+not_answered : (answer : Answer) (h host : ℕ) (hosts : List HostShape) (P : List ℕ → TaskShape → Type 0) → host ≡ h
+    → OfRunning (slice_get (changed_at host (λ (f : HostShape). record f { task = None; keeps = keeps_behind answer f.keeps }) hosts) h) P → ⊥
 not_answered answer h host hosts P same x =
     of_idle answer (slice_get hosts h) P
     (subst (λ (o : Option HostShape). OfRunning o P) (changed_here h (λ (f : HostShape). record f { task = None; keeps = keeps_behind answer f.keeps }) hosts)
     (subst (λ (k : ℕ). OfRunning (slice_get (changed_at k (λ (f : HostShape). record f { task = None; keeps = keeps_behind answer f.keeps }) hosts) h) P) same x))
 
 -- a note behind which another one comes doesn't stop
-goes_behind : (h : ℕ) (hosts : List HostShape) (note next : Note) → OfRunning (slice_get hosts h) (λ me t. TaskNote h me t note) → OfRunning (slice_get (shapes_after hosts note) h) (λ me t. TaskNote h me t next) → note_stops note ≡ false
+goes_behind : (h : ℕ) (hosts : List HostShape) (note next : Note) → OfRunning (slice_get hosts h) (λ me t. TaskNote h me t note)
+    → OfRunning (slice_get (shapes_after hosts note) h) (λ me t. TaskNote h me t next) → note_stops note ≡ false
 goes_behind h hosts (Answered host answer) next x y =
     absurd (not_answered answer h host hosts (λ me t. TaskNote h me t next) (of_here (slice_get hosts h) (λ me t. AnswerShape me t.cmd t.stage answer) host h x) y)
 goes_behind h hosts (Refused name cause) next x y = absurd (of_none (slice_get hosts h) x)
@@ -80,7 +82,8 @@ behind_start host cmd [] goes = refl
 behind_start host cmd (note ∷ rest) goes = goes
 
 module _ (name : List ℕ) (what : Ask) (lines : ℕ) (hosts : List HostShape) (notes : List Note) where
-  started : (Q : ℕ → List HostShape → List Note → Type 0) → ((h : ℕ) (fs : List HostShape) (ns : List Note) → Q h fs ns → OperationsShape h fs ns) → StartShape Q name what lines hosts notes → OnlyLastStops notes
+  started : (Q : ℕ → List HostShape → List Note → Type 0) → ((h : ℕ) (fs : List HostShape) (ns : List Note) → Q h fs ns → OperationsShape h fs ns)
+      → StartShape Q name what lines hosts notes → OnlyLastStops notes
   started Q operations x =
       subst OnlyLastStops (sym x.notes_are)
       (behind_start x.host x.cmd x.rest (operations_go x.host (shapes_after hosts (Start x.host x.cmd)) x.rest (operations x.host (shapes_after hosts (Start x.host x.cmd)) x.rest x.follow)))
@@ -113,7 +116,9 @@ module _ (name : List ℕ) (request : MkfsRequest) (lines : ℕ) (hosts : List H
 -- an event that is done
 pub step_goes : (e : Event) → IsShotEvent e → (lines : ℕ) (hosts : List HostShape) (notes : List Note) → EventShape e lines hosts notes → OnlyLastStops notes
 step_goes (event.Host name uuid) is lines hosts notes x = declared name uuid notes (refusal_told (call.Declares name uuid) lines hosts) x
-step_goes (event.Mkfs name fs unit log format force halt) is lines hosts notes x = made name (mkfs_request fs unit log format force halt) lines hosts notes (refusal_told (call.Makes name (mkfs_request fs unit log format force halt)) lines hosts) x
+step_goes (event.Mkfs name fs unit log format force halt) is lines hosts notes x =
+    made name (mkfs_request fs unit log format force halt) lines hosts notes
+    (refusal_told (call.Makes name (mkfs_request fs unit log format force halt)) lines hosts) x
 step_goes (event.Run name what) is lines hosts notes x = begun name what lines hosts notes (may_begin name (mounts what) (shown_shapes lines hosts)) x
 step_goes e is lines hosts notes x = absurd is
 

@@ -38,7 +38,8 @@ module _ {M S : Type 0} {size : M → ℕ} {state : M → MediaState} {shelf_sta
     module _ {x : EventFault} (t : Turned size state shelf_state events media next shelf shelf_next here world copied passed e (Err x)) where
       pub fault_ends : (sink : SinkChange) → HasEnded (ending_of x) (outside_of size state media next (change shelf_state shelf shelf_next) sink) events world.journal
       fault_ends sink =
-          fault_ended (base_of events (size media) (state media) (shelf_state shelf)) (length passed) here (now_of world (state next) copied) t.far e t.is (change shelf_state shelf shelf_next) sink x t.says
+          fault_ended (base_of events (size media) (state media) (shelf_state shelf)) (length passed) here (now_of world (state next) copied) t.far e
+          t.is (change shelf_state shelf shelf_next) sink x t.says
 
       module _ (shot : IsShotEvent e) (goes : list_any note_stops here.world.journal ≡ false) where
         -- at most its last note stops
@@ -49,8 +50,10 @@ module _ {M S : Type 0} {size : M → ℕ} {state : M → MediaState} {shelf_sta
         fault_is_told = fault_hides (base_of events (size media) (state media) (shelf_state shelf)) here (now_of world (state next) copied) e shot (change shelf_state shelf shelf_next) x goes t.says
 
       -- and leaves the image of one command
-      pub fault_leaves : IsOneRun events → (IsRun e → IsRested here.world → IfModelled here.media.image (λ start. (state next).image ≡ Some start)) → IfModelled (state media).image (λ start. IfModelled (shelf_state shelf).files (λ told. (state next).image ≡ Some start))
-      fault_leaves one same = fault_spares (base_of events (size media) (state media) (shelf_state shelf)) one here (now_of world (state next) copied) (change shelf_state shelf shelf_next) x (length passed) t.far e t.is t.says same
+      pub fault_leaves : IsOneRun events → (IsRun e → IsRested here.world → IfModelled here.media.image (λ start. (state next).image ≡ Some start))
+          → IfModelled (state media).image (λ start. IfModelled (shelf_state shelf).files (λ told. (state next).image ≡ Some start))
+      fault_leaves one same = fault_spares (base_of events (size media) (state media) (shelf_state shelf)) one here (now_of world (state next) copied)
+          (change shelf_state shelf shelf_next) x (length passed) t.far e t.is t.says same
 
     -- the event is done
     module _ (t : Turned size state shelf_state events media next shelf shelf_next here world copied passed e (Ok tt)) where

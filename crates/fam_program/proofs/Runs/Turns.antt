@@ -19,7 +19,8 @@ use Rattle.fam_program.proofs.Runs.Passed.{all_taken, next_is, one_more, rest_is
 
 -- The events that were passed are done, and these are left. Media and shelf came from one state to another since the run began,
 -- and so many bytes of sources were read.
-pub record Turns {M S : Type 0} (size : M → ℕ) (state : M → MediaState) (shelf_state : S → ShelfState) (events : List Event) (media here : M) (shelf shelf_here : S) (world : WorldView) (copied : ℕ) (passed left : List Event) : Type 0 where
+pub record Turns {M S : Type 0} (size : M → ℕ) (state : M → MediaState) (shelf_state : S → ShelfState) (events : List Event) (media here : M)
+    (shelf shelf_here : S) (world : WorldView) (copied : ℕ) (passed left : List Event) : Type 0 where
   pub all : events ≡ passed ++ left
   pub sound : AreSoundEvents left
   pub size_is : size here ≡ size media
@@ -27,7 +28,9 @@ pub record Turns {M S : Type 0} (size : M → ℕ) (state : M → MediaState) (s
   pub far : Far (base_of events (size media) (state media) (shelf_state shelf)) (length passed) (now_of world (state here) copied)
 
 -- One more event came to its end, as this result says, from a state of the run to a next one.
-pub record Turned {M S : Type 0} (size : M → ℕ) (state : M → MediaState) (shelf_state : S → ShelfState) (events : List Event) (media next : M) (shelf shelf_next : S) (here : Now) (world : WorldView) (copied : ℕ) (passed : List Event) (e : Event) (said : Result (Unit {0}) EventFault) : Type 0 where
+pub record Turned {M S : Type 0} (size : M → ℕ) (state : M → MediaState) (shelf_state : S → ShelfState) (events : List Event) (media next : M)
+    (shelf shelf_next : S) (here : Now) (world : WorldView) (copied : ℕ) (passed : List Event) (e : Event) (said : Result (Unit {0}) EventFault) :
+    Type 0 where
   pub far : Far (base_of events (size media) (state media) (shelf_state shelf)) (length passed) here
   pub is : slice_get events (length passed) ≡ Some e
   pub says : EventSays e (change shelf_state shelf shelf_next) (next_of (base_of events (size media) (state media) (shelf_state shelf)) here (now_of world (state next) copied)) said
@@ -66,14 +69,18 @@ module _ {M S : Type 0} {size : M → ℕ} {state : M → MediaState} {shelf_sta
     next_sound is = (subst AreSoundEvents is t.sound).0
 
     -- it comes to its end
-    pub turned : {e : Event} {more : List Event} → left ≡ e ∷ more → (next : M) (shelf_next : S) (after : WorldView) (read : ℕ) (said : Result (Unit {0}) EventFault) → size next ≡ size here → IsShelfSteady (shelf_state shelf_here) (shelf_state shelf_next)
+    pub turned : {e : Event} {more : List Event} → left ≡ e ∷ more
+        → (next : M) (shelf_next : S) (after : WorldView) (read : ℕ) (said : Result (Unit {0}) EventFault) → size next ≡ size here
+        → IsShelfSteady (shelf_state shelf_here) (shelf_state shelf_next)
         → EventSays e (change shelf_state shelf_here shelf_next) (world_change size state here next world after (shelf_state shelf_here).files copied read) said
         → Turned size state shelf_state events media next shelf shelf_next (now_of world (state here) copied) after read passed e said
     turned {e} {more} is next shelf_next after read said size_is steady says =
         let b = base_of events (size media) (state media) (shelf_state shelf) in
         let later = change shelf_state shelf shelf_next in
         let from : EventSays e later (next_of b (now_of world (state here) copied) (now_of after (state next) read)) said =
-        says_from e (change shelf_state shelf_here shelf_next) later (world_change size state here next world after (shelf_state shelf_here).files copied read) (size media) (shelf_state shelf).files said t.size_is t.shelf_steady.same
+        says_from e (change shelf_state shelf_here shelf_next) later
+        (world_change size state here next world after (shelf_state shelf_here).files copied read) (size media)
+        (shelf_state shelf).files said t.size_is t.shelf_steady.same
         (record { faults = t.shelf_steady.faults_later; faults_now = refl; shorts = t.shelf_steady.shorts_later; shorts_now = refl }) says in
         record {
           far = t.far;

@@ -43,7 +43,8 @@ module _ (shelf : ShelfChange) (s : SinkChange) (name : List ℕ) (lines faults 
   early_own c e = absurd cc
 
   module _ (falls : NoneFalls unrun) (given : Status) where
-    early_top : (early : Early) → IsOwn (early_status early) → IsEarly script_events storm (Some (Script name)) unrun early → Put (early_status early) (early_text early) s given → TopEnds script_events storm (Some (Script name)) unrun given
+    early_top : (early : Early) → IsOwn (early_status early) → IsEarly script_events storm (Some (Script name)) unrun early
+        → Put (early_status early) (early_text early) s given → TopEnds script_events storm (Some (Script name)) unrun given
     early_top early own is put = record {
       text = early_text early;
       own = early_status early;
@@ -91,7 +92,8 @@ module _ (out : Outside) (shelf shorts : ℕ) (shelf_before : shelf ≤ out.shel
   }
 
 -- the run of a script's events
-pub script_ends : (shelf : ShelfChange) (name : List ℕ) (out : Outside) (events : List Event) (given : Status) → out.shelf.old.files ≡ shelf.old.files → HoldsEvents shelf name events → NoneFalls out → ScriptRan events out given → TopEnds script_events storm (Some (Script name)) out given
+pub script_ends : (shelf : ShelfChange) (name : List ℕ) (out : Outside) (events : List Event) (given : Status) → out.shelf.old.files ≡ shelf.old.files
+    → HoldsEvents shelf name events → NoneFalls out → ScriptRan events out given → TopEnds script_events storm (Some (Script name)) out given
 script_ends shelf name out events given files_are holds falls x = record {
   text = x.text;
   own = x.own;

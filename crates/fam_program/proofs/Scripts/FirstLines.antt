@@ -37,10 +37,12 @@ value_is said x y first second = sym (ap (λ r. result_unwrap_or r x) first) ∙
 abbrev pub NoFeed : List ℕ → ℕ → Type 0
 NoFeed script i = (k : ℕ) → k < i → is_line_feed (get_or script k 0) ≡ false
 
-pub cut_at : (script : List ℕ) (i : ℕ) → i < length script → NoFeed script i → is_line_feed (get_or script i 0) ≡ true → SplitsAtLine script (take i script) (take (length script - (i + 1)) (drop (i + 1) script))
+pub cut_at : (script : List ℕ) (i : ℕ) → i < length script → NoFeed script i → is_line_feed (get_or script i 0) ≡ true
+    → SplitsAtLine script (take i script) (take (length script - (i + 1)) (drop (i + 1) script))
 cut_at script i within none here =
     let at : position_or_len is_line_feed script ≡ i = position_or_len_is is_line_feed script i 0 (omega arith) none (λ _. here) in
-    inl (slice_split_first is_line_feed script 0 (omega (arith, at, within)) ∙ ap (λ (k : ℕ). take k script ∷ lines_of (drop (k + 1) script)) at ∙ ap (λ (bytes : List ℕ). take i script ∷ lines_of bytes) (sym (take_rest script (i + 1))))
+    inl (slice_split_first is_line_feed script 0 (omega (arith, at, within)) ∙ ap (λ (k : ℕ). take k script ∷ lines_of (drop (k + 1) script)) at
+    ∙ ap (λ (bytes : List ℕ). take i script ∷ lines_of bytes) (sym (take_rest script (i + 1))))
 
 pub cut_none : (script : List ℕ) (i : ℕ) → i ≡ length script → NoFeed script i → SplitsAtLine script script []
 cut_none script i all none = inr (slice_split_none is_line_feed script (All-from_get_or (λ byte. is_line_feed byte ≡ false) script 0 (λ k within. none k (omega (arith, all, within)))), refl)
@@ -63,7 +65,8 @@ behind event number (Ok more) events is = record { more = more; rest_is = refl; 
 behind event number (Err bad) events is = absurd (false≢true (is_ok_by (Err bad) events is))
 
 -- whatever the number of the first line is
-renumber_by : (said : LineReading Event) (rest again : Result (List Event) (ℕ × ℕ)) (n m : ℕ) (events : List Event) → ((more : List Event) → rest ≡ Ok more → again ≡ Ok more) → with_line said n rest ≡ Ok events → with_line said m again ≡ Ok events
+renumber_by : (said : LineReading Event) (rest again : Result (List Event) (ℕ × ℕ)) (n m : ℕ) (events : List Event)
+    → ((more : List Event) → rest ≡ Ok more → again ≡ Ok more) → with_line said n rest ≡ Ok events → with_line said m again ≡ Ok events
 renumber_by (Ok None) rest again n m events same is = same events is
 renumber_by (Ok (Some event)) rest again n m events same is =
     let b = behind event n rest events is in
@@ -106,7 +109,8 @@ module _ (script line rest : List ℕ) (cut : SplitsAtLine script line rest) whe
         let all = ok_is (script_events script) good in
         by_event event (sym (by_line ∙ ap (λ (said : LineReading Event). with_line said 1 (events_from line_reads 2 (lines_of rest))) says) ∙ all.1) all.1
       where
-        by_event : {events : List Event} (event : Option Event) → with_line (Ok event) 1 (events_from line_reads 2 (lines_of rest)) ≡ Ok events → script_events script ≡ Ok events → StartsWith script event rest
+        by_event : {events : List Event} (event : Option Event) → with_line (Ok event) 1 (events_from line_reads 2 (lines_of rest)) ≡ Ok events
+            → script_events script ≡ Ok events → StartsWith script event rest
         by_event {events} None is all = record { events = events; rest = script_is rest ∙ renumber 2 1 (lines_of rest) events is; all = all }
         by_event {events} (Some event) is all =
             let b = behind event 1 (events_from line_reads 2 (lines_of rest)) events is in
@@ -114,7 +118,8 @@ module _ (script line rest : List ℕ) (cut : SplitsAtLine script line rest) whe
 
 -- Events within their limits.
 
-sound_by : (said : LineReading Event) (number : ℕ) (rest : Result (List Event) (ℕ × ℕ)) → ((event : Option Event) → said ≡ Ok event → IfEvent event) → IfOk rest AreSoundEvents → IfOk (with_line said number rest) AreSoundEvents
+sound_by : (said : LineReading Event) (number : ℕ) (rest : Result (List Event) (ℕ × ℕ)) → ((event : Option Event) → said ≡ Ok event → IfEvent event)
+    → IfOk rest AreSoundEvents → IfOk (with_line said number rest) AreSoundEvents
 sound_by (Ok None) number rest one more = more
 sound_by (Ok (Some event)) number (Ok events) one more = (one (Some event) refl, more)
 sound_by (Ok (Some event)) number (Err bad) one more = tt
@@ -124,5 +129,6 @@ sound_from : ((line : List ℕ) (event : Option Event) → line_reads line ≡ O
 sound_from law number [] = tt
 sound_from law number (line ∷ lines) = sound_by (line_reads line) number (events_from line_reads (number + 1) lines) (law line) (sound_from law (number + 1) lines)
 
-pub all_sound : ((line : List ℕ) (event : Option Event) → line_reads line ≡ Ok event → IfEvent event) → (script : List ℕ) (events : List Event) → script_events script ≡ Ok events → AreSoundEvents events
+pub all_sound : ((line : List ℕ) (event : Option Event) → line_reads line ≡ Ok event → IfEvent event) → (script : List ℕ) (events : List Event)
+    → script_events script ≡ Ok events → AreSoundEvents events
 all_sound law script events is = subst (λ (r : Result (List Event) (ℕ × ℕ)). IfOk r AreSoundEvents) (sym (script_is script) ∙ is) (sound_from law 1 (lines_of script))

@@ -20,7 +20,8 @@ use Rattle.fam_program.proofs.Scripts.FirstLines.{all_sound, is_ok_by, none_in, 
 
 -- The events of the lines that were read are done, and those of the rest are left. Media and shelf came from one state to another
 -- since the run began.
-pub record LinesRun {M S : Type 0} (size : M → ℕ) (state : M → MediaState) (shelf_state : S → ShelfState) (script rest : List ℕ) (media here : M) (shelf shelf_here : S) (world : WorldView) (copied : ℕ) : Type 0 where
+pub record LinesRun {M S : Type 0} (size : M → ℕ) (state : M → MediaState) (shelf_state : S → ShelfState) (script rest : List ℕ) (media here : M)
+    (shelf shelf_here : S) (world : WorldView) (copied : ℕ) : Type 0 where
   pub events : List Event
   pub reads : script_events script ≡ Ok events
   pub passed : List Event
@@ -30,7 +31,9 @@ pub record LinesRun {M S : Type 0} (size : M → ℕ) (state : M → MediaState)
 
 module _ {M S : Type 0} {size : M → ℕ} {state : M → MediaState} {shelf_state : S → ShelfState} {script : List ℕ} {media : M} {shelf : S} where
   -- before the first line
-  pub first_run : {world : WorldView} → IsOk (script_events script) → ((line : List ℕ) (event : Option Event) → line_reads line ≡ Ok event → IfEvent event) → world ≡ empty_world → IfModelled (state media).image IsImage
+  pub first_run : {world : WorldView} → IsOk (script_events script)
+      → ((line : List ℕ) (event : Option Event) → line_reads line ≡ Ok event → IfEvent event) → world ≡ empty_world
+      → IfModelled (state media).image IsImage
       → LinesRun size state shelf_state script script media media shelf shelf world 0
   first_run good law fresh is_image =
       let all = ok_is (script_events script) good in
@@ -57,13 +60,15 @@ module _ {M S : Type 0} {size : M → ℕ} {state : M → MediaState} {shelf_sta
     same_events events reads = value_is (script_events script) r.events events r.reads reads
 
     -- no memory is left to read the next line
-    pub short_end : (events : List Event) → script_events script ≡ Ok events → (sink : SinkChange) → HasEnded EndsOutOfMemory (outside_of size state media here (change shelf_state shelf shelf_here) sink) events world.journal
+    pub short_end : (events : List Event) → script_events script ≡ Ok events → (sink : SinkChange)
+        → HasEnded EndsOutOfMemory (outside_of size state media here (change shelf_state shelf shelf_here) sink) events world.journal
     short_end events reads sink =
         subst (λ (es : List Event). HasEnded EndsOutOfMemory (outside_of size state media here (change shelf_state shelf shelf_here) sink) es world.journal) (same_events events reads)
         (prefix_ended (base_of r.events (size media) (state media) (shelf_state shelf)) (length r.passed) (now_of world (state here) copied) r.turns.far (change shelf_state shelf shelf_here) sink)
 
     -- no line is left: all events are done
-    pub lines_end : rest ≡ [] → (events : List Event) → script_events script ≡ Ok events → (sink : SinkChange) → HasEnded AllDone (outside_of size state media here (change shelf_state shelf shelf_here) sink) events world.journal
+    pub lines_end : rest ≡ [] → (events : List Event) → script_events script ≡ Ok events → (sink : SinkChange)
+        → HasEnded AllDone (outside_of size state media here (change shelf_state shelf shelf_here) sink) events world.journal
     lines_end none events reads sink =
         subst (λ (es : List Event). HasEnded AllDone (outside_of size state media here (change shelf_state shelf shelf_here) sink) es world.journal) (same_events events reads)
         (all_end r.turns (all_passed r.turns (none_left none)) sink)
@@ -97,7 +102,10 @@ module _ {M S : Type 0} {size : M → ℕ} {state : M → MediaState} {shelf_sta
     }
 
     -- or ended the run
-    pub one_ends : {event : Event} {next : M} {shelf_next : S} {after : WorldView} {read : ℕ} {x : EventFault} → Turned size state shelf_state r.events media next shelf shelf_next (now_of world (state here) copied) after read r.passed event (Err x)
-        → (events : List Event) → script_events script ≡ Ok events → (sink : SinkChange) → HasEnded (ending_of x) (outside_of size state media next (change shelf_state shelf shelf_next) sink) events after.journal
+    pub one_ends : {event : Event} {next : M} {shelf_next : S} {after : WorldView} {read : ℕ} {x : EventFault}
+        → Turned size state shelf_state r.events media next shelf shelf_next (now_of world (state here) copied) after read r.passed event (Err x)
+        → (events : List Event) → script_events script ≡ Ok events → (sink : SinkChange)
+        → HasEnded (ending_of x) (outside_of size state media next (change shelf_state shelf shelf_next) sink) events after.journal
     one_ends {event} {next} {shelf_next} {after} {read} {x} t events reads sink =
-        subst (λ (es : List Event). HasEnded (ending_of x) (outside_of size state media next (change shelf_state shelf shelf_next) sink) es after.journal) (same_events events reads) (fault_ends t sink)
+        subst (λ (es : List Event). HasEnded (ending_of x) (outside_of size state media next (change shelf_state shelf shelf_next) sink) es
+        after.journal) (same_events events reads) (fault_ends t sink)

@@ -36,7 +36,9 @@ use Rattle.fam_program.proofs.Runs.Ends.{all_ended, broken_ended, broken_on, bro
 use Rattle.fam_program.proofs.Texts.Pieces.{IsOwn, all_put, front_put, has_put, part_has_put, put_both, put_failed}
 
 -- a run with its text and its status
-abbrev to_run : (ending : Ending) (out : Outside) (events : List Event) (journal : List Note) (text : List ℕ) (own : Status) → HasEnded ending out events journal → ScriptPuts ending journal text → own ≡ script_status ending journal → HasRun ScriptPuts script_status ending out events text own
+abbrev to_run : (ending : Ending) (out : Outside) (events : List Event) (journal : List Note) (text : List ℕ) (own : Status)
+    → HasEnded ending out events journal → ScriptPuts ending journal text → own ≡ script_status ending journal
+    → HasRun ScriptPuts script_status ending out events text own
 to_run ending out events journal text own x text_is status_is = record {
   journal = journal;
   named = x.named;
@@ -77,7 +79,14 @@ module _ (files : Files) where
 
   last_of : (events : List Event) (e : Event) (old : Session) (journal : List Note) (new : Session) → Follows files (events ++ e ∷ []) old journal new → LastOf events e old journal new
   last_of [] e old journal new f =
-      record { mid = old; first = []; rest = f.1; follows = (refl, refl); does = subst (λ (s : Session). DoesEvent files e old f.1 s) (sym f.4.1) f.3; joined = f.5 ∙ ap (λ (ns : List Note). f.1 ++ ns) f.4.0 ∙ append-nil f.1 }
+      record {
+        mid = old;
+        first = [];
+        rest = f.1;
+        follows = (refl, refl);
+        does = subst (λ (s : Session). DoesEvent files e old f.1 s) (sym f.4.1) f.3;
+        joined = f.5 ∙ ap (λ (ns : List Note). f.1 ++ ns) f.4.0 ∙ append-nil f.1;
+      }
   last_of (x ∷ events) e old journal new f =
       let l = last_of events e f.0 f.2 new f.4 in
       record {
@@ -121,21 +130,27 @@ module _ (b : Base) (shelf : ShelfChange) (all : SinkChange) where
   out_at n = out_of b n shelf all
 
   -- of the events that are done the notes are put
-  prefix_each : (count : ℕ) (n : Now) (start : Image) (files : Files) (last : Session) → Follows files (take count b.events) (first_session start) n.world.journal last → HasPut (out_at n) (render n.world.journal)
+  prefix_each : (count : ℕ) (n : Now) (start : Image) (files : Files) (last : Session)
+      → Follows files (take count b.events) (first_session start) n.world.journal last → HasPut (out_at n) (render n.world.journal)
       → (n.world.journal ≡ []) ⊎ ((l : FollowsLast files b.events (first_session start) n.world.journal last) × HasPut (out_at n) (render l.whole_notes))
   prefix_each count n start files last follows put = by_last (at_last b.events count)
     where
-      by_last : (take count b.events ≡ []) ⊎ AtLast b.events count → (n.world.journal ≡ []) ⊎ ((l : FollowsLast files b.events (first_session start) n.world.journal last) × HasPut (out_at n) (render l.whole_notes))
+      by_last : (take count b.events ≡ []) ⊎ AtLast b.events count
+          → (n.world.journal ≡ []) ⊎ ((l : FollowsLast files b.events (first_session start) n.world.journal last)
+          × HasPut (out_at n) (render l.whole_notes))
       by_last (inl none) = inl (subst (λ (es : List Event). Follows files es (first_session start) n.world.journal last) none follows).0
       by_last (inr l) =
-          let f = last_of files (take l.place b.events) l.event (first_session start) n.world.journal last (subst (λ (es : List Event). Follows files es (first_session start) n.world.journal last) l.taken follows) in
+          let f = last_of files (take l.place b.events) l.event (first_session start) n.world.journal last
+          (subst (λ (es : List Event). Follows files es (first_session start) n.world.journal last) l.taken follows) in
           inr (
             record { count = l.place; event = l.event; is = l.is; mid = f.mid; whole_notes = f.first; part_notes = f.rest; whole = f.follows; part = f.does; joined = f.joined },
             front_put (out_at n) (render f.first) (render_behind (names_behind [] f.first) f.rest) (subst (HasPut (out_at n)) (ap render f.joined ∙ render_more f.first f.rest) put),
           )
 
   -- all events are done
-  pub all_script : (n : Now) (count : ℕ) → Far b count n → take count b.events ≡ b.events → all.new.bytes ≡ option_map (with_piece (render n.world.journal)) all.old.bytes → ScriptRan b.events (out_at n) (good_status (is_good n.world.journal))
+  pub all_script : (n : Now) (count : ℕ) → Far b count n → take count b.events ≡ b.events
+      → all.new.bytes ≡ option_map (with_piece (render n.world.journal)) all.old.bytes
+      → ScriptRan b.events (out_at n) (good_status (is_good n.world.journal))
   all_script n count far whole put =
       let x = all_ended b count n far shelf all whole in
       record {
@@ -148,12 +163,14 @@ module _ (b : Base) (shelf : ShelfChange) (all : SinkChange) where
         put = record { outcome = inl (refl, put); rose = λ e. absurd (good_own n.world.journal e) };
       }
 
-  module _ (s : SinkChange) (now_is : all.new.bytes ≡ s.new.bytes) (sink_is : all.new.faults ≡ s.new.faults) (later : all.old.faults ≤ s.old.faults) (n : Now) (mid : s.old.bytes ≡ option_map (with_piece (render n.world.journal)) all.old.bytes) (given : Status) where
+  module _ (s : SinkChange) (now_is : all.new.bytes ≡ s.new.bytes) (sink_is : all.new.faults ≡ s.new.faults) (later : all.old.faults ≤ s.old.faults)
+      (n : Now) (mid : s.old.bytes ≡ option_map (with_piece (render n.world.journal)) all.old.bytes) (given : Status) where
     -- behind the notes of some first events those of one more that were put, and the line that says that no memory is left
     abbrev short_text : ℕ → List Note → List ℕ
     short_text count more = render_behind (names_behind [] n.world.journal) (take count more) ++ memory_line
 
-    short_is : (m : Now) (more : List Note) → m.world.journal ≡ n.world.journal ++ more → (count : ℕ) → render n.world.journal ++ short_text count more ≡ render (take (length n.world.journal + count) m.world.journal) ++ memory_line
+    short_is : (m : Now) (more : List Note) → m.world.journal ≡ n.world.journal ++ more → (count : ℕ)
+        → render n.world.journal ++ short_text count more ≡ render (take (length n.world.journal + count) m.world.journal) ++ memory_line
     short_is m more joined count =
         sym (append_assoc (render n.world.journal) (render_behind (names_behind [] n.world.journal) (take count more)) memory_line)
         ∙ ap (λ (t : List ℕ). t ++ memory_line)
@@ -166,7 +183,8 @@ module _ (b : Base) (shelf : ShelfChange) (all : SinkChange) where
       text = render n.world.journal ++ short_text put.0 more;
       own = status.OutOfMemory;
       ending = EndsOutOfMemory;
-      run = to_run EndsOutOfMemory (out_at m) b.events m.world.journal (render n.world.journal ++ short_text put.0 more) status.OutOfMemory x (length n.world.journal + put.0, short_is m more joined put.0) refl;
+      run = to_run EndsOutOfMemory (out_at m) b.events m.world.journal (render n.world.journal ++ short_text put.0 more) status.OutOfMemory x
+          (length n.world.journal + put.0, short_is m more joined put.0) refl;
       whole = λ e. absurd cc;
       each = each;
       put = put_both (out_at m) (render n.world.journal) (short_text put.0 more) s now_is sink_is later mid status.OutOfMemory given memory_own put.1;
@@ -200,7 +218,8 @@ module _ (b : Base) (shelf : ShelfChange) (all : SinkChange) where
       more_text notes joined = ap render joined ∙ render_more n.world.journal notes
 
       -- the media failed in a mkfs
-      broken_script : (x : EventBroken e a) (text : List ℕ) → text ≡ render_behind (names_behind [] n.world.journal) x.adds.notes → Put status.MediaFault text s given → ScriptRan b.events (out_at m) given
+      broken_script : (x : EventBroken e a) (text : List ℕ) → text ≡ render_behind (names_behind [] n.world.journal) x.adds.notes
+          → Put status.MediaFault text s given → ScriptRan b.events (out_at m) given
       broken_script x text text_is put = record {
         text = render n.world.journal ++ text;
         own = status.MediaFault;
@@ -221,7 +240,8 @@ module _ (b : Base) (shelf : ShelfChange) (all : SinkChange) where
         text = render n.world.journal ++ short_text put.0 x.adds.notes;
         own = status.OutOfMemory;
         ending = EndsOutOfMemoryBroken;
-        run = to_run EndsOutOfMemoryBroken (out_at m) b.events m.world.journal (render n.world.journal ++ short_text put.0 x.adds.notes) status.OutOfMemory (broken_wants b count n m far e is shelf all x)
+        run = to_run EndsOutOfMemoryBroken (out_at m) b.events m.world.journal (render n.world.journal ++ short_text put.0 x.adds.notes)
+            status.OutOfMemory (broken_wants b count n m far e is shelf all x)
             (length n.world.journal + put.0, short_is m x.adds.notes x.adds.joined put.0) refl;
         whole = λ e. absurd cc;
         each = λ start told_is files files_are.
@@ -238,12 +258,14 @@ module _ (b : Base) (shelf : ShelfChange) (all : SinkChange) where
         text = render n.world.journal ++ source_line (end_of end);
         own = status.SourceFault;
         ending = SourceFails (end_of end);
-        run = to_run (SourceFails (end_of end)) (out_at m) b.events m.world.journal (render n.world.journal ++ source_line (end_of end)) status.SourceFault (source_ended b count n m far e is shelf all end x cause)
+        run = to_run (SourceFails (end_of end)) (out_at m) b.events m.world.journal (render n.world.journal ++ source_line (end_of end))
+            status.SourceFault (source_ended b count n m far e is shelf all end x cause)
             (ap (λ (j : List Note). render j ++ source_line (end_of end)) (sym same)) refl;
         whole = λ e. absurd cc;
         each = λ start told_is files files_are. (
           (source_ended b count n m far e is shelf all end x cause).told start told_is files files_are,
-          subst (λ (j : List Note). HasPut (out_at m) (render j)) (sym same) (has_put (out_at m) (render n.world.journal) (source_line (end_of end)) s now_is sink_is later mid status.SourceFault given put),
+          subst (λ (j : List Note). HasPut (out_at m) (render j)) (sym same)
+              (has_put (out_at m) (render n.world.journal) (source_line (end_of end)) s now_is sink_is later mid status.SourceFault given put),
         );
         put = put_both (out_at m) (render n.world.journal) (source_line (end_of end)) s now_is sink_is later mid status.SourceFault given source_own put;
       }
@@ -260,13 +282,18 @@ module _ (b : Base) (shelf : ShelfChange) (all : SinkChange) where
               let f = far.on start told_is files files_are in
               let k = x.keeps start files f.last.machines files_are f.left f.held in
               let same : session f.last.machines n.copied ≡ f.last = ap (λ (c : ℕ). session f.last.machines c) (sym f.copied) in
-              part_each start files f.last f.follows k.comes.last k.comes.notes k.comes.joined k.held.kept.held.legal k.comes.told_is (held_reads_as start k.comes.last.machines m.world k.comes.last.machines.memory k.held)
+              part_each start files f.last f.follows k.comes.last k.comes.notes k.comes.joined k.held.kept.held.legal k.comes.told_is
+              (held_reads_as start k.comes.last.machines m.world k.comes.last.machines.memory k.held)
               (subst (λ (z : Session). ((k.comes.notes ≡ []) × (k.comes.last ≡ z)) ⊎ PartOf files e z k.comes.notes k.comes.last) same k.comes.does)
             where
-              part_each : (start : Image) (files : Files) (old : Session) → Follows files (take count b.events) (first_session start) n.world.journal old → (last : Session) (notes : List Note) → m.world.journal ≡ n.world.journal ++ notes
-                  → Rattle.fam_journal.specs.Legal.Legal start m.world.journal → m.media.image ≡ Some last.machines.memory → Rattle.fam_journal.specs.Ends.ReadsAs (Rattle.fam_journal.specs.Past.past_of start m.world.journal).state last.machines.memory
+              part_each : (start : Image) (files : Files) (old : Session)
+                  → Follows files (take count b.events) (first_session start) n.world.journal old → (last : Session) (notes : List Note)
+                  → m.world.journal ≡ n.world.journal ++ notes
+                  → Rattle.fam_journal.specs.Legal.Legal start m.world.journal → m.media.image ≡ Some last.machines.memory
+                  → Rattle.fam_journal.specs.Ends.ReadsAs (Rattle.fam_journal.specs.Past.past_of start m.world.journal).state last.machines.memory
                   → ((notes ≡ []) × (last ≡ old)) ⊎ PartOf files e old notes last
-                  → (run : RunsOn EndsOutOfMemory files b.events start m.media.image m.world.journal) × PutsEach EndsOutOfMemory files b.events (first_session start) m.world.journal run.last run.follows (out_at m)
+                  → (run : RunsOn EndsOutOfMemory files b.events start m.media.image m.world.journal) × PutsEach EndsOutOfMemory files b.events
+                  (first_session start) m.world.journal run.last run.follows (out_at m)
               part_each start files old follows last notes joined legal left reads (inr part) = (
                 record {
                   last = last;
@@ -275,12 +302,26 @@ module _ (b : Base) (shelf : ShelfChange) (all : SinkChange) where
                   left = left;
                   reads = reads;
                 },
-                inr (inr (record { count = count; event = e; is = is; mid = old; whole_notes = n.world.journal; part_notes = notes; whole = follows; part = part; joined = joined }, put_before m x.adds.notes put)),
+                inr (inr (
+                  record {
+                    count = count;
+                    event = e;
+                    is = is;
+                    mid = old;
+                    whole_notes = n.world.journal;
+                    part_notes = notes;
+                    whole = follows;
+                    part = part;
+                    joined = joined;
+                  },
+                  put_before m x.adds.notes put,
+                )),
               )
               part_each start files old follows last notes joined legal left reads (inl none) =
                   let same : m.world.journal ≡ n.world.journal = joined ∙ ap (λ (ns : List Note). n.world.journal ++ ns) none.0 ∙ append-nil n.world.journal in
                   let here : Follows files (take count b.events) (first_session start) m.world.journal last =
-                  subst (λ (j : List Note). Follows files (take count b.events) (first_session start) j last) (sym same) (subst (λ (z : Session). Follows files (take count b.events) (first_session start) n.world.journal z) (sym none.1) follows) in
+                  subst (λ (j : List Note). Follows files (take count b.events) (first_session start) j last) (sym same)
+                  (subst (λ (z : Session). Follows files (take count b.events) (first_session start) n.world.journal z) (sym none.1) follows) in
                   let each = prefix_each count m start files last here (subst (λ (j : List Note). HasPut (out_at m) (render j)) (sym same) (put_before m x.adds.notes put)) in
                   (record { last = last; legal = legal; follows = inl record { count = count; follows = here }; left = left; reads = reads }, by_each last here each)
                 where
@@ -293,7 +334,17 @@ module _ (b : Base) (shelf : ShelfChange) (all : SinkChange) where
       -- an event whose source ended early has done nothing
       ended_part : (end : SourceEnd) → EventEnded e end a → EventPart e a
       ended_part end x = record {
-        adds = record { notes = x.adds.notes; joined = x.adds.joined; named = x.adds.named; counted = x.adds.counted; later = x.adds.later; fits = x.adds.fits; shaped = x.adds.shaped; shape = inl x.adds.shape.none };
+        adds = record {
+          notes = x.adds.notes;
+          joined = x.adds.joined;
+          named = x.adds.named;
+          counted = x.adds.counted;
+          later = x.adds.later;
+          fits =
+              x.adds.fits;
+          shaped = x.adds.shaped;
+          shape = inl x.adds.shape.none;
+        };
         keeps = λ start files state files_are told_is held.
             let k = x.keeps start files state files_are told_is held in
             record {
@@ -307,22 +358,29 @@ module _ (b : Base) (shelf : ShelfChange) (all : SinkChange) where
       source_want_script end x put = part_script (ended_part end x) (0, put)
 
       -- the names and notes that are said are those of the journal
-      short_as : (names : List (List ℕ)) → names ≡ names_behind [] n.world.journal → (more notes : List Note) → more ≡ notes → PutShort names more s given → PutShort (names_behind [] n.world.journal) notes s given
+      short_as : (names : List (List ℕ)) → names ≡ names_behind [] n.world.journal → (more notes : List Note) → more ≡ notes
+          → PutShort names more s given → PutShort (names_behind [] n.world.journal) notes s given
       short_as names names_are more notes same put =
           subst (λ (ns : List Note). PutShort (names_behind [] n.world.journal) ns s given) same (subst (λ (ns : List (List ℕ)). PutShort ns more s given) names_are put)
 
-      pub stop_script : (x : EventFault) → EventSays e shelf a (Err x) → (names : List (List ℕ)) → names ≡ names_behind [] n.world.journal → (more : List Note) → ((notes : List Note) → m.world.journal ≡ n.world.journal ++ notes → more ≡ notes)
+      pub stop_script : (x : EventFault) → EventSays e shelf a (Err x) → (names : List (List ℕ)) → names ≡ names_behind [] n.world.journal
+          → (more : List Note) → ((notes : List Note) → m.world.journal ≡ n.world.journal ++ notes → more ≡ notes)
           → StopSays x names more s given → ScriptRan b.events (out_at m) given
       stop_script fault.MkfsFailed says names names_are more more_is (inl put) =
-          broken_script says (render_behind names more) (ap (λ (ns : List (List ℕ)). render_behind ns more) names_are ∙ ap (render_behind (names_behind [] n.world.journal)) (more_is says.adds.notes says.adds.joined)) put
+          broken_script says (render_behind names more)
+          (ap (λ (ns : List (List ℕ)). render_behind ns more) names_are ∙ ap (render_behind (names_behind [] n.world.journal))
+          (more_is says.adds.notes says.adds.joined)) put
       stop_script fault.MkfsFailed says names names_are more more_is (inr put) = broken_want_script says (short_as names names_are more says.adds.notes (more_is says.adds.notes says.adds.joined) put)
       stop_script (fault.SourceEnded end) says names names_are more more_is (inl put) = source_script end says.0 says.1 put
       stop_script (fault.SourceEnded end) says names names_are more more_is (inr put) = source_want_script end says.0 put
       stop_script fault.OutOfMemory says names names_are more more_is put = part_script says (short_as names names_are more says.adds.notes (more_is says.adds.notes says.adds.joined) put)
 
   -- the sink failed behind an event that is done
-  module _ (s : SinkChange) (now_is : all.new.bytes ≡ s.new.bytes) (sink_is : all.new.faults ≡ s.new.faults) (later : all.old.faults ≤ s.old.faults) (n m : Now) (mid : s.old.bytes ≡ option_map (with_piece (render n.world.journal)) all.old.bytes) (count : ℕ) (far : Far b count n) (e : Event) (is : slice_get b.events count ≡ Some e) where
-    pub sink_script : (x : EventDone e (next_of b n m)) (text : List ℕ) → text ≡ render_behind (names_behind [] n.world.journal) x.adds.notes → PutPart text s → ScriptRan b.events (out_at m) status.SinkFault
+  module _ (s : SinkChange) (now_is : all.new.bytes ≡ s.new.bytes) (sink_is : all.new.faults ≡ s.new.faults) (later : all.old.faults ≤ s.old.faults)
+      (n m : Now) (mid : s.old.bytes ≡ option_map (with_piece (render n.world.journal)) all.old.bytes) (count : ℕ) (far : Far b count n) (e : Event)
+      (is : slice_get b.events count ≡ Some e) where
+    pub sink_script : (x : EventDone e (next_of b n m)) (text : List ℕ) → text ≡ render_behind (names_behind [] n.world.journal) x.adds.notes
+        → PutPart text s → ScriptRan b.events (out_at m) status.SinkFault
     sink_script x text text_is put =
         let failed = put_failed (out_at m) (render n.world.journal) text s now_is sink_is later mid put in
         record {

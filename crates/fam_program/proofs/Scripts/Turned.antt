@@ -27,11 +27,13 @@ use Rattle.fam_program.proofs.Texts.Pieces.{pieces}
 
 module _ {M S K : Type 0} {size : M → ℕ} {state : M → MediaState} {shelf_state : S → ShelfState} (sink_state : K → SinkState) {events : List Event} {media : M} {shelf : S} (out : K) where
   -- all events are done, and their text was put
-  pub all_put : {here : M} {shelf_here : S} {world : WorldView} {copied : ℕ} {passed left : List Event} → Turns size state shelf_state events media here shelf shelf_here world copied passed left → take (length passed) events ≡ events
+  pub all_put : {here : M} {shelf_here : S} {world : WorldView} {copied : ℕ} {passed left : List Event}
+      → Turns size state shelf_state events media here shelf shelf_here world copied passed left → take (length passed) events ≡ events
       → (last : K) → (sink_state last).bytes ≡ option_map (with_piece (render world.journal)) (sink_state out).bytes
       → ScriptRan events (outside_of size state media here (change shelf_state shelf shelf_here) (change sink_state out last)) (good_status (is_good world.journal))
   all_put {here} {shelf_here} {world} {copied} {passed} t all last put =
-      all_script (base_of events (size media) (state media) (shelf_state shelf)) (change shelf_state shelf shelf_here) (change sink_state out last) (now_of world (state here) copied) (length passed) t.far all put
+      all_script (base_of events (size media) (state media) (shelf_state shelf)) (change shelf_state shelf shelf_here) (change sink_state out last)
+      (now_of world (state here) copied) (length passed) t.far all put
 
   module _ {next : M} {shelf_next : S} {here : Now} {world : WorldView} {copied : ℕ} {passed : List Event} {e : Event} where
     module _ {said : Result (Unit {0}) EventFault} (t : Turned size state shelf_state events media next shelf shelf_next here world copied passed e said) where
@@ -51,23 +53,29 @@ module _ {M S K : Type 0} {size : M → ℕ} {state : M → MediaState} {shelf_s
         notes_before = before kept here.world.journal world.journal kept_is adds.notes adds.joined
 
         -- with the text of its notes that of all is put
-        pub text_put : (names : List (List ℕ)) → names ≡ names_behind [] here.world.journal → (mid last : K) → (sink_state mid).bytes ≡ option_map (with_piece (render here.world.journal)) (sink_state out).bytes
-            → (sink_state last).bytes ≡ option_map (with_piece (render_behind names (drop (length kept) world.journal))) (sink_state mid).bytes → (sink_state last).bytes ≡ option_map (with_piece (render world.journal)) (sink_state out).bytes
+        pub text_put : (names : List (List ℕ)) → names ≡ names_behind [] here.world.journal → (mid last : K)
+            → (sink_state mid).bytes ≡ option_map (with_piece (render here.world.journal)) (sink_state out).bytes
+            → (sink_state last).bytes ≡ option_map (with_piece (render_behind names (drop (length kept) world.journal))) (sink_state mid).bytes
+            → (sink_state last).bytes ≡ option_map (with_piece (render world.journal)) (sink_state out).bytes
         text_put names names_are mid last first second =
             second
             ∙ ap (option_map (with_piece (render_behind names (drop (length kept) world.journal)))) first
             ∙ pieces (render here.world.journal) (render_behind names (drop (length kept) world.journal)) (sink_state out).bytes
-            ∙ ap (λ (t : List ℕ). option_map (with_piece (render here.world.journal ++ t)) (sink_state out).bytes) (text_is kept here.world.journal world.journal kept_is adds.notes adds.joined names names_are)
+            ∙ ap (λ (t : List ℕ). option_map (with_piece (render here.world.journal ++ t)) (sink_state out).bytes)
+            (text_is kept here.world.journal world.journal kept_is adds.notes adds.joined names names_are)
             ∙ ap (λ (t : List ℕ). option_map (with_piece t) (sink_state out).bytes) (sym (ap render adds.joined ∙ render_more here.world.journal adds.notes))
 
-    module _ (kept : List Kept) (kept_is : notes_view kept ≡ here.world.journal) (names : List (List ℕ)) (names_are : names ≡ names_behind [] here.world.journal) (mid last : K) (later : (sink_state out).faults ≤ (sink_state mid).faults)
+    module _ (kept : List Kept) (kept_is : notes_view kept ≡ here.world.journal) (names : List (List ℕ))
+        (names_are : names ≡ names_behind [] here.world.journal) (mid last : K) (later : (sink_state out).faults ≤ (sink_state mid).faults)
         (put : (sink_state mid).bytes ≡ option_map (with_piece (render here.world.journal)) (sink_state out).bytes) where
       -- the event ended the run, which was said behind what came of it
       pub stop_put : {x : EventFault} {given : Status} → Turned size state shelf_state events media next shelf shelf_next here world copied passed e (Err x)
           → StopSays x names (drop (length kept) world.journal) (change sink_state mid last) given
           → ScriptRan events (outside_of size state media next (change shelf_state shelf shelf_next) (change sink_state out last)) given
       stop_put {x} {given} t says =
-          stop_script (base_of events (size media) (state media) (shelf_state shelf)) (change shelf_state shelf shelf_next) (change sink_state out last) (change sink_state mid last) refl refl later here put given (length passed) t.far e t.is (now_of world (state next) copied) x t.says
+          stop_script (base_of events (size media) (state media) (shelf_state shelf)) (change shelf_state shelf shelf_next)
+          (change sink_state out last) (change sink_state mid last) refl refl later here put given (length passed) t.far e t.is
+          (now_of world (state next) copied) x t.says
           names names_are (drop (length kept) world.journal) (λ notes joined. rest kept here.world.journal world.journal kept_is notes joined) says
 
       -- the sink failed at the notes of the event
@@ -75,7 +83,9 @@ module _ {M S K : Type 0} {size : M → ℕ} {state : M → MediaState} {shelf_s
           → PutPart (render_behind names (drop (length kept) world.journal)) (change sink_state mid last)
           → ScriptRan events (outside_of size state media next (change shelf_state shelf shelf_next) (change sink_state out last)) status.SinkFault
       failed_put t part =
-          sink_script (base_of events (size media) (state media) (shelf_state shelf)) (change shelf_state shelf shelf_next) (change sink_state out last) (change sink_state mid last) refl refl later here (now_of world (state next) copied) put (length passed) t.far e t.is t.says
+          sink_script (base_of events (size media) (state media) (shelf_state shelf)) (change shelf_state shelf shelf_next)
+          (change sink_state out last) (change sink_state mid last) refl refl later here (now_of world (state next) copied) put
+          (length passed) t.far e t.is t.says
           (render_behind names (drop (length kept) world.journal)) (text_is kept here.world.journal world.journal kept_is t.says.adds.notes t.says.adds.joined names names_are) part
 
       -- no memory was left for them
@@ -83,6 +93,9 @@ module _ {M S K : Type 0} {size : M → ℕ} {state : M → MediaState} {shelf_s
           → PutShort names (drop (length kept) world.journal) (change sink_state mid last) given
           → ScriptRan events (outside_of size state media next (change shelf_state shelf shelf_next) (change sink_state out last)) given
       short_put {given} t short =
-          want_script (base_of events (size media) (state media) (shelf_state shelf)) (change shelf_state shelf shelf_next) (change sink_state out last) (change sink_state mid last) refl refl later here put given (length passed) t.far e t.is (now_of world (state next) copied) t.says (done_far t)
-          (subst (λ (ns : List Note). PutShort (names_behind [] here.world.journal) ns (change sink_state mid last) given) (rest kept here.world.journal world.journal kept_is t.says.adds.notes t.says.adds.joined)
+          want_script (base_of events (size media) (state media) (shelf_state shelf)) (change shelf_state shelf shelf_next)
+          (change sink_state out last) (change sink_state mid last) refl refl later here put given (length passed) t.far e t.is
+          (now_of world (state next) copied) t.says (done_far t)
+          (subst (λ (ns : List Note). PutShort (names_behind [] here.world.journal) ns (change sink_state mid last) given)
+          (rest kept here.world.journal world.journal kept_is t.says.adds.notes t.says.adds.joined)
           (subst (λ (ns : List (List ℕ)). PutShort ns (drop (length kept) world.journal) (change sink_state mid last) given) names_are short))

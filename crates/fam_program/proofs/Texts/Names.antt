@@ -51,7 +51,8 @@ text_both names (note ∷ a) b =
     ∙ sym (append_assoc (note_line names note) (render_behind (names_after names note) a) (render_behind (names_behind (names_after names note) a) b))
 
 -- it is the front of the text of all
-pub text_front : (names : List (List ℕ)) (notes : List Note) (k : ℕ) → render_behind names notes ≡ render_behind names (take k notes) ++ render_behind (names_behind names (take k notes)) (drop k notes)
+pub text_front : (names : List (List ℕ)) (notes : List Note) (k : ℕ) → render_behind names notes ≡ render_behind names (take k notes)
+    ++ render_behind (names_behind names (take k notes)) (drop k notes)
 text_front names notes k = ap (render_behind names) (sym (take-append-drop k notes)) ∙ text_both names (take k notes) (drop k notes)
 
 -- one note more

@@ -13,7 +13,8 @@ use Rattle.fam_program.specs.declared.numbers.NumberLine.{NumberLine}
 use Rattle.fam_program.specs.Shots.{is_short, number_text}
 
 -- words that are written before a tail
-pub placed : (words tail xs : List ℕ) (start digits : ℕ) → digits ≤ length xs → start + length words ≡ digits → drop digits xs ≡ tail → drop start (put_mid start (digits - start) xs words) ≡ words ++ tail
+pub placed : (words tail xs : List ℕ) (start digits : ℕ) → digits ≤ length xs → start + length words ≡ digits → drop digits xs ≡ tail
+    → drop start (put_mid start (digits - start) xs words) ≡ words ++ tail
 placed words tail xs start digits within sum is =
     drop_at (take start xs) (words ++ post_of start (digits - start) xs) start (length-take-le start xs (omega arith))
     ∙ ap (λ (ys : List ℕ). words ++ ys) (drop-drop (digits - start) start xs ∙ ap (λ (n : ℕ). drop n xs) (omega arith) ∙ is)
@@ -26,7 +27,8 @@ last_view test (note ∷ []) last = refl
 last_view test (note ∷ next ∷ front) last = last_view test (next ∷ front) last
 
 module _ (front : List Kept) (last : Kept) (notes : List Kept) (is : notes ≡ front ++ last ∷ []) where
-  pub last_text : (r : Option NumberLine) → ((names : List (List ℕ)) → IfSome r (λ short. note_text names (note_view last) ≡ number_text short)) → IfSome r (λ short. shown (notes_view notes) ≡ number_text short)
+  pub last_text : (r : Option NumberLine) → ((names : List (List ℕ)) → IfSome r (λ short. note_text names (note_view last) ≡ number_text short))
+      → IfSome r (λ short. shown (notes_view notes) ≡ number_text short)
   last_text None text = tt
   last_text (Some short) text =
       ap (λ (ns : List Kept). shown (notes_view ns)) is ∙ sym (shown_is front last) ∙ text (names_behind [] (notes_view front))

@@ -94,7 +94,8 @@ short_some names notes old mid new later given some put =
 abbrev pub IsOwn : Status → Type 0
 IsOwn own = own ≡ status.SinkFault → ⊥
 
-module _ (out : Outside) (a b : List ℕ) (s : SinkChange) (now_is : out.sink.new.bytes ≡ s.new.bytes) (sink_now : out.sink.new.faults ≡ s.new.faults) (sink : out.sink.old.faults ≤ s.old.faults) (mid : s.old.bytes ≡ option_map (with_piece a) out.sink.old.bytes) where
+module _ (out : Outside) (a b : List ℕ) (s : SinkChange) (now_is : out.sink.new.bytes ≡ s.new.bytes) (sink_now : out.sink.new.faults ≡ s.new.faults)
+    (sink : out.sink.old.faults ≤ s.old.faults) (mid : s.old.bytes ≡ option_map (with_piece a) out.sink.old.bytes) where
   rose_out : Rose s.old.faults s.new.faults → HasRisen out.sink.old.faults out.sink.new.faults
   rose_out (inl less) = omega (arith, less, sink, sink_now)
   rose_out (inr full) = omega (arith, full, sink_now)

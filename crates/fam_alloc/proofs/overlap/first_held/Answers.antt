@@ -7,7 +7,8 @@ use Rattle.fam_alloc.specs.Taken.{holds}
 use Rattle.fam_alloc.proofs.overlap.first_held.Goals as goal
 
 -- all of the extents
-whole : (unit start end first n : ℕ) (extents : List Extent) → n ≡ length extents → IsNext (holds (units_in unit (take n extents))) true start end first → IsNext (holds (units_in unit extents)) true start end first
+whole : (unit start end first n : ℕ) (extents : List Extent) → n ≡ length extents
+    → IsNext (holds (units_in unit (take n extents))) true start end first → IsNext (holds (units_in unit extents)) true start end first
 whole unit start end first n extents e h =
     subst (λ (xs : List Extent). IsNext (holds (units_in unit xs)) true start end first) (ap (λ (k : ℕ). take k extents) e ∙ take-length extents) h
 

@@ -5,4 +5,5 @@ use Rattle.fam_alloc.proofs.overlap.first_overlap.Given as goal
 
 abbrev pub invariant-loop-i : goal.invariant-loop-i
 invariant-loop-i g l =
-    first_overlap (λ u. g.M.Occupied.is_used l.map u || holds (units_in l.unit (take l.i l.extents)) u) (units_in l.unit (drop l.i l.extents)) ≡ first_overlap (g.M.Occupied.is_used l.map) (units_in l.unit l.extents)
+    first_overlap (λ u. g.M.Occupied.is_used l.map u || holds (units_in l.unit (take l.i l.extents)) u) (units_in l.unit (drop l.i l.extents))
+    ≡ first_overlap (g.M.Occupied.is_used l.map) (units_in l.unit l.extents)

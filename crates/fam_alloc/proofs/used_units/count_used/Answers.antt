@@ -7,7 +7,8 @@ use Rattle.fam_alloc.proofs.used_units.count_used.Goals as goal
 pub loop-unit-preserved : goal.loop-unit-preserved
 loop-unit-preserved c = record {
   within = omega (arith, c.next-end.ensures.high);
-  counted = run_counted (is_bit_set c.args.words.now.items) c.loop-unit.unit c.args.units c.next-start.result c.next-end.result c.loop-unit.count c.loop-unit.invariant.counted c.next-start.ensures c.next-end.ensures;
+  counted = run_counted (is_bit_set c.args.words.now.items) c.loop-unit.unit c.args.units c.next-start.result c.next-end.result c.loop-unit.count
+      c.loop-unit.invariant.counted c.next-start.ensures c.next-end.ensures;
   few = omega (arith, c.loop-unit.invariant.few, c.next-start.ensures.low, c.next-end.ensures.low);
 }
 

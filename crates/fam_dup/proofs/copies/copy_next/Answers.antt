@@ -21,7 +21,8 @@ copy_entry-requires c =
 pub returns-in-Ok-clause-told : goal.returns-in-Ok-clause-told
 returns-in-Ok-clause-told c =
     on_ok_weaker c.add_copy.result
-    (λ added. goes_on c.args.copies.now.params c.args.source.now.entries c.args.copies.now.entries c.args.seq c.entry_at-entry.result c.requires.next c.entry_at-entry.ensures.at c.in-Ok.copy c.add_copy.new.copies.entries added c.in-Ok.ensures.value)
+    (λ added. goes_on c.args.copies.now.params c.args.source.now.entries c.args.copies.now.entries c.args.seq c.entry_at-entry.result c.requires.next
+    c.entry_at-entry.ensures.at c.in-Ok.copy c.add_copy.new.copies.entries added c.in-Ok.ensures.value)
     c.add_copy.ensures.added
 
 pub returns-in-Ok-clause-alike : goal.returns-in-Ok-clause-alike
@@ -38,7 +39,9 @@ returns-in-Ok-clause-alike c =
 pub returns-in-Ok-clause-fault : goal.returns-in-Ok-clause-fault
 returns-in-Ok-clause-fault c =
     IfErr-weaker c.add_copy.result _ _
-    (λ fault full all. subst (λ (k : FaultClass). Names k (copies_or all (copying_from c.args.copies.now.params (drop (length c.args.copies.now.entries) c.args.source.now.entries) c.args.copies.now.entries))) (sym full) tt)
+    (λ fault full all. subst (λ (k : FaultClass).
+    Names k (copies_or all (copying_from c.args.copies.now.params (drop (length c.args.copies.now.entries) c.args.source.now.entries)
+    c.args.copies.now.entries))) (sym full) tt)
     c.add_copy.ensures.full
 
 pub returns-in-Err-clause-fault : goal.returns-in-Err-clause-fault

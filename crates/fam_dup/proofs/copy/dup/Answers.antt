@@ -19,8 +19,15 @@ use Rattle.fam_dup.proofs.Asking.{asked_cut, asked_from, asked_memory, asked_non
 use Rattle.fam_dup.proofs.copy.dup.Goals as goal
 
 pub returns-then-lines-lt-LEAST_LINES-clause-ends : goal.returns-then-lines-lt-LEAST_LINES-clause-ends
-returns-then-lines-lt-LEAST_LINES-clause-ends g c = λ source told old is.
-    (old, is, (small_from source old c.args.params.now c.args.force c.lines-lines.result (c.lines-lines.ensures.count ∙ sym (g.met.M.Media.modelled c.args.from.now source told)) c.if-lines-lt-LEAST_LINES.true, refl))
+returns-then-lines-lt-LEAST_LINES-clause-ends g c = λ source told old is. (
+  old,
+  is,
+  (
+    small_from source old c.args.params.now c.args.force c.lines-lines.result
+        (c.lines-lines.ensures.count ∙ sym (g.met.M.Media.modelled c.args.from.now source told)) c.if-lines-lt-LEAST_LINES.true,
+    refl,
+  ),
+)
 
 pub returns-in_err-source-clause-ends : goal.returns-in_err-source-clause-ends
 returns-in_err-source-clause-ends g c =
@@ -66,7 +73,9 @@ returns-in_err-copies-clause-ends g c =
       old,
       t.same ∙ is,
       (
-        names_found (fault_class c.in_err-copies.field-0.0) _ _ (free_to source old p force s.params s.entries enough (c.in_ok-source.ensures.told source told) (t.free old is)) (c.in_err-copies.ensures.fault s.entries),
+        names_found (fault_class c.in_err-copies.field-0.0) _ _
+            (free_to source old p force s.params s.entries enough (c.in_ok-source.ensures.told source told) (t.free old is))
+            (c.in_err-copies.ensures.fault s.entries),
         left_alone source old old p force (fault_class c.in_err-copies.field-0.0) refl,
       ),
     ))
@@ -101,10 +110,12 @@ returns-in_err-write_copy-clause-ends g c =
     let fits : p.device ≤ line_bytes * length old = omega (arith, c.requires.asked.device, g.met.N.Media.modelled c.args.to.now old is) in
     let at_cut : AreCutAt (IsStep s.entries k.entries c.in_err-write_copy.field-0.0) (copy_puts (line_at source) p s.entries k.entries) (Some old) new =
     subst (λ (r : Params). AreCutAt (IsStep s.entries k.entries c.in_err-write_copy.field-0.0) (copy_puts (line_at source) r s.entries k.entries) (Some old) new) c.in_ok-copies.ensures.params
-    (subst (λ (o : Option Image). AreCutAt (IsStep s.entries k.entries c.in_err-write_copy.field-0.0) (copy_puts (line_at source) k.params s.entries k.entries) o new) (t.same ∙ is) (e.puts source (c.in_ok-source.ensures.same ∙ told))) in
+    (subst (λ (o : Option Image). AreCutAt (IsStep s.entries k.entries c.in_err-write_copy.field-0.0)
+    (copy_puts (line_at source) k.params s.entries k.entries) o new) (t.same ∙ is) (e.puts source (c.in_ok-source.ensures.same ∙ told))) in
     let cut = at_cut.cut in
     let after = cut_some (copy_puts (line_at source) p s.entries k.entries) old new cut in
-    let left : LinesPartlyPut (copy_puts (line_at source) p s.entries k.entries) (Some old) (Some after.0) = subst (λ (o : Option Image). LinesPartlyPut (copy_puts (line_at source) p s.entries k.entries) (Some old) o) after.1 cut in (
+    let left : LinesPartlyPut (copy_puts (line_at source) p s.entries k.entries) (Some old) (Some after.0) =
+    subst (λ (o : Option Image). LinesPartlyPut (copy_puts (line_at source) p s.entries k.entries) (Some old) o) after.1 cut in (
       after.0,
       after.1,
       failed_ends source old after.0 p force (fault_class c.in_err-write_copy.field-0.0) (finding source old p force) _ _ _ _ e.failed
@@ -199,7 +210,8 @@ returns-in_err-write_copy-clause-asked g c =
       copies = k.entries;
       found = copied_to source old p force s.params s.entries enough (c.in_ok-source.ensures.told source told) (t.free old is) k.entries c.in_ok-copies.ensures.told;
       cut = subst (λ (r : Params). AreCutAt (IsStep s.entries k.entries f) (copy_puts (line_at source) r s.entries k.entries) (Some old) new) c.in_ok-copies.ensures.params
-          (subst (λ (o : Option Image). AreCutAt (IsStep s.entries k.entries f) (copy_puts (line_at source) k.params s.entries k.entries) o new) (t.same ∙ is) (e.puts source (c.in_ok-source.ensures.same ∙ told)));
+          (subst (λ (o : Option Image). AreCutAt (IsStep s.entries k.entries f) (copy_puts (line_at source) k.params s.entries k.entries) o new)
+          (t.same ∙ is) (e.puts source (c.in_ok-source.ensures.same ∙ told)));
     }))
 
 -- How often a media that counts exactly has failed.

@@ -39,9 +39,13 @@ returns-in_err-copy_run-clause-puts g c = λ image told.
     let bytes : List ℕ = bytes_in (line_at image) c.args.entry.now in
     let p = err_from_is_err_and c.from_residual.result c.from_residual.ensures.1 in
     rw (p.1, p.2)
-    (run_cut_short (file_line copy) (file_words bytes) (file_puts copy bytes) c.loop-j.j c.run_of-count.result c.lines_of-lines.result (g.N.Media.state c.args.to.now).image (g.N.Media.state c.loop-j.to).image (g.N.Media.state c.copy_run.new.to).image
+    (run_cut_short (file_line copy) (file_words bytes) (file_puts copy bytes) c.loop-j.j c.run_of-count.result c.lines_of-lines.result
+    (g.N.Media.state c.args.to.now).image (g.N.Media.state c.loop-j.to).image (g.N.Media.state c.copy_run.new.to).image
     (omega (arith, c.run_of-count.ensures.most, c.min.ensures, v.within)) (v.passed image told)
-    (subst (λ (n : ℕ). AreCutAt (IsFileStep c.args.entry.now copy c.in_err-copy_run.field-0.0) (part_puts copy bytes c.loop-j.j n) (g.N.Media.state c.loop-j.to).image (g.N.Media.state c.copy_run.new.to).image) (length-take-le c.run_of-count.result c.loop-j.buffer (omega (arith, c.run_of-count.ensures.most, c.min.ensures))) (c.in_err-copy_run.ensures.puts image (v.same ∙ told))))
+    (subst (λ (n : ℕ). AreCutAt (IsFileStep c.args.entry.now copy c.in_err-copy_run.field-0.0) (part_puts copy bytes c.loop-j.j n)
+    (g.N.Media.state c.loop-j.to).image (g.N.Media.state c.copy_run.new.to).image)
+    (length-take-le c.run_of-count.result c.loop-j.buffer (omega (arith, c.run_of-count.ensures.most, c.min.ensures)))
+    (c.in_err-copy_run.ensures.puts image (v.same ∙ told))))
 
 pub loop-j-preserved : goal.loop-j-preserved
 loop-j-preserved g c =
@@ -52,9 +56,12 @@ loop-j-preserved g c =
     record {
       passed = λ image told.
           let bytes : List ℕ = bytes_in (line_at image) c.args.entry.now in
-          run_part (file_line copy) (file_words bytes) (file_puts copy bytes) c.loop-j.j c.run_of-count.result c.lines_of-lines.result (g.N.Media.state c.args.to.now).image (g.N.Media.state c.loop-j.to).image (g.N.Media.state c.copy_run.new.to).image
+          run_part (file_line copy) (file_words bytes) (file_puts copy bytes) c.loop-j.j c.run_of-count.result c.lines_of-lines.result
+          (g.N.Media.state c.args.to.now).image (g.N.Media.state c.loop-j.to).image (g.N.Media.state c.copy_run.new.to).image
           fits (v.passed image told)
-          (subst (λ (n : ℕ). ArePut (part_puts copy bytes c.loop-j.j n) (g.N.Media.state c.loop-j.to).image (g.N.Media.state c.copy_run.new.to).image) (length-take-le c.run_of-count.result c.loop-j.buffer (omega (arith, c.run_of-count.ensures.most, c.min.ensures))) (e.puts image (v.same ∙ told)));
+          (subst (λ (n : ℕ). ArePut (part_puts copy bytes c.loop-j.j n) (g.N.Media.state c.loop-j.to).image (g.N.Media.state c.copy_run.new.to).image)
+          (length-take-le c.run_of-count.result c.loop-j.buffer (omega (arith, c.run_of-count.ensures.most, c.min.ensures)))
+          (e.puts image (v.same ∙ told)));
       within = fits;
       buffer = search rules;
       same = e.same ∙ v.same;
@@ -68,4 +75,5 @@ pub returns-clause-puts : goal.returns-clause-puts
 returns-clause-puts g c = λ image told.
     let copy = c.args.copy.now in
     let bytes : List ℕ = bytes_in (line_at image) c.args.entry.now in
-    row_end (file_line copy) (file_words bytes) (file_puts copy bytes) c.loop-j.j c.lines_of-lines.result (g.N.Media.state c.args.to.now).image (g.N.Media.state c.loop-j.to).image (omega (arith, c.loop-j-test.false)) (c.loop-j.invariant.passed image told)
+    row_end (file_line copy) (file_words bytes) (file_puts copy bytes) c.loop-j.j c.lines_of-lines.result (g.N.Media.state c.args.to.now).image
+    (g.N.Media.state c.loop-j.to).image (omega (arith, c.loop-j-test.false)) (c.loop-j.invariant.passed image told)

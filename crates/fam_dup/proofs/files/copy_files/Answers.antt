@@ -58,7 +58,9 @@ loop-seq-preserved g c =
           let old : Option Image = (g.N.Media.state c.args.to.now).image in
           let mid : Option Image = (g.N.Media.state c.loop-seq.to).image in
           pass_part all mine rest old mid (g.N.Media.state c.copy_file.new.to).image
-          (subst (λ (l : List Put). ArePassed all l old mid) (files_at (line_at image) entries copies c.loop-seq.seq c.entry_at-entry.result c.entry_at-copy.result c.entry_at-entry.ensures.at c.entry_at-copy.ensures.at) (v.passed image told))
+          (subst (λ (l : List Put). ArePassed all l old mid)
+          (files_at (line_at image) entries copies c.loop-seq.seq c.entry_at-entry.result c.entry_at-copy.result c.entry_at-entry.ensures.at
+          c.entry_at-copy.ensures.at) (v.passed image told))
           (e.puts image (v.same ∙ told));
       buffer = e.buffer ∙ v.buffer;
       same = e.same ∙ v.same;
@@ -81,8 +83,20 @@ returns-in_err-copy_file-clause-puts g c = λ image told.
     let p = err_from_is_err_and c.from_residual.result c.from_residual.ensures.1 in
     rw (p.1, p.2)
     (pass_cut all mine rest old mid (g.N.Media.state c.copy_file.new.to).image
-    (subst (λ (l : List Put). ArePassed all l old mid) (files_at (line_at image) entries copies c.loop-seq.seq c.entry_at-entry.result c.entry_at-copy.result c.entry_at-entry.ensures.at c.entry_at-copy.ensures.at) (v.passed image told))
-    (cut_as {By = IsStep entries copies c.in_err-copy_file.field-0.0} _ _ _ (λ put at. record { step = inr (c.loop-seq.seq, c.entry_at-entry.result, c.entry_at-copy.result, c.entry_at-entry.ensures.at, c.entry_at-copy.ensures.at, at) })
+    (subst (λ (l : List Put). ArePassed all l old mid)
+    (files_at (line_at image) entries copies c.loop-seq.seq c.entry_at-entry.result c.entry_at-copy.result c.entry_at-entry.ensures.at
+    c.entry_at-copy.ensures.at) (v.passed image told))
+    (cut_as {By = IsStep entries copies c.in_err-copy_file.field-0.0} _ _ _
+    (λ put at. record {
+      step = inr (
+        c.loop-seq.seq,
+        c.entry_at-entry.result,
+        c.entry_at-copy.result,
+        c.entry_at-entry.ensures.at,
+        c.entry_at-copy.ensures.at,
+        at,
+      );
+    })
     (c.in_err-copy_file.ensures.puts image (v.same ∙ told))))
 
 pub returns-clause-puts : goal.returns-clause-puts

@@ -15,8 +15,10 @@ use Rattle.fam_dup.proofs.files.copy_run.Goals as goal
 pub returns-in_err-read_parts-clause-puts : goal.returns-in_err-read_parts-clause-puts
 returns-in_err-read_parts-clause-puts g c = λ image told.
     let p = err_from_is_err_and c.from_residual.result c.from_residual.ensures.1 in
-    rw (p.1, p.2) (parts_before {At = IsFileStep c.args.entry.now c.args.copy.now c.in_err-read_parts.field-0.0} c.args.copy.now (bytes_in (line_at image) c.args.entry.now) c.args.j (length c.args.lines.now) c.requires.some (g.N.Media.state c.args.to.now).image
-    (file_step c.args.entry.now c.args.copy.now _ c.args.j (length c.args.lines.now) c.requires.below c.requires.few c.in_err-read_parts.field-0.0 c.in_err-read_parts.ensures.failed c.in_err-read_parts.ensures.at))
+    rw (p.1, p.2) (parts_before {At = IsFileStep c.args.entry.now c.args.copy.now c.in_err-read_parts.field-0.0} c.args.copy.now
+    (bytes_in (line_at image) c.args.entry.now) c.args.j (length c.args.lines.now) c.requires.some (g.N.Media.state c.args.to.now).image
+    (file_step c.args.entry.now c.args.copy.now _ c.args.j (length c.args.lines.now) c.requires.below c.requires.few c.in_err-read_parts.field-0.0
+    c.in_err-read_parts.ensures.failed c.in_err-read_parts.ensures.at))
 
 pub file_line-requires-clause-below : goal.file_line-requires-clause-below
 file_line-requires-clause-below g c = omega (arith, c.requires.below 0 c.requires.some, c.requires.size)
@@ -28,7 +30,8 @@ write_lines-requires g c =
     record {
       within = omega (
         arith,
-        file_within file.params c.args.copy.now (c.args.j + last) (g.N.Media.size c.args.to.now) file.sound file.proper (omega (arith, c.requires.size, c.requires.below last (omega (arith, c.requires.some)))) file.device,
+        file_within file.params c.args.copy.now (c.args.j + last) (g.N.Media.size c.args.to.now) file.sound file.proper
+            (omega (arith, c.requires.size, c.requires.below last (omega (arith, c.requires.some)))) file.device,
         c.requires.together_copy last (omega (arith, c.requires.some)),
         c.file_line.ensures.value,
         c.requires.some,

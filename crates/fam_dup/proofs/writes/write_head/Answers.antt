@@ -17,14 +17,17 @@ returns-in_err-write_to-clause-puts g c =
     let header : List ℕ = log_words p in
     let first : List ℕ = get_or c.spell.result 1 [] in
     let second : List ℕ = get_or c.spell.result 2 [] in
-    let parts = head_parts p c.args.count header first second refl (first_words p first second c.are_words.ensures.count c.spell.ensures.words) (other_words p first second c.are_words-2.ensures.count c.spell.ensures.words) in
+    let parts = head_parts p c.args.count header first second refl (first_words p first second c.are_words.ensures.count c.spell.ensures.words)
+    (other_words p first second c.are_words-2.ensures.count c.spell.ensures.words) in
     let one : List Put = (gate_line, gate_words c.args.count) ∷ [] in
     let two : List Put = (log_line, header) ∷ [] in
     let three : List Put = (1, first) ∷ [] in
     let four : List Put = (2, second) ∷ [] in
     let t0 : Option Image = (g.N.Media.state c.args.to.now).image in
     let q = err_from_is_err_and c.from_residual.result c.from_residual.ensures.1 in
-    rw (q.1, q.2) (cut_2 (head_puts p c.args.count) [] one two three four parts t0 t0 (g.N.Media.state c.write_to.new.to).image (g.N.Media.state c.write_to.new.to).image (g.N.Media.state c.write_to.new.to).image (g.N.Media.state c.write_to.new.to).image (put_none t0) c.in_err-write_to.ensures.puts)
+    rw (q.1, q.2) (cut_2 (head_puts p c.args.count) [] one two three four parts t0 t0 (g.N.Media.state c.write_to.new.to).image
+    (g.N.Media.state c.write_to.new.to).image (g.N.Media.state c.write_to.new.to).image (g.N.Media.state c.write_to.new.to).image
+    (put_none t0) c.in_err-write_to.ensures.puts)
 
 pub returns-in_err-write_to-2-clause-puts : goal.returns-in_err-write_to-2-clause-puts
 returns-in_err-write_to-2-clause-puts g c =
@@ -32,14 +35,18 @@ returns-in_err-write_to-2-clause-puts g c =
     let header : List ℕ = c.spell_log.result in
     let first : List ℕ = get_or c.spell.result 1 [] in
     let second : List ℕ = get_or c.spell.result 2 [] in
-    let parts = head_parts p c.args.count header first second c.spell_log.ensures (first_words p first second c.are_words.ensures.count c.spell.ensures.words) (other_words p first second c.are_words-2.ensures.count c.spell.ensures.words) in
+    let parts = head_parts p c.args.count header first second c.spell_log.ensures
+    (first_words p first second c.are_words.ensures.count c.spell.ensures.words)
+    (other_words p first second c.are_words-2.ensures.count c.spell.ensures.words) in
     let one : List Put = (gate_line, gate_words c.args.count) ∷ [] in
     let two : List Put = (log_line, header) ∷ [] in
     let three : List Put = (1, first) ∷ [] in
     let four : List Put = (2, second) ∷ [] in
     let t0 : Option Image = (g.N.Media.state c.args.to.now).image in
     let q = err_from_is_err_and c.from_residual-in_err-write_to-2.result c.from_residual-in_err-write_to-2.ensures.1 in
-    rw (q.1, q.2) (cut_3 (head_puts p c.args.count) [] one two three four parts t0 t0 (g.N.Media.state c.write_to.new.to).image (g.N.Media.state c.write_to-2.new.to).image (g.N.Media.state c.write_to-2.new.to).image (g.N.Media.state c.write_to-2.new.to).image (put_none t0) c.in_ok-write_to.ensures.puts c.in_err-write_to-2.ensures.puts)
+    rw (q.1, q.2) (cut_3 (head_puts p c.args.count) [] one two three four parts t0 t0 (g.N.Media.state c.write_to.new.to).image
+    (g.N.Media.state c.write_to-2.new.to).image (g.N.Media.state c.write_to-2.new.to).image (g.N.Media.state c.write_to-2.new.to).image
+    (put_none t0) c.in_ok-write_to.ensures.puts c.in_err-write_to-2.ensures.puts)
 
 pub returns-in_err-write_to-3-clause-puts : goal.returns-in_err-write_to-3-clause-puts
 returns-in_err-write_to-3-clause-puts g c =
@@ -47,14 +54,18 @@ returns-in_err-write_to-3-clause-puts g c =
     let header : List ℕ = c.spell_log.result in
     let first : List ℕ = get_or c.spell.result 1 [] in
     let second : List ℕ = get_or c.spell.result 2 [] in
-    let parts = head_parts p c.args.count header first second c.spell_log.ensures (first_words p first second c.are_words.ensures.count c.spell.ensures.words) (other_words p first second c.are_words-2.ensures.count c.spell.ensures.words) in
+    let parts = head_parts p c.args.count header first second c.spell_log.ensures
+    (first_words p first second c.are_words.ensures.count c.spell.ensures.words)
+    (other_words p first second c.are_words-2.ensures.count c.spell.ensures.words) in
     let one : List Put = (gate_line, gate_words c.args.count) ∷ [] in
     let two : List Put = (log_line, header) ∷ [] in
     let three : List Put = (1, first) ∷ [] in
     let four : List Put = (2, second) ∷ [] in
     let t0 : Option Image = (g.N.Media.state c.args.to.now).image in
     let q = err_from_is_err_and c.from_residual-in_err-write_to-3.result c.from_residual-in_err-write_to-3.ensures.1 in
-    rw (q.1, q.2) (cut_4 (head_puts p c.args.count) [] one two three four parts t0 t0 (g.N.Media.state c.write_to.new.to).image (g.N.Media.state c.write_to-2.new.to).image (g.N.Media.state c.write_to-3.new.to).image (g.N.Media.state c.write_to-3.new.to).image (put_none t0) c.in_ok-write_to.ensures.puts c.in_ok-write_to-2.ensures.puts c.in_err-write_to-3.ensures.puts)
+    rw (q.1, q.2) (cut_4 (head_puts p c.args.count) [] one two three four parts t0 t0 (g.N.Media.state c.write_to.new.to).image
+    (g.N.Media.state c.write_to-2.new.to).image (g.N.Media.state c.write_to-3.new.to).image (g.N.Media.state c.write_to-3.new.to).image
+    (put_none t0) c.in_ok-write_to.ensures.puts c.in_ok-write_to-2.ensures.puts c.in_err-write_to-3.ensures.puts)
 
 pub returns-clause-puts : goal.returns-clause-puts
 returns-clause-puts g c =
@@ -62,10 +73,15 @@ returns-clause-puts g c =
     let header : List ℕ = c.spell_log.result in
     let first : List ℕ = get_or c.spell.result 1 [] in
     let second : List ℕ = get_or c.spell.result 2 [] in
-    let parts = head_parts p c.args.count header first second c.spell_log.ensures (first_words p first second c.are_words.ensures.count c.spell.ensures.words) (other_words p first second c.are_words-2.ensures.count c.spell.ensures.words) in
+    let parts = head_parts p c.args.count header first second c.spell_log.ensures
+    (first_words p first second c.are_words.ensures.count c.spell.ensures.words)
+    (other_words p first second c.are_words-2.ensures.count c.spell.ensures.words) in
     let one : List Put = (gate_line, gate_words c.args.count) ∷ [] in
     let two : List Put = (log_line, header) ∷ [] in
     let three : List Put = (1, first) ∷ [] in
     let four : List Put = (2, second) ∷ [] in
     let t0 : Option Image = (g.N.Media.state c.args.to.now).image in
-    ends_5 (head_puts p c.args.count) [] one two three four parts t0 t0 (g.N.Media.state c.write_to.new.to).image (g.N.Media.state c.write_to-2.new.to).image (g.N.Media.state c.write_to-3.new.to).image (g.N.Media.state c.write_to-4.new.to).image IsToStep c.write_to-4.result (put_none t0) c.in_ok-write_to.ensures.puts c.in_ok-write_to-2.ensures.puts c.in_ok-write_to-3.ensures.puts c.write_to-4.ensures.puts
+    ends_5 (head_puts p c.args.count) [] one two three four parts t0 t0 (g.N.Media.state c.write_to.new.to).image
+    (g.N.Media.state c.write_to-2.new.to).image (g.N.Media.state c.write_to-3.new.to).image (g.N.Media.state c.write_to-4.new.to).image IsToStep
+    c.write_to-4.result (put_none t0) c.in_ok-write_to.ensures.puts c.in_ok-write_to-2.ensures.puts c.in_ok-write_to-3.ensures.puts
+    c.write_to-4.ensures.puts

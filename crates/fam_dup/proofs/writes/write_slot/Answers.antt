@@ -13,7 +13,13 @@ use Rattle.fam_dup.proofs.writes.write_slot.Goals as goal
 
 pub write_to-requires : goal.write_to-requires
 write_to-requires g c = record {
-  within = omega (arith, slot_within c.args.params.now c.args.seq c.lines.j (g.N.Media.size c.args.to.now) c.requires.sound c.requires.slot (omega (arith, c.lines-test.true, c.shape_of-j-end.ensures.lines)) c.requires.device, c.line_of_slot.ensures, c.lines.invariant.steady.size);
+  within = omega (
+    arith,
+    slot_within c.args.params.now c.args.seq c.lines.j (g.N.Media.size c.args.to.now) c.requires.sound c.requires.slot
+        (omega (arith, c.lines-test.true, c.shape_of-j-end.ensures.lines)) c.requires.device,
+    c.line_of_slot.ensures,
+    c.lines.invariant.steady.size,
+  );
 }
 
 pub part_of-requires : goal.part_of-requires
@@ -31,7 +37,8 @@ lines-preserved g c =
     let is : ◌≡◌ {A = Put} (c.line_of_slot.result.0, c.part_of.result) (slot_line p c.args.seq c.lines.j, slot_part words c.lines.j) =
     ap₂ (λ (l : ℕ) (w : List ℕ). (l, w)) c.line_of_slot.ensures (c.part_of.ensures ∙ ap (λ (w : List ℕ). slot_part w c.lines.j) (c.words.ensures.same ∙ c.spell-slot.ensures)) in
     record {
-      passed = row_part (slot_line p c.args.seq) (slot_part words) (slot_puts p c.args.seq c.args.copy.now) c.lines.j (geometry p).lines (g.N.Media.state c.args.to.now).image (g.N.Media.state c.lines.to).image (g.N.Media.state c.write_to.new.to).image
+      passed = row_part (slot_line p c.args.seq) (slot_part words) (slot_puts p c.args.seq c.args.copy.now) c.lines.j (geometry p).lines
+          (g.N.Media.state c.args.to.now).image (g.N.Media.state c.lines.to).image (g.N.Media.state c.write_to.new.to).image
           (omega (arith, c.lines-test.true, c.shape_of-j-end.ensures.lines)) v.passed
           (subst (λ (put : Put). ArePut (put ∷ []) (g.N.Media.state c.lines.to).image (g.N.Media.state c.write_to.new.to).image) is e.puts);
       quiet = λ exact. e.quiet exact ∙ v.quiet exact;
@@ -47,7 +54,8 @@ returns-in_err-write_to-clause-puts g c =
     ap₂ (λ (l : ℕ) (w : List ℕ). (l, w)) c.line_of_slot.ensures (c.part_of.ensures ∙ ap (λ (w : List ℕ). slot_part w c.lines.j) (c.words.ensures.same ∙ c.spell-slot.ensures)) in
     let q = err_from_is_err_and c.from_residual.result c.from_residual.ensures.1 in
     rw (q.1, q.2)
-    (row_cut (slot_line p c.args.seq) (slot_part words) (slot_puts p c.args.seq c.args.copy.now) c.lines.j (geometry p).lines (g.N.Media.state c.args.to.now).image (g.N.Media.state c.lines.to).image (g.N.Media.state c.write_to.new.to).image
+    (row_cut (slot_line p c.args.seq) (slot_part words) (slot_puts p c.args.seq c.args.copy.now) c.lines.j (geometry p).lines
+    (g.N.Media.state c.args.to.now).image (g.N.Media.state c.lines.to).image (g.N.Media.state c.write_to.new.to).image
     (omega (arith, c.lines-test.true, c.shape_of-j-end.ensures.lines)) v.passed
     (subst (λ (put : Put). AreCutAt (IsToStep c.in_err-write_to.field-0.0) (put ∷ []) (g.N.Media.state c.lines.to).image (g.N.Media.state c.write_to.new.to).image) is c.in_err-write_to.ensures.puts))
 
@@ -55,4 +63,6 @@ pub returns-clause-puts : goal.returns-clause-puts
 returns-clause-puts g c =
     let p = c.args.params.now in
     let words : List ℕ = spelling (geometry p) c.args.copy.now c.args.seq in
-    row_end (slot_line p c.args.seq) (slot_part words) (slot_puts p c.args.seq c.args.copy.now) c.lines.j (geometry p).lines (g.N.Media.state c.args.to.now).image (g.N.Media.state c.lines.to).image (omega (arith, c.lines-test.false, c.shape_of-j-end.ensures.lines)) c.lines.invariant.passed
+    row_end (slot_line p c.args.seq) (slot_part words) (slot_puts p c.args.seq c.args.copy.now) c.lines.j (geometry p).lines
+    (g.N.Media.state c.args.to.now).image (g.N.Media.state c.lines.to).image (omega (arith, c.lines-test.false, c.shape_of-j-end.ensures.lines))
+    c.lines.invariant.passed

@@ -9,4 +9,7 @@ other byte mark test same = grind (arith, nat_tests)
 
 pub returns-in-len8-up-clause-none : goal.returns-in-len8-up-clause-none
 returns-in-len8-up-clause-none c =
-    OnTrue_from _ ((k : ℕ) → k < 8 → get_or c.args.bytes.now k 0 ≡ c.args.mark → ⊥) (λ all k below. other _ c.args.mark (each_of_eight (λ (byte : ℕ). not (nat_eq byte c.args.mark)) c.args.bytes.now _ _ _ _ _ _ _ _ refl refl refl refl refl refl refl refl all k below))
+    OnTrue_from _ ((k : ℕ) → k < 8 → get_or c.args.bytes.now k 0 ≡ c.args.mark → ⊥)
+    (λ all k below. other _ c.args.mark
+    (each_of_eight (λ (byte : ℕ). not (nat_eq byte c.args.mark)) c.args.bytes.now _ _ _ _ _ _ _ _ refl refl refl refl refl refl refl refl all k
+    below))

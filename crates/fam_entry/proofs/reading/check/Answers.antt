@@ -29,4 +29,5 @@ pub returns-in_err-check_path-clause-value : goal.returns-in_err-check_path-clau
 returns-in_err-check_path-clause-value c =
     let p = err_from_is_err_and c.from_residual-in_err-check_path.result c.from_residual-in_err-check_path.ensures.1 in
     let front = c.in_ok-seen.ensures.passed in
-    rw (p.1, p.2) (by_path c.args.params.now c.args.words.now c.args.seq c.in_err-check_path.field-0.0 front.crc front.number front.kind front.attributes (c.in_err-check_path.ensures.first (geometry c.args.params.now) (sym c.shape_of.ensures.path)))
+    rw (p.1, p.2) (by_path c.args.params.now c.args.words.now c.args.seq c.in_err-check_path.field-0.0 front.crc front.number front.kind
+    front.attributes (c.in_err-check_path.ensures.first (geometry c.args.params.now) (sym c.shape_of.ensures.path)))

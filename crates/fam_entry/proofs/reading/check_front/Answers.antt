@@ -36,7 +36,8 @@ returns-in_err-check_seq-clause-words c = words_of_slot c.args.words.now (geomet
 pub returns-in_err-check_kind-clause-fault : goal.returns-in_err-check_kind-clause-fault
 returns-in_err-check_kind-clause-fault c =
     let p = err_from_is_err_and c.from_residual-in_err-check_kind.result c.from_residual-in_err-check_kind.ensures.1 in
-    rw (p.1, p.2) (by_kind c.args.params.now c.args.words.now c.args.seq c.in_err-check_kind.field-0.0 (c.in_ok-seen.ensures.first (geometry c.args.params.now) c.requires) c.in_ok-check_seq.ensures c.in_err-check_kind.ensures)
+    rw (p.1, p.2) (by_kind c.args.params.now c.args.words.now c.args.seq c.in_err-check_kind.field-0.0
+    (c.in_ok-seen.ensures.first (geometry c.args.params.now) c.requires) c.in_ok-check_seq.ensures c.in_err-check_kind.ensures)
 
 pub returns-in_err-check_kind-clause-words : goal.returns-in_err-check_kind-clause-words
 returns-in_err-check_kind-clause-words c = words_of_slot c.args.words.now (geometry c.args.params.now).words c.requires c.check_crc.ensures.words
@@ -44,7 +45,9 @@ returns-in_err-check_kind-clause-words c = words_of_slot c.args.words.now (geome
 pub returns-in_err-check_attributes-clause-fault : goal.returns-in_err-check_attributes-clause-fault
 returns-in_err-check_attributes-clause-fault c =
     let p = err_from_is_err_and c.from_residual-in_err-check_attributes.result c.from_residual-in_err-check_attributes.ensures.1 in
-    rw (p.1, p.2) (by_attributes c.args.params.now c.args.words.now c.args.seq c.in_err-check_attributes.field-0.0 (c.in_ok-seen.ensures.first (geometry c.args.params.now) c.requires) c.in_ok-check_seq.ensures c.in_ok-check_kind.ensures c.in_err-check_attributes.ensures.first)
+    rw (p.1, p.2) (by_attributes c.args.params.now c.args.words.now c.args.seq c.in_err-check_attributes.field-0.0
+    (c.in_ok-seen.ensures.first (geometry c.args.params.now) c.requires) c.in_ok-check_seq.ensures c.in_ok-check_kind.ensures
+    c.in_err-check_attributes.ensures.first)
 
 pub returns-in_err-check_attributes-clause-words : goal.returns-in_err-check_attributes-clause-words
 returns-in_err-check_attributes-clause-words c = words_of_slot c.args.words.now (geometry c.args.params.now).words c.requires c.check_crc.ensures.words

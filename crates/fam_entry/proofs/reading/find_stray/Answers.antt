@@ -10,7 +10,8 @@ use Rattle.fam_entry.proofs.reading.find_stray.Goals as goal
 
 pub returns-then-is_stray : goal.returns-then-is_stray
 returns-then-is_stray c = λ g is.
-    ap (option_map Rest) (find_first (is_stray c.args.words.now) (g.words - 1 - extents_word) extents_word c.loop-i.i c.loop-i.invariant.from (omega (arith, c.loop-i-test.true, is)) (sym c.is_stray.ensures ∙ c.if-is_stray.true) c.loop-i.invariant.none)
+    ap (option_map Rest) (find_first (is_stray c.args.words.now) (g.words - 1 - extents_word) extents_word c.loop-i.i c.loop-i.invariant.from
+    (omega (arith, c.loop-i-test.true, is)) (sym c.is_stray.ensures ∙ c.if-is_stray.true) c.loop-i.invariant.none)
 
 pub loop-i-preserved : goal.loop-i-preserved
 loop-i-preserved c = record {
@@ -28,7 +29,9 @@ loop-i-preserved-then-begin_with_sixteen c = record {
   none = λ k low below.
       elim (cases_lt k c.loop-i.i) [
         | inl before ↦ c.loop-i.invariant.none k low before
-        | inr at ↦ zero_is_none c.args.words.now k (zero_within c.args.words.now c.loop-i.i (length c.args.words.now - 1 - c.loop-i.i) 16 k at below c.if-begin_with_sixteen.ensures.long c.if-begin_with_sixteen.ensures.zeros)
+        | inr at ↦ zero_is_none c.args.words.now k
+            (zero_within c.args.words.now c.loop-i.i (length c.args.words.now - 1 - c.loop-i.i) 16 k at below c.if-begin_with_sixteen.ensures.long
+            c.if-begin_with_sixteen.ensures.zeros)
       ];
 }
 
@@ -38,9 +41,13 @@ loop-i-preserved-then-begin_with_zeros c = record {
   none = λ k low below.
       elim (cases_lt k c.loop-i.i) [
         | inl before ↦ c.loop-i.invariant.none k low before
-        | inr at ↦ zero_is_none c.args.words.now k (zero_within c.args.words.now c.loop-i.i (length c.args.words.now - 1 - c.loop-i.i) 8 k at below c.if-begin_with_zeros.ensures.long c.if-begin_with_zeros.ensures.zeros)
+        | inr at ↦ zero_is_none c.args.words.now k
+            (zero_within c.args.words.now c.loop-i.i (length c.args.words.now - 1 - c.loop-i.i) 8 k at below c.if-begin_with_zeros.ensures.long
+            c.if-begin_with_zeros.ensures.zeros)
       ];
 }
 
 pub returns : goal.returns
-returns c = λ g is. ap (option_map Rest) (find_none (is_stray c.args.words.now) extents_word (g.words - 1 - extents_word) (λ k low below. c.loop-i.invariant.none k low (omega (arith, c.loop-i-test.false, is))))
+returns c = λ g is. ap (option_map Rest)
+    (find_none (is_stray c.args.words.now) extents_word (g.words - 1 - extents_word)
+    (λ k low below. c.loop-i.invariant.none k low (omega (arith, c.loop-i-test.false, is))))

@@ -15,7 +15,8 @@ returns-then-words-i-eq0 c =
 
 pub returns-then-is_stray_byte : goal.returns-then-is_stray_byte
 returns-then-is_stray_byte c =
-    sym (any_first (is_stray_byte c.args.words.now c.args.i) 8 0 c.loop-b.b (omega arith) (omega arith) (sym c.is_stray_byte.ensures ∙ c.if-is_stray_byte.true) (λ k low below. c.loop-b.invariant k below))
+    sym (any_first (is_stray_byte c.args.words.now c.args.i) 8 0 c.loop-b.b (omega arith) (omega arith)
+    (sym c.is_stray_byte.ensures ∙ c.if-is_stray_byte.true) (λ k low below. c.loop-b.invariant k below))
 
 pub loop-b-preserved : goal.loop-b-preserved
 loop-b-preserved c = below_more _ _ c.loop-b.invariant (sym c.is_stray_byte.ensures ∙ c.if-is_stray_byte.false)

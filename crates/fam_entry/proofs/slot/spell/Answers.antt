@@ -18,4 +18,7 @@ returns c =
     let last = c.shape_of-shape.result.words - 1 in
     ap (take c.shape_of-shape.result.words) (ap (set c.loop-i.words last) c.crc_words.ensures)
     ∙ ap (λ (n : ℕ). take n (set c.loop-i.words last (crc32 (bytes_of_words (take last c.loop-i.words))))) c.shape_of-shape.ensures.words
-    ∙ spelled_in_front (shape_of c.args.format) c.args.entry.now c.args.seq last c.loop-i.words (omega (arith, c.shape_of-shape.ensures.words, c.shape_of-shape.ensures.least)) (omega (arith, c.shape_of-shape.ensures.most, c.loop-i.invariant.0, c.shape_of-shape.ensures.least)) (λ k below. c.loop-i.invariant.1 k (omega (arith, below, c.loop-i-test.false)))
+    ∙ spelled_in_front (shape_of c.args.format) c.args.entry.now c.args.seq last c.loop-i.words
+    (omega (arith, c.shape_of-shape.ensures.words, c.shape_of-shape.ensures.least))
+    (omega (arith, c.shape_of-shape.ensures.most, c.loop-i.invariant.0, c.shape_of-shape.ensures.least))
+    (λ k below. c.loop-i.invariant.1 k (omega (arith, below, c.loop-i-test.false)))

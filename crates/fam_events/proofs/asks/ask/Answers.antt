@@ -16,8 +16,13 @@ pub returns-in-Err-clause-says : goal.returns-in-Err-clause-says
 returns-in-Err-clause-says g c = λ told faults modelled fits.
     let shelf : ShelfChange = change g.S.Shelf.state c.args.shelf.now c.args.shelf.now in
     let a : WorldChange = asking c.args.lines c.args.world.now c.refuse.new.world told faults (g.S.Shelf.state c.args.shelf.now).files c.args.copied.now c.args.copied.now in
-    asked_as c.args.name.now c.args.what shelf a c.refuse.result (WorldCall (Refuses c.args.name.now c.in-Err.cause) c.args.lines None c.args.world.now c.refuse.new.world) (c.refuse.new.world ≡ c.args.world.now) Refused (c.refuse.ensures.done c.args.lines) c.refuse.ensures.err c.refuse.ensures.undone
-    (λ w. may_not c.args.name.now c.args.what c.args.lines c.args.world.now c.requires.shaped fits told modelled faults (g.S.Shelf.state c.args.shelf.now).files c.args.copied.now c.refuse.new.world c.in-Err.cause (sym (c.may_begin.ensures.first (some_cmd (mounts c.args.what)) (some_mounts (mounts c.args.what) ∙ sym c.mounts.ensures)) ∙ ap refusal_given c.in-Err.is) w)
+    asked_as c.args.name.now c.args.what shelf a c.refuse.result
+    (WorldCall (Refuses c.args.name.now c.in-Err.cause) c.args.lines None c.args.world.now c.refuse.new.world)
+    (c.refuse.new.world ≡ c.args.world.now) Refused (c.refuse.ensures.done c.args.lines) c.refuse.ensures.err c.refuse.ensures.undone
+    (λ w. may_not c.args.name.now c.args.what c.args.lines c.args.world.now c.requires.shaped fits told modelled faults
+    (g.S.Shelf.state c.args.shelf.now).files c.args.copied.now c.refuse.new.world c.in-Err.cause
+    (sym (c.may_begin.ensures.first (some_cmd (mounts c.args.what)) (some_mounts (mounts c.args.what) ∙ sym c.mounts.ensures))
+    ∙ ap refusal_given c.in-Err.is) w)
     (λ same. subst (λ (w : WorldView). AskUndone (asking c.args.lines c.args.world.now w told faults (g.S.Shelf.state c.args.shelf.now).files c.args.copied.now c.args.copied.now)) (sym same)
     (undone c.args.name.now c.args.what c.args.lines c.args.world.now c.requires.shaped fits told modelled faults (g.S.Shelf.state c.args.shelf.now).files c.args.copied.now c.args.copied.now))
 

@@ -31,7 +31,10 @@ returns-in-Ready-clause-says g c = λ told faults modelled fits.
     let a : WorldChange = asking c.args.lines c.args.world.now c.start.new.world told faults (g.S.Shelf.state c.args.shelf.now).files c.args.copied.now now in
     let ready = ready_of shelf c.args.copied.now c.args.what now c.in-Ok.resolved.sourced c.in-Ready.cmd _ c.in-Ready.is c.in-Ready.cmd-is c.in-Ok.ensures.says in
     asked_as c.args.name.now c.args.what shelf a c.start.result _ (c.start.new.world ≡ c.args.world.now) Begun c.start.ensures.done c.start.ensures.err c.start.ensures.undone
-    (λ w. begun c.args.name.now c.args.what c.args.lines c.args.world.now c.requires.shaped fits told modelled faults (g.S.Shelf.state c.args.shelf.now).files c.args.copied.now (c.requires.free (some_cmd (mounts c.args.what)) (some_mounts (mounts c.args.what))) _ c.start.ensures.command c.start.new.world shelf now refl ready w)
+    (λ w. begun c.args.name.now c.args.what c.args.lines c.args.world.now c.requires.shaped fits told modelled faults
+    (g.S.Shelf.state c.args.shelf.now).files c.args.copied.now
+    (c.requires.free (some_cmd (mounts c.args.what)) (some_mounts (mounts c.args.what))) _ c.start.ensures.command c.start.new.world shelf now
+    refl ready w)
     (λ same. subst (λ (w : WorldView). AskUndone (asking c.args.lines c.args.world.now w told faults (g.S.Shelf.state c.args.shelf.now).files c.args.copied.now now)) (sym same)
     (undone c.args.name.now c.args.what c.args.lines c.args.world.now c.requires.shaped fits told modelled faults (g.S.Shelf.state c.args.shelf.now).files c.args.copied.now now))
 
@@ -42,7 +45,9 @@ returns-in-Unfit-clause-says g c = λ told faults modelled fits.
     let a : WorldChange = asking c.args.lines c.args.world.now c.refuse.new.world told faults (g.S.Shelf.state c.args.shelf.now).files c.args.copied.now now in
     let none = unfit_of shelf c.args.copied.now c.args.what now c.in-Ok.resolved.sourced c.in-Unfit.cause _ c.in-Unfit.is c.in-Unfit.cause-is c.in-Ok.ensures.says in
     asked_as c.args.name.now c.args.what shelf a c.refuse.result _ (c.refuse.new.world ≡ c.args.world.now) Refused (c.refuse.ensures.done c.args.lines) c.refuse.ensures.err c.refuse.ensures.undone
-    (λ w. unfit c.args.name.now c.args.what c.args.lines c.args.world.now c.requires.shaped fits told modelled faults (g.S.Shelf.state c.args.shelf.now).files c.args.copied.now (c.requires.free (some_cmd (mounts c.args.what)) (some_mounts (mounts c.args.what))) c.refuse.new.world _ shelf now refl none w)
+    (λ w. unfit c.args.name.now c.args.what c.args.lines c.args.world.now c.requires.shaped fits told modelled faults
+    (g.S.Shelf.state c.args.shelf.now).files c.args.copied.now
+    (c.requires.free (some_cmd (mounts c.args.what)) (some_mounts (mounts c.args.what))) c.refuse.new.world _ shelf now refl none w)
     (λ same. subst (λ (w : WorldView). AskUndone (asking c.args.lines c.args.world.now w told faults (g.S.Shelf.state c.args.shelf.now).files c.args.copied.now now)) (sym same)
     (undone c.args.name.now c.args.what c.args.lines c.args.world.now c.requires.shaped fits told modelled faults (g.S.Shelf.state c.args.shelf.now).files c.args.copied.now now))
 
@@ -50,7 +55,9 @@ pub returns-in-Ended-clause-says : goal.returns-in-Ended-clause-says
 returns-in-Ended-clause-says g c = λ told faults modelled fits.
     let shelf : ShelfChange = change g.S.Shelf.state c.args.shelf.now c.resolve.new.shelf in
     let over = subst (λ (z : Sourced). IsSourced shelf c.args.copied.now c.args.what c.in-Ok.resolved.copied z) c.in-Ended.is c.in-Ok.ensures.says in
-    ended c.args.name.now c.args.what c.args.lines c.args.world.now c.requires.shaped fits told modelled faults (g.S.Shelf.state c.args.shelf.now).files c.args.copied.now (c.requires.free (some_cmd (mounts c.args.what)) (some_mounts (mounts c.args.what))) c.in-Ended.end shelf refl over
+    ended c.args.name.now c.args.what c.args.lines c.args.world.now c.requires.shaped fits told modelled faults
+    (g.S.Shelf.state c.args.shelf.now).files c.args.copied.now
+    (c.requires.free (some_cmd (mounts c.args.what)) (some_mounts (mounts c.args.what))) c.in-Ended.end shelf refl over
 
 pub returns-in-Ready-clause-unstored : goal.returns-in-Ready-clause-unstored
 returns-in-Ready-clause-unstored g c = begun_so c.start.result _ c.start.ensures.unstored

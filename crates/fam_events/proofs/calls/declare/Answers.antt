@@ -9,5 +9,6 @@ pub returns : goal.returns
 returns c = record {
   says = λ lines told faults files copied modelled fits.
       subst (CallSays (Declares c.args.name.now c.args.uuid) (still lines c.args.world.now c.host.new.self told faults files copied)) (sym c.noted.ensures)
-      (quiet_says (Declares c.args.name.now c.args.uuid) lines c.args.world.now c.host.new.self c.is_uuid.ensures tt c.requires.shaped fits told faults files copied modelled c.host.result (c.host.ensures.answered lines) c.host.ensures.err);
+      (quiet_says (Declares c.args.name.now c.args.uuid) lines c.args.world.now c.host.new.self c.is_uuid.ensures tt c.requires.shaped fits told
+      faults files copied modelled c.host.result (c.host.ensures.answered lines) c.host.ensures.err);
 }

@@ -13,7 +13,12 @@ returns-clause-says g c = λ files copied.
     let a : WorldChange = world_change g.M.Media.size g.M.Media.state c.args.media.now c.evict.new.media c.args.world.now c.evict.new.self files copied copied in
     subst (CallSays call a) (sym c.noted.ensures)
     (media_says call a c.requires.shaped c.requires.fits refl tt c.evict.result c.evict.ensures.answered
-    (λ e. still_part a (record { world = c.evict.ensures.err e; media = ap (λ m. (g.M.Media.state m).image) (c.evict.ensures.undone e); count = ap (λ m. (g.M.Media.state m).faults) (c.evict.ensures.undone e) }) call c.requires.shaped c.requires.fits))
+    (λ e. still_part a (record {
+      world = c.evict.ensures.err e;
+      media = ap (λ m. (g.M.Media.state m).image) (c.evict.ensures.undone e);
+      count =
+          ap (λ m. (g.M.Media.state m).faults) (c.evict.ensures.undone e);
+    }) call c.requires.shaped c.requires.fits))
 
 pub returns-clause-untouched : goal.returns-clause-untouched
 returns-clause-untouched g c = c.evict.ensures.untouched

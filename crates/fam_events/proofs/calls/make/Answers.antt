@@ -14,7 +14,12 @@ returns-in-Some-clause-says g c = λ files copied.
     subst (λ (halt : Option ℕ). CallSays (Makes c.args.name.now (mkfs_request r.fs r.unit r.log r.format r.force halt)) a c.made.result) (sym c.in-Some.is)
     (subst (CallSays (Makes c.args.name.now (mkfs_request r.fs r.unit r.log r.format r.force (Some c.in-Some.k))) a) (sym c.made.ensures)
     (make_says c.args.name.now (mkfs_request r.fs r.unit r.log r.format r.force (Some c.in-Some.k)) a c.requires.shaped c.requires.fits refl c.mkfs_cut.result c.mkfs_cut.ensures.answered
-    (λ e. record { world = c.mkfs_cut.ensures.err e; media = ap (λ m. (g.M.Media.state m).image) (c.mkfs_cut.ensures.undone e); count = ap (λ m. (g.M.Media.state m).faults) (c.mkfs_cut.ensures.undone e) })))
+    (λ e. record {
+      world = c.mkfs_cut.ensures.err e;
+      media = ap (λ m. (g.M.Media.state m).image) (c.mkfs_cut.ensures.undone e);
+      count =
+          ap (λ m. (g.M.Media.state m).faults) (c.mkfs_cut.ensures.undone e);
+    })))
 
 pub returns-in-None-clause-says : goal.returns-in-None-clause-says
 returns-in-None-clause-says g c = λ files copied.
@@ -28,12 +33,14 @@ returns-in-None-clause-says g c = λ files copied.
 pub returns-in-Some-clause-untouched : goal.returns-in-Some-clause-untouched
 returns-in-Some-clause-untouched g c =
     let r = c.args.request in
-    subst (λ (halt : Option ℕ). IsUntouched (Makes c.args.name.now (mkfs_request r.fs r.unit r.log r.format r.force halt)) (g.M.Media.size c.args.media.now) c.args.world.now c.args.media.now c.mkfs_cut.new.media) (sym c.in-Some.is) c.mkfs_cut.ensures.untouched
+    subst (λ (halt : Option ℕ). IsUntouched (Makes c.args.name.now (mkfs_request r.fs r.unit r.log r.format r.force halt))
+    (g.M.Media.size c.args.media.now) c.args.world.now c.args.media.now c.mkfs_cut.new.media) (sym c.in-Some.is) c.mkfs_cut.ensures.untouched
 
 pub returns-in-None-clause-untouched : goal.returns-in-None-clause-untouched
 returns-in-None-clause-untouched g c =
     let r = c.args.request in
-    subst (λ (halt : Option ℕ). IsUntouched (Makes c.args.name.now (mkfs_request r.fs r.unit r.log r.format r.force halt)) (g.M.Media.size c.args.media.now) c.args.world.now c.args.media.now c.mkfs.new.media) (sym c.in-None.is) c.mkfs.ensures.untouched
+    subst (λ (halt : Option ℕ). IsUntouched (Makes c.args.name.now (mkfs_request r.fs r.unit r.log r.format r.force halt))
+    (g.M.Media.size c.args.media.now) c.args.world.now c.args.media.now c.mkfs.new.media) (sym c.in-None.is) c.mkfs.ensures.untouched
 
 pub returns-in-Some-clause-size : goal.returns-in-Some-clause-size
 returns-in-Some-clause-size g c = c.mkfs_cut.ensures.size

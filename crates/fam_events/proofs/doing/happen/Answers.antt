@@ -15,72 +15,102 @@ use Rattle.fam_events.proofs.doing.happen.Goals as goal
 pub returns-in-Host-clause-says : goal.returns-in-Host-clause-says
 returns-in-Host-clause-says g c =
     let shelf : ShelfChange = change g.S.Shelf.state c.args.shelf.now c.args.shelf.now in
-    let a : WorldChange = world_change g.M.Media.size g.M.Media.state c.args.media.now c.args.media.now c.args.world.now c.declare.new.world (g.S.Shelf.state c.args.shelf.now).files c.args.copied.now c.args.copied.now in
+    let a : WorldChange = world_change g.M.Media.size g.M.Media.state c.args.media.now c.args.media.now c.args.world.now c.declare.new.world
+    (g.S.Shelf.state c.args.shelf.now).files c.args.copied.now c.args.copied.now in
     subst (λ (e : Event). EventSays e shelf a c.declare.result) (sym c.in-Host.is)
-    (event_says (event.Host c.in-Host.name c.in-Host.uuid) (call.Declares c.in-Host.name c.in-Host.uuid) shelf a (host_call c.in-Host.name c.in-Host.uuid) refl c.declare.result (c.declare.ensures.says (g.M.Media.size c.args.media.now) (g.M.Media.state c.args.media.now).image (g.M.Media.state c.args.media.now).faults (g.S.Shelf.state c.args.shelf.now).files c.args.copied.now (λ image is. g.met.M.Media.modelled c.args.media.now image is) c.requires.fits))
+    (event_says (event.Host c.in-Host.name c.in-Host.uuid) (call.Declares c.in-Host.name c.in-Host.uuid) shelf a
+    (host_call c.in-Host.name c.in-Host.uuid) refl c.declare.result
+    (c.declare.ensures.says (g.M.Media.size c.args.media.now) (g.M.Media.state c.args.media.now).image (g.M.Media.state c.args.media.now).faults
+    (g.S.Shelf.state c.args.shelf.now).files c.args.copied.now (λ image is. g.met.M.Media.modelled c.args.media.now image is) c.requires.fits))
 
 pub returns-in-Mkfs-clause-says : goal.returns-in-Mkfs-clause-says
 returns-in-Mkfs-clause-says g c =
     let shelf : ShelfChange = change g.S.Shelf.state c.args.shelf.now c.args.shelf.now in
-    let a : WorldChange = world_change g.M.Media.size g.M.Media.state c.args.media.now c.make.new.media c.args.world.now c.make.new.world (g.S.Shelf.state c.args.shelf.now).files c.args.copied.now c.args.copied.now in
+    let a : WorldChange = world_change g.M.Media.size g.M.Media.state c.args.media.now c.make.new.media c.args.world.now c.make.new.world
+    (g.S.Shelf.state c.args.shelf.now).files c.args.copied.now c.args.copied.now in
     subst (λ (e : Event). EventSays e shelf a c.make.result) (sym c.in-Mkfs.is)
-    (event_says (event.Mkfs c.in-Mkfs.name c.in-Mkfs.fs c.in-Mkfs.unit c.in-Mkfs.log c.in-Mkfs.format c.in-Mkfs.force c.in-Mkfs.halt) (call.Makes c.in-Mkfs.name (mkfs_request c.in-Mkfs.fs c.in-Mkfs.unit c.in-Mkfs.log c.in-Mkfs.format c.in-Mkfs.force c.in-Mkfs.halt)) shelf a (mkfs_call c.in-Mkfs.name (mkfs_request c.in-Mkfs.fs c.in-Mkfs.unit c.in-Mkfs.log c.in-Mkfs.format c.in-Mkfs.force c.in-Mkfs.halt)) refl c.make.result (c.make.ensures.says (g.S.Shelf.state c.args.shelf.now).files c.args.copied.now))
+    (event_says (event.Mkfs c.in-Mkfs.name c.in-Mkfs.fs c.in-Mkfs.unit c.in-Mkfs.log c.in-Mkfs.format c.in-Mkfs.force c.in-Mkfs.halt)
+    (call.Makes c.in-Mkfs.name (mkfs_request c.in-Mkfs.fs c.in-Mkfs.unit c.in-Mkfs.log c.in-Mkfs.format c.in-Mkfs.force c.in-Mkfs.halt)) shelf a
+    (mkfs_call c.in-Mkfs.name (mkfs_request c.in-Mkfs.fs c.in-Mkfs.unit c.in-Mkfs.log c.in-Mkfs.format c.in-Mkfs.force c.in-Mkfs.halt)) refl
+    c.make.result (c.make.ensures.says (g.S.Shelf.state c.args.shelf.now).files c.args.copied.now))
 
 pub returns-in-Step-clause-says : goal.returns-in-Step-clause-says
 returns-in-Step-clause-says g c =
     let shelf : ShelfChange = change g.S.Shelf.state c.args.shelf.now c.args.shelf.now in
-    let a : WorldChange = world_change g.M.Media.size g.M.Media.state c.args.media.now c.step.new.media c.args.world.now c.step.new.world (g.S.Shelf.state c.args.shelf.now).files c.args.copied.now c.args.copied.now in
+    let a : WorldChange = world_change g.M.Media.size g.M.Media.state c.args.media.now c.step.new.media c.args.world.now c.step.new.world
+    (g.S.Shelf.state c.args.shelf.now).files c.args.copied.now c.args.copied.now in
     subst (λ (e : Event). EventSays e shelf a c.step.result) (sym c.in-Step.is)
     (c.step.ensures.says shelf (g.S.Shelf.state c.args.shelf.now).files c.args.copied.now)
 
 pub returns-in-Finish-clause-says : goal.returns-in-Finish-clause-says
 returns-in-Finish-clause-says g c =
     let shelf : ShelfChange = change g.S.Shelf.state c.args.shelf.now c.args.shelf.now in
-    let a : WorldChange = world_change g.M.Media.size g.M.Media.state c.args.media.now c.finish.new.media c.args.world.now c.finish.new.world (g.S.Shelf.state c.args.shelf.now).files c.args.copied.now c.args.copied.now in
+    let a : WorldChange = world_change g.M.Media.size g.M.Media.state c.args.media.now c.finish.new.media c.args.world.now c.finish.new.world
+    (g.S.Shelf.state c.args.shelf.now).files c.args.copied.now c.args.copied.now in
     subst (λ (e : Event). EventSays e shelf a c.finish.result) (sym c.in-Finish.is)
-    (event_says (event.Finish c.in-Finish.name) (call.Finishes c.in-Finish.name) shelf a (finish_call c.in-Finish.name) refl c.finish.result (c.finish.ensures.says (g.S.Shelf.state c.args.shelf.now).files c.args.copied.now))
+    (event_says (event.Finish c.in-Finish.name) (call.Finishes c.in-Finish.name) shelf a (finish_call c.in-Finish.name) refl c.finish.result
+    (c.finish.ensures.says (g.S.Shelf.state c.args.shelf.now).files c.args.copied.now))
 
 pub returns-in-Stop-clause-says : goal.returns-in-Stop-clause-says
 returns-in-Stop-clause-says g c =
     let shelf : ShelfChange = change g.S.Shelf.state c.args.shelf.now c.args.shelf.now in
-    let a : WorldChange = world_change g.M.Media.size g.M.Media.state c.args.media.now c.args.media.now c.args.world.now c.stop.new.world (g.S.Shelf.state c.args.shelf.now).files c.args.copied.now c.args.copied.now in
+    let a : WorldChange = world_change g.M.Media.size g.M.Media.state c.args.media.now c.args.media.now c.args.world.now c.stop.new.world
+    (g.S.Shelf.state c.args.shelf.now).files c.args.copied.now c.args.copied.now in
     subst (λ (e : Event). EventSays e shelf a c.stop.result) (sym c.in-Stop.is)
-    (event_says (event.Stop c.in-Stop.name) (call.Stops c.in-Stop.name) shelf a (stop_call c.in-Stop.name) refl c.stop.result (c.stop.ensures.says (g.M.Media.size c.args.media.now) (g.M.Media.state c.args.media.now).image (g.M.Media.state c.args.media.now).faults (g.S.Shelf.state c.args.shelf.now).files c.args.copied.now (λ image is. g.met.M.Media.modelled c.args.media.now image is) c.requires.fits))
+    (event_says (event.Stop c.in-Stop.name) (call.Stops c.in-Stop.name) shelf a (stop_call c.in-Stop.name) refl c.stop.result
+    (c.stop.ensures.says (g.M.Media.size c.args.media.now) (g.M.Media.state c.args.media.now).image (g.M.Media.state c.args.media.now).faults
+    (g.S.Shelf.state c.args.shelf.now).files c.args.copied.now (λ image is. g.met.M.Media.modelled c.args.media.now image is) c.requires.fits))
 
 pub returns-in-Halt-clause-says : goal.returns-in-Halt-clause-says
 returns-in-Halt-clause-says g c =
     let shelf : ShelfChange = change g.S.Shelf.state c.args.shelf.now c.args.shelf.now in
-    let a : WorldChange = world_change g.M.Media.size g.M.Media.state c.args.media.now c.args.media.now c.args.world.now c.halt.new.world (g.S.Shelf.state c.args.shelf.now).files c.args.copied.now c.args.copied.now in
+    let a : WorldChange = world_change g.M.Media.size g.M.Media.state c.args.media.now c.args.media.now c.args.world.now c.halt.new.world
+    (g.S.Shelf.state c.args.shelf.now).files c.args.copied.now c.args.copied.now in
     subst (λ (e : Event). EventSays e shelf a c.halt.result) (sym c.in-Halt.is)
-    (event_says (event.Halt c.in-Halt.name) (call.Halts c.in-Halt.name) shelf a (halt_call c.in-Halt.name) refl c.halt.result (c.halt.ensures.says (g.M.Media.size c.args.media.now) (g.M.Media.state c.args.media.now).image (g.M.Media.state c.args.media.now).faults (g.S.Shelf.state c.args.shelf.now).files c.args.copied.now (λ image is. g.met.M.Media.modelled c.args.media.now image is) c.requires.fits))
+    (event_says (event.Halt c.in-Halt.name) (call.Halts c.in-Halt.name) shelf a (halt_call c.in-Halt.name) refl c.halt.result
+    (c.halt.ensures.says (g.M.Media.size c.args.media.now) (g.M.Media.state c.args.media.now).image (g.M.Media.state c.args.media.now).faults
+    (g.S.Shelf.state c.args.shelf.now).files c.args.copied.now (λ image is. g.met.M.Media.modelled c.args.media.now image is) c.requires.fits))
 
 pub returns-in-Umount-clause-says : goal.returns-in-Umount-clause-says
 returns-in-Umount-clause-says g c =
     let shelf : ShelfChange = change g.S.Shelf.state c.args.shelf.now c.args.shelf.now in
-    let a : WorldChange = world_change g.M.Media.size g.M.Media.state c.args.media.now c.args.media.now c.args.world.now c.umount.new.world (g.S.Shelf.state c.args.shelf.now).files c.args.copied.now c.args.copied.now in
+    let a : WorldChange = world_change g.M.Media.size g.M.Media.state c.args.media.now c.args.media.now c.args.world.now c.umount.new.world
+    (g.S.Shelf.state c.args.shelf.now).files c.args.copied.now c.args.copied.now in
     subst (λ (e : Event). EventSays e shelf a c.umount.result) (sym c.in-Umount.is)
-    (event_says (event.Umount c.in-Umount.name) (call.Umounts c.in-Umount.name) shelf a (umount_call c.in-Umount.name) refl c.umount.result (c.umount.ensures.says (g.M.Media.size c.args.media.now) (g.M.Media.state c.args.media.now).image (g.M.Media.state c.args.media.now).faults (g.S.Shelf.state c.args.shelf.now).files c.args.copied.now (λ image is. g.met.M.Media.modelled c.args.media.now image is) c.requires.fits))
+    (event_says (event.Umount c.in-Umount.name) (call.Umounts c.in-Umount.name) shelf a (umount_call c.in-Umount.name) refl c.umount.result
+    (c.umount.ensures.says (g.M.Media.size c.args.media.now) (g.M.Media.state c.args.media.now).image (g.M.Media.state c.args.media.now).faults
+    (g.S.Shelf.state c.args.shelf.now).files c.args.copied.now (λ image is. g.met.M.Media.modelled c.args.media.now image is) c.requires.fits))
 
 pub returns-in-Evict-clause-says : goal.returns-in-Evict-clause-says
 returns-in-Evict-clause-says g c =
     let shelf : ShelfChange = change g.S.Shelf.state c.args.shelf.now c.args.shelf.now in
-    let a : WorldChange = world_change g.M.Media.size g.M.Media.state c.args.media.now c.evict.new.media c.args.world.now c.evict.new.world (g.S.Shelf.state c.args.shelf.now).files c.args.copied.now c.args.copied.now in
+    let a : WorldChange = world_change g.M.Media.size g.M.Media.state c.args.media.now c.evict.new.media c.args.world.now c.evict.new.world
+    (g.S.Shelf.state c.args.shelf.now).files c.args.copied.now c.args.copied.now in
     subst (λ (e : Event). EventSays e shelf a c.evict.result) (sym c.in-Evict.is)
-    (event_says (event.Evict c.in-Evict.name c.in-Evict.line) (call.Moves c.in-Evict.name c.in-Evict.line.0 how.Evict) shelf a (evict_call c.in-Evict.name c.in-Evict.line) refl c.evict.result (c.evict.ensures.says (g.S.Shelf.state c.args.shelf.now).files c.args.copied.now))
+    (event_says (event.Evict c.in-Evict.name c.in-Evict.line) (call.Moves c.in-Evict.name c.in-Evict.line.0 how.Evict) shelf a
+    (evict_call c.in-Evict.name c.in-Evict.line) refl c.evict.result
+    (c.evict.ensures.says (g.S.Shelf.state c.args.shelf.now).files c.args.copied.now))
 
 pub returns-in-Leak-clause-says : goal.returns-in-Leak-clause-says
 returns-in-Leak-clause-says g c =
     let shelf : ShelfChange = change g.S.Shelf.state c.args.shelf.now c.args.shelf.now in
-    let a : WorldChange = world_change g.M.Media.size g.M.Media.state c.args.media.now c.leak.new.media c.args.world.now c.leak.new.world (g.S.Shelf.state c.args.shelf.now).files c.args.copied.now c.args.copied.now in
+    let a : WorldChange = world_change g.M.Media.size g.M.Media.state c.args.media.now c.leak.new.media c.args.world.now c.leak.new.world
+    (g.S.Shelf.state c.args.shelf.now).files c.args.copied.now c.args.copied.now in
     subst (λ (e : Event). EventSays e shelf a c.leak.result) (sym c.in-Leak.is)
-    (event_says (event.Leak c.in-Leak.name c.in-Leak.line c.in-Leak.mask) (call.Moves c.in-Leak.name c.in-Leak.line.0 (how.Leak c.in-Leak.mask.0)) shelf a (leak_call c.in-Leak.name c.in-Leak.line c.in-Leak.mask) refl c.leak.result (c.leak.ensures.says (g.S.Shelf.state c.args.shelf.now).files c.args.copied.now))
+    (event_says (event.Leak c.in-Leak.name c.in-Leak.line c.in-Leak.mask) (call.Moves c.in-Leak.name c.in-Leak.line.0 (how.Leak c.in-Leak.mask.0))
+    shelf a (leak_call c.in-Leak.name c.in-Leak.line c.in-Leak.mask) refl c.leak.result
+    (c.leak.ensures.says (g.S.Shelf.state c.args.shelf.now).files c.args.copied.now))
 
 pub returns-in-Fetch-clause-says : goal.returns-in-Fetch-clause-says
 returns-in-Fetch-clause-says g c =
     let shelf : ShelfChange = change g.S.Shelf.state c.args.shelf.now c.args.shelf.now in
-    let a : WorldChange = world_change g.M.Media.size g.M.Media.state c.args.media.now c.fetch.new.media c.args.world.now c.fetch.new.world (g.S.Shelf.state c.args.shelf.now).files c.args.copied.now c.args.copied.now in
+    let a : WorldChange = world_change g.M.Media.size g.M.Media.state c.args.media.now c.fetch.new.media c.args.world.now c.fetch.new.world
+    (g.S.Shelf.state c.args.shelf.now).files c.args.copied.now c.args.copied.now in
     subst (λ (e : Event). EventSays e shelf a c.fetch.result) (sym c.in-Fetch.is)
-    (event_says (event.Fetch c.in-Fetch.name c.in-Fetch.line c.in-Fetch.mask) (call.Moves c.in-Fetch.name c.in-Fetch.line.0 (how.Fetch c.in-Fetch.mask.0)) shelf a (fetch_call c.in-Fetch.name c.in-Fetch.line c.in-Fetch.mask) refl c.fetch.result (c.fetch.ensures.says (g.S.Shelf.state c.args.shelf.now).files c.args.copied.now))
+    (event_says (event.Fetch c.in-Fetch.name c.in-Fetch.line c.in-Fetch.mask)
+    (call.Moves c.in-Fetch.name c.in-Fetch.line.0 (how.Fetch c.in-Fetch.mask.0)) shelf a
+    (fetch_call c.in-Fetch.name c.in-Fetch.line c.in-Fetch.mask) refl c.fetch.result
+    (c.fetch.ensures.says (g.S.Shelf.state c.args.shelf.now).files c.args.copied.now))
 
 pub returns-in-Host-clause-same : goal.returns-in-Host-clause-same
 returns-in-Host-clause-same g c = λ run. absurd (subst IsRun c.in-Host.is run)

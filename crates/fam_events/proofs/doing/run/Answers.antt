@@ -13,54 +13,77 @@ use Rattle.fam_events.proofs.doing.run.Goals as goal
 pub finish-requires-clause-shaped : goal.finish-requires-clause-shaped
 finish-requires-clause-shaped g c =
     let shelf : ShelfChange = change g.S.Shelf.state c.args.shelf.now c.ask.new.shelf in
-    let a : WorldChange = world_change g.M.Media.size g.M.Media.state c.args.media.now c.args.media.now c.args.world.now c.ask.new.world (g.S.Shelf.state c.args.shelf.now).files c.args.copied.now c.ask.new.copied in
+    let a : WorldChange = world_change g.M.Media.size g.M.Media.state c.args.media.now c.args.media.now c.args.world.now c.ask.new.world
+    (g.S.Shelf.state c.args.shelf.now).files c.args.copied.now c.ask.new.copied in
     (subst (λ (x : Asked). AskSays c.args.name c.args.what shelf a (Ok x)) c.in-Ok-Begun.field-0-is
-    (with_lines c.lines.result (g.M.Media.size c.args.media.now) c.lines.ensures.count c.args.name c.args.what shelf c.args.world.now c.ask.new.world (g.M.Media.state c.args.media.now).image (g.M.Media.state c.args.media.now).faults (g.S.Shelf.state c.args.shelf.now).files c.args.copied.now c.ask.new.copied (Ok c.in-Ok-Begun.field-0)
+    (with_lines c.lines.result (g.M.Media.size c.args.media.now) c.lines.ensures.count c.args.name c.args.what shelf c.args.world.now c.ask.new.world
+    (g.M.Media.state c.args.media.now).image (g.M.Media.state c.args.media.now).faults (g.S.Shelf.state c.args.shelf.now).files c.args.copied.now
+    c.ask.new.copied (Ok c.in-Ok-Begun.field-0)
     (c.in-Ok-Begun.ensures.says (g.M.Media.state c.args.media.now).image (g.M.Media.state c.args.media.now).faults) (g.met.M.Media.modelled c.args.media.now) c.requires.fits)).adds.shaped
 
 pub finish-requires-clause-fits : goal.finish-requires-clause-fits
 finish-requires-clause-fits g c =
     let shelf : ShelfChange = change g.S.Shelf.state c.args.shelf.now c.ask.new.shelf in
-    let a : WorldChange = world_change g.M.Media.size g.M.Media.state c.args.media.now c.args.media.now c.args.world.now c.ask.new.world (g.S.Shelf.state c.args.shelf.now).files c.args.copied.now c.ask.new.copied in
+    let a : WorldChange = world_change g.M.Media.size g.M.Media.state c.args.media.now c.args.media.now c.args.world.now c.ask.new.world
+    (g.S.Shelf.state c.args.shelf.now).files c.args.copied.now c.ask.new.copied in
     (subst (λ (x : Asked). AskSays c.args.name c.args.what shelf a (Ok x)) c.in-Ok-Begun.field-0-is
-    (with_lines c.lines.result (g.M.Media.size c.args.media.now) c.lines.ensures.count c.args.name c.args.what shelf c.args.world.now c.ask.new.world (g.M.Media.state c.args.media.now).image (g.M.Media.state c.args.media.now).faults (g.S.Shelf.state c.args.shelf.now).files c.args.copied.now c.ask.new.copied (Ok c.in-Ok-Begun.field-0)
+    (with_lines c.lines.result (g.M.Media.size c.args.media.now) c.lines.ensures.count c.args.name c.args.what shelf c.args.world.now c.ask.new.world
+    (g.M.Media.state c.args.media.now).image (g.M.Media.state c.args.media.now).faults (g.S.Shelf.state c.args.shelf.now).files c.args.copied.now
+    c.ask.new.copied (Ok c.in-Ok-Begun.field-0)
     (c.in-Ok-Begun.ensures.says (g.M.Media.state c.args.media.now).image (g.M.Media.state c.args.media.now).faults) (g.met.M.Media.modelled c.args.media.now) c.requires.fits)).adds.fits
 
 pub returns-in-Ok-Refused-clause-says : goal.returns-in-Ok-Refused-clause-says
 returns-in-Ok-Refused-clause-says g c =
     let shelf : ShelfChange = change g.S.Shelf.state c.args.shelf.now c.ask.new.shelf in
-    let a : WorldChange = world_change g.M.Media.size g.M.Media.state c.args.media.now c.args.media.now c.args.world.now c.ask.new.world (g.S.Shelf.state c.args.shelf.now).files c.args.copied.now c.ask.new.copied in
+    let a : WorldChange = world_change g.M.Media.size g.M.Media.state c.args.media.now c.args.media.now c.args.world.now c.ask.new.world
+    (g.S.Shelf.state c.args.shelf.now).files c.args.copied.now c.ask.new.copied in
     run_refused c.args.name c.args.what a (subst (λ (x : Asked). AskSays c.args.name c.args.what shelf a (Ok x)) c.in-Ok-Refused.field-0-is
-    (with_lines c.lines.result (g.M.Media.size c.args.media.now) c.lines.ensures.count c.args.name c.args.what shelf c.args.world.now c.ask.new.world (g.M.Media.state c.args.media.now).image (g.M.Media.state c.args.media.now).faults (g.S.Shelf.state c.args.shelf.now).files c.args.copied.now c.ask.new.copied (Ok c.in-Ok-Refused.field-0)
+    (with_lines c.lines.result (g.M.Media.size c.args.media.now) c.lines.ensures.count c.args.name c.args.what shelf c.args.world.now c.ask.new.world
+    (g.M.Media.state c.args.media.now).image (g.M.Media.state c.args.media.now).faults (g.S.Shelf.state c.args.shelf.now).files c.args.copied.now
+    c.ask.new.copied (Ok c.in-Ok-Refused.field-0)
     (c.in-Ok-Refused.ensures.says (g.M.Media.state c.args.media.now).image (g.M.Media.state c.args.media.now).faults) (g.met.M.Media.modelled c.args.media.now) c.requires.fits))
 
 pub returns-in-Ok-Begun-clause-says : goal.returns-in-Ok-Begun-clause-says
 returns-in-Ok-Begun-clause-says g c =
     let shelf : ShelfChange = change g.S.Shelf.state c.args.shelf.now c.ask.new.shelf in
-    let a : WorldChange = world_change g.M.Media.size g.M.Media.state c.args.media.now c.args.media.now c.args.world.now c.ask.new.world (g.S.Shelf.state c.args.shelf.now).files c.args.copied.now c.ask.new.copied in
-    run_says c.args.name c.args.what (g.M.Media.size c.args.media.now) c.args.world.now c.ask.new.world c.finish.new.world (g.M.Media.state c.args.media.now).image (g.M.Media.state c.finish.new.media).image (g.M.Media.state c.args.media.now).faults (g.M.Media.state c.finish.new.media).faults (g.S.Shelf.state c.args.shelf.now).files c.args.copied.now c.ask.new.copied c.requires.shaped
+    let a : WorldChange = world_change g.M.Media.size g.M.Media.state c.args.media.now c.args.media.now c.args.world.now c.ask.new.world
+    (g.S.Shelf.state c.args.shelf.now).files c.args.copied.now c.ask.new.copied in
+    run_says c.args.name c.args.what (g.M.Media.size c.args.media.now) c.args.world.now c.ask.new.world c.finish.new.world
+    (g.M.Media.state c.args.media.now).image (g.M.Media.state c.finish.new.media).image (g.M.Media.state c.args.media.now).faults
+    (g.M.Media.state c.finish.new.media).faults (g.S.Shelf.state c.args.shelf.now).files c.args.copied.now c.ask.new.copied c.requires.shaped
     (subst (λ (x : Asked). AskSays c.args.name c.args.what shelf a (Ok x)) c.in-Ok-Begun.field-0-is
-    (with_lines c.lines.result (g.M.Media.size c.args.media.now) c.lines.ensures.count c.args.name c.args.what shelf c.args.world.now c.ask.new.world (g.M.Media.state c.args.media.now).image (g.M.Media.state c.args.media.now).faults (g.S.Shelf.state c.args.shelf.now).files c.args.copied.now c.ask.new.copied (Ok c.in-Ok-Begun.field-0)
+    (with_lines c.lines.result (g.M.Media.size c.args.media.now) c.lines.ensures.count c.args.name c.args.what shelf c.args.world.now c.ask.new.world
+    (g.M.Media.state c.args.media.now).image (g.M.Media.state c.args.media.now).faults (g.S.Shelf.state c.args.shelf.now).files c.args.copied.now
+    c.ask.new.copied (Ok c.in-Ok-Begun.field-0)
     (c.in-Ok-Begun.ensures.says (g.M.Media.state c.args.media.now).image (g.M.Media.state c.args.media.now).faults) (g.met.M.Media.modelled c.args.media.now) c.requires.fits))
     (g.met.M.Media.modelled c.args.media.now) shelf c.finish.result (c.finish.ensures.says (g.S.Shelf.state c.args.shelf.now).files c.ask.new.copied)
 
 pub returns-in-Err-clause-says : goal.returns-in-Err-clause-says
 returns-in-Err-clause-says g c =
     let shelf : ShelfChange = change g.S.Shelf.state c.args.shelf.now c.ask.new.shelf in
-    let a : WorldChange = world_change g.M.Media.size g.M.Media.state c.args.media.now c.args.media.now c.args.world.now c.ask.new.world (g.S.Shelf.state c.args.shelf.now).files c.args.copied.now c.ask.new.copied in
+    let a : WorldChange = world_change g.M.Media.size g.M.Media.state c.args.media.now c.args.media.now c.args.world.now c.ask.new.world
+    (g.S.Shelf.state c.args.shelf.now).files c.args.copied.now c.ask.new.copied in
     run_fault _ _ shelf a c.in-Err.fault
-    (with_lines c.lines.result (g.M.Media.size c.args.media.now) c.lines.ensures.count c.args.name c.args.what shelf c.args.world.now c.ask.new.world (g.M.Media.state c.args.media.now).image (g.M.Media.state c.args.media.now).faults (g.S.Shelf.state c.args.shelf.now).files c.args.copied.now c.ask.new.copied (Err c.in-Err.fault)
+    (with_lines c.lines.result (g.M.Media.size c.args.media.now) c.lines.ensures.count c.args.name c.args.what shelf c.args.world.now c.ask.new.world
+    (g.M.Media.state c.args.media.now).image (g.M.Media.state c.args.media.now).faults (g.S.Shelf.state c.args.shelf.now).files c.args.copied.now
+    c.ask.new.copied (Err c.in-Err.fault)
     (c.in-Err.ensures.says (g.M.Media.state c.args.media.now).image (g.M.Media.state c.args.media.now).faults) (g.met.M.Media.modelled c.args.media.now) c.requires.fits)
 
 pub returns-in-Ok-Begun-clause-same : goal.returns-in-Ok-Begun-clause-same
 returns-in-Ok-Begun-clause-same g c =
     let shelf : ShelfChange = change g.S.Shelf.state c.args.shelf.now c.ask.new.shelf in
-    let a : WorldChange = world_change g.M.Media.size g.M.Media.state c.args.media.now c.args.media.now c.args.world.now c.ask.new.world (g.S.Shelf.state c.args.shelf.now).files c.args.copied.now c.ask.new.copied in
+    let a : WorldChange = world_change g.M.Media.size g.M.Media.state c.args.media.now c.args.media.now c.args.world.now c.ask.new.world
+    (g.S.Shelf.state c.args.shelf.now).files c.args.copied.now c.ask.new.copied in
     let begun : AskBegun c.args.name c.args.what a = subst (λ (x : Asked). AskSays c.args.name c.args.what shelf a (Ok x)) c.in-Ok-Begun.field-0-is
-    (with_lines c.lines.result (g.M.Media.size c.args.media.now) c.lines.ensures.count c.args.name c.args.what shelf c.args.world.now c.ask.new.world (g.M.Media.state c.args.media.now).image (g.M.Media.state c.args.media.now).faults (g.S.Shelf.state c.args.shelf.now).files c.args.copied.now c.ask.new.copied (Ok c.in-Ok-Begun.field-0)
+    (with_lines c.lines.result (g.M.Media.size c.args.media.now) c.lines.ensures.count c.args.name c.args.what shelf c.args.world.now c.ask.new.world
+    (g.M.Media.state c.args.media.now).image (g.M.Media.state c.args.media.now).faults (g.S.Shelf.state c.args.shelf.now).files c.args.copied.now
+    c.ask.new.copied (Ok c.in-Ok-Begun.field-0)
     (c.in-Ok-Begun.ensures.says (g.M.Media.state c.args.media.now).image (g.M.Media.state c.args.media.now).faults) (g.met.M.Media.modelled c.args.media.now) c.requires.fits) in
     let number = number_shaped (g.M.Media.size c.args.media.now) c.args.world.now c.requires.shaped c.args.name ∙ begun.adds.shape.starts.number in
-    run_same c.finish.result c.ask.new.world c.args.name begun.adds.shape.starts.host (IsRested c.args.world.now) (IfModelled (g.M.Media.state c.args.media.now).image (λ image. (g.M.Media.state c.finish.new.media).image ≡ Some image)) (begun.number ∙ number) (λ rested. c.in-Ok-Begun.ensures.unstored c.in-Ok-Begun.field-0-is rested begun.adds.shape.starts.host number) c.finish.ensures.same
+    run_same c.finish.result c.ask.new.world c.args.name begun.adds.shape.starts.host (IsRested c.args.world.now)
+    (IfModelled (g.M.Media.state c.args.media.now).image (λ image. (g.M.Media.state c.finish.new.media).image ≡ Some image))
+    (begun.number ∙ number) (λ rested. c.in-Ok-Begun.ensures.unstored c.in-Ok-Begun.field-0-is rested begun.adds.shape.starts.host number)
+    c.finish.ensures.same
 
 pub returns-in-Err-clause-same : goal.returns-in-Err-clause-same
 returns-in-Err-clause-same g c = λ rested. λ image is. is

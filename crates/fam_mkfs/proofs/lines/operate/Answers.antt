@@ -12,7 +12,12 @@ pub returns-in-Ok-clause-others : goal.returns-in-Ok-clause-others
 returns-in-Ok-clause-others g c = others_left c.args.op _ _ _ c.in-Ok.ensures.cache c.requires.one
 
 pub returns-in-Err-MediaFault-clause-cut : goal.returns-in-Err-MediaFault-clause-cut
-returns-in-Err-MediaFault-clause-cut g c = one_cut c.args.op c.in-Err-MediaFault.line (g.M.Media.state c.args.media.now).image (g.M.Media.state c.perform.new.media).image c.args.cache.now.lines c.perform.new.self.lines (subst (λ (fault : OperationFault). IfMediaFault fault (λ line. IfModelled (g.M.Media.state c.args.media.now).image (λ image. HasFailed c.args.op (machine image c.args.cache.now.lines) line (g.M.Media.state c.perform.new.media).image c.perform.new.self.lines))) c.in-Err-MediaFault.field-0-is c.in-Err-MediaFault.ensures.failed)
+returns-in-Err-MediaFault-clause-cut g c = one_cut c.args.op c.in-Err-MediaFault.line (g.M.Media.state c.args.media.now).image
+    (g.M.Media.state c.perform.new.media).image c.args.cache.now.lines c.perform.new.self.lines
+    (subst (λ (fault : OperationFault).
+    IfMediaFault fault (λ line. IfModelled (g.M.Media.state c.args.media.now).image
+    (λ image. HasFailed c.args.op (machine image c.args.cache.now.lines) line (g.M.Media.state c.perform.new.media).image c.perform.new.self.lines)))
+    c.in-Err-MediaFault.field-0-is c.in-Err-MediaFault.ensures.failed)
 
 pub perform-requires-clause-asked : goal.perform-requires-clause-asked
 perform-requires-clause-asked g c = sends_one c.args.op _ _ c.requires.one

@@ -21,7 +21,9 @@ loop-word-preserved g c =
       held = λ some. held_after_store _ c.args.line.0 _ _ _ _ e.cache;
       others = λ other differs. e.others other (line_differs c.args.line other differs) ∙ v.others other differs;
       first = λ none. absurd (omega arith);
-      spare = spare_kept c.loop-word.word c.args.cache.now.spare c.loop-word.cache.spare c.operate.new.cache.spare (IsHeld (cell_at c.loop-word.cache.lines c.args.line.0)) v.held e.held_spare e.spare (λ none. omega (arith, ap (λ (s : CacheState). s.spare) (v.first none))) v.spare;
+      spare = spare_kept c.loop-word.word c.args.cache.now.spare c.loop-word.cache.spare c.operate.new.cache.spare
+          (IsHeld (cell_at c.loop-word.cache.lines c.args.line.0)) v.held e.held_spare e.spare
+          (λ none. omega (arith, ap (λ (s : CacheState). s.spare) (v.first none))) v.spare;
       held_spare = λ held. held_spare_kept c.loop-word.word c.args.cache.now.spare c.loop-word.cache.spare c.operate.new.cache.spare (IsHeld (cell_at c.loop-word.cache.lines c.args.line.0)) v.held
           (λ none. subst (λ (s : CacheState). IsHeld (cell_at s.lines c.args.line.0)) (sym (v.first none)) held) e.held_spare (v.held_spare held);
       steady = record { size = e.steady.size ∙ v.steady.size; later = omega (arith, e.steady.later, v.steady.later) };

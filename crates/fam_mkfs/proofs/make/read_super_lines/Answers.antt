@@ -22,4 +22,5 @@ returns-clause-done g c = lines_read _ _ _ _ c.in_ok-magic.ensures.done c.in_ok-
 
 pub returns-clause-found : goal.returns-clause-found
 returns-clause-found g c image is have =
-    super_loaded c.in_ok-magic.magic c.in_ok-first.first c.in_ok-second.second _ _ _ _ image c.in_ok-magic.ensures.done c.in_ok-first.ensures.done c.in_ok-second.ensures.done c.in_ok-magic.ensures.words c.in_ok-first.ensures.words c.in_ok-second.ensures.words is have
+    super_loaded c.in_ok-magic.magic c.in_ok-first.first c.in_ok-second.second _ _ _ _ image c.in_ok-magic.ensures.done c.in_ok-first.ensures.done
+    c.in_ok-second.ensures.done c.in_ok-magic.ensures.words c.in_ok-first.ensures.words c.in_ok-second.ensures.words is have

@@ -24,7 +24,9 @@ returns-in_err-write_line-clause-cut g c =
     let spelled : Spelled p lines header = record { magic = c.spell.ensures.magic; words = c.spell.ensures.words; log = c.spell_log-header.ensures } in
     cut_on (take most (write_ops p)) _ _ c.in_err-write_line.field-0.0 c.from_residual.result c.from_residual.ensures
     (cut_as _ _ _ _ _ (all_front p lines header most (most - 9) (most - 9 - 18) refl refl spelled)
-    (cut_first (take most (put_ops (0, zero_line))) (take (most - 9) (header_puts header) ++ take (most - 9 - 18) (word_puts (element lines 0) (element lines 1) (element lines 2))) _ _ _ c.in_err-write_line.ensures.cut))
+    (cut_first (take most (put_ops (0, zero_line)))
+    (take (most - 9) (header_puts header) ++ take (most - 9 - 18) (word_puts (element lines 0) (element lines 1) (element lines 2))) _ _ _
+    c.in_err-write_line.ensures.cut))
 
 pub returns-in_err-write_line-clause-others : goal.returns-in_err-write_line-clause-others
 returns-in_err-write_line-clause-others g c line elsewhere = c.write_line.ensures.others line elsewhere.magic
@@ -116,7 +118,8 @@ returns-clause-cut g c =
 
 pub returns-clause-others : goal.returns-clause-others
 returns-clause-others g c line elsewhere =
-    c.write_words.ensures.others line elsewhere.magic elsewhere.prefix elsewhere.rest ∙ c.write_header.ensures.others line elsewhere.gate elsewhere.log ∙ c.write_line.ensures.others line elsewhere.magic
+    c.write_words.ensures.others line elsewhere.magic elsewhere.prefix elsewhere.rest
+    ∙ c.write_header.ensures.others line elsewhere.gate elsewhere.log ∙ c.write_line.ensures.others line elsewhere.magic
 
 pub returns-clause-within : goal.returns-clause-within
 returns-clause-within g c =

@@ -69,7 +69,8 @@ returns-clause-done g c =
     let second = take c.saturating_sub-most.result (put_ops (2, a.second.now)) in
     let magic = take c.saturating_sub-most-2.result (put_ops (0, a.magic.now)) in
     done_behind first (second ++ magic) (take a.most (word_puts a.magic.now a.first.now a.second.now)) _ _ _ c.write_line-3.result
-    (words_front a.magic.now a.first.now a.second.now a.most c.saturating_sub-most.result c.saturating_sub-most-2.result c.saturating_sub-most.ensures c.saturating_sub-most-2.ensures) c.in_ok-write_line.ensures.done
+    (words_front a.magic.now a.first.now a.second.now a.most c.saturating_sub-most.result c.saturating_sub-most-2.result c.saturating_sub-most.ensures
+    c.saturating_sub-most-2.ensures) c.in_ok-write_line.ensures.done
     (done_behind second magic (second ++ magic) _ _ _ c.write_line-3.result refl c.in_ok-write_line-2.ensures.done c.write_line-3.ensures.done)
 
 pub returns-clause-cut : goal.returns-clause-cut
@@ -79,7 +80,8 @@ returns-clause-cut g c =
     let second = take c.saturating_sub-most.result (put_ops (2, a.second.now)) in
     let magic = take c.saturating_sub-most-2.result (put_ops (0, a.magic.now)) in
     cut_behind first (second ++ magic) (take a.most (word_puts a.magic.now a.first.now a.second.now)) _ _ _ c.write_line-3.result
-    (words_front a.magic.now a.first.now a.second.now a.most c.saturating_sub-most.result c.saturating_sub-most-2.result c.saturating_sub-most.ensures c.saturating_sub-most-2.ensures) c.in_ok-write_line.ensures.done
+    (words_front a.magic.now a.first.now a.second.now a.most c.saturating_sub-most.result c.saturating_sub-most-2.result c.saturating_sub-most.ensures
+    c.saturating_sub-most-2.ensures) c.in_ok-write_line.ensures.done
     (cut_behind second magic (second ++ magic) _ _ _ c.write_line-3.result refl c.in_ok-write_line-2.ensures.done c.write_line-3.ensures.cut)
 
 pub returns-clause-others : goal.returns-clause-others
@@ -107,5 +109,10 @@ write_line-requires-2 g c = record {
 pub write_line-requires-3 : goal.write_line-requires-3
 write_line-requires-3 g c = record {
   within = omega (arith, c.requires.within, c.write_line.ensures.steady.size, c.write_line-2.ensures.steady.size);
-  room = λ lacks. omega (arith, c.requires.room, c.write_line.ensures.held_spare c.requires.prefix, c.write_line-2.ensures.held_spare (subst (λ (copy : Cell). IsHeld copy) (sym (c.write_line.ensures.others 2 (omega arith))) c.requires.rest));
+  room = λ lacks. omega (
+    arith,
+    c.requires.room,
+    c.write_line.ensures.held_spare c.requires.prefix,
+    c.write_line-2.ensures.held_spare (subst (λ (copy : Cell). IsHeld copy) (sym (c.write_line.ensures.others 2 (omega arith))) c.requires.rest),
+  );
 }

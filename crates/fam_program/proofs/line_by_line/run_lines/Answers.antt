@@ -33,12 +33,14 @@ pub lines-preserved : goal.lines-preserved
 lines-preserved g c =
     let s = subst (λ (event : Option Event). StartsWith c.lines.rest.now event c.in-Ok.read.1.now) c.in-Some.is c.in-Ok.ensures.starts in
     one_done c.lines.invariant s
-    (turned c.lines.invariant.turns (left_is c.lines.invariant s) c.happen.new.media c.happen.new.shelf c.happen.new.world c.happen.new.copied (Ok tt) c.happen.ensures.size c.happen.ensures.steady c.in-Ok-happen.ensures.says)
+    (turned c.lines.invariant.turns (left_is c.lines.invariant s) c.happen.new.media c.happen.new.shelf c.happen.new.world c.happen.new.copied
+    (Ok tt) c.happen.ensures.size c.happen.ensures.steady c.in-Ok-happen.ensures.says)
 
 pub returns-in-Err-happen : goal.returns-in-Err-happen
 returns-in-Err-happen g c =
     let s = subst (λ (event : Option Event). StartsWith c.lines.rest.now event c.in-Ok.read.1.now) c.in-Some.is c.in-Ok.ensures.starts in
-    let t = turned c.lines.invariant.turns (left_is c.lines.invariant s) c.happen.new.media c.happen.new.shelf c.happen.new.world c.happen.new.copied (Err c.in-Err-happen.fault) c.happen.ensures.size c.happen.ensures.steady c.in-Err-happen.ensures.says in
+    let t = turned c.lines.invariant.turns (left_is c.lines.invariant s) c.happen.new.media c.happen.new.shelf c.happen.new.world c.happen.new.copied
+    (Err c.in-Err-happen.fault) c.happen.ensures.size c.happen.ensures.steady c.in-Err-happen.ensures.says in
     record { ended = one_ends c.lines.invariant t; steady = t.steady; shelf = t.shelf_steady }
 
 pub returns : goal.returns

@@ -34,4 +34,5 @@ returns-clause-written c =
     let last : drop 41 (slice_set c.args.room.now 41 10) ≡ 10 ∷ [] =
     drop-set c.args.room.now 41 10 (omega arith) ∙ at_drop_all (λ (t : List ℕ). 10 ∷ t) c.args.room.now 42 (omega arith) in
     ap (λ (ys : List ℕ). drop start (put_mid start (digits - start) xs ys)) c.copy_from_slice.ensures.after
-    ∙ placed c.args.words.now (decimal c.args.number ++ 10 ∷ []) xs start digits (omega (arith, short, end)) (omega (arith, short, end)) (c.write_digits-digits.ensures.written ∙ ap (λ (t : List ℕ). decimal c.args.number ++ t) last)
+    ∙ placed c.args.words.now (decimal c.args.number ++ 10 ∷ []) xs start digits (omega (arith, short, end)) (omega (arith, short, end))
+    (c.write_digits-digits.ensures.written ∙ ap (λ (t : List ℕ). decimal c.args.number ++ t) last)

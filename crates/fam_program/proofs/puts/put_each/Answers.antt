@@ -22,9 +22,12 @@ notes-preserved g c =
     let taken = text_taken c.args.notes.now c.notes.note-index c.note-item.result c.notes-test.true c.note-item.is c.args.names.now.items c.notes.names.items inv.names in
     record {
       named = are_named c.args.notes.now c.notes.note-index c.note-item.result c.notes-test.true c.note-item.is c.notes.names.items inv.named c.put_note.new.names.items c.in-Ok.ensures.names;
-      names = names_taken c.args.notes.now c.notes.note-index c.note-item.result c.notes-test.true c.note-item.is c.args.names.now.items c.notes.names.items inv.names c.put_note.new.names.items c.in-Ok.ensures.names;
+      names = names_taken c.args.notes.now c.notes.note-index c.note-item.result c.notes-test.true c.note-item.is c.args.names.now.items
+          c.notes.names.items inv.names c.put_note.new.names.items c.in-Ok.ensures.names;
       put =
-          whole_both (render_behind c.args.names.now.items (take c.notes.note-index (notes_view c.args.notes.now))) (note_line c.notes.names.items (note_view c.note-item.result)) (g.K.Sink.state c.args.out.now) (g.K.Sink.state c.notes.out) (g.K.Sink.state c.put_note.new.out) inv.later inv.put c.in-Ok.ensures.put
+          whole_both (render_behind c.args.names.now.items (take c.notes.note-index (notes_view c.args.notes.now)))
+          (note_line c.notes.names.items (note_view c.note-item.result)) (g.K.Sink.state c.args.out.now) (g.K.Sink.state c.notes.out)
+          (g.K.Sink.state c.put_note.new.out) inv.later inv.put c.in-Ok.ensures.put
           ∙ ap (λ (t : List ℕ). option_map (with_piece t) (g.K.Sink.state c.args.out.now).bytes) (sym taken);
       later = let x = inv.later in let y = c.put_note.ensures.later in omega (arith, x, y);
     }
@@ -35,9 +38,12 @@ returns-in-Err-clause-part g c = λ e.
     let s : SinkChange = change g.K.Sink.state c.args.out.now c.put_note.new.out in
     let front : List ℕ = render_behind c.args.names.now.items (take (c.notes.note-index + 1) (notes_view c.args.notes.now)) in
     let taken = text_taken c.args.notes.now c.notes.note-index c.note-item.result c.notes-test.true c.note-item.is c.args.names.now.items c.notes.names.items inv.names in
-    let part = part_both (render_behind c.args.names.now.items (take c.notes.note-index (notes_view c.args.notes.now))) (note_line c.notes.names.items (note_view c.note-item.result)) (g.K.Sink.state c.args.out.now) (g.K.Sink.state c.notes.out) (g.K.Sink.state c.put_note.new.out) inv.later inv.put (c.in-Err.ensures.part e) in
+    let part = part_both (render_behind c.args.names.now.items (take c.notes.note-index (notes_view c.args.notes.now)))
+    (note_line c.notes.names.items (note_view c.note-item.result)) (g.K.Sink.state c.args.out.now) (g.K.Sink.state c.notes.out)
+    (g.K.Sink.state c.put_note.new.out) inv.later inv.put (c.in-Err.ensures.part e) in
     subst (λ (t : List ℕ). PutPart t s) (sym (text_front c.args.names.now.items (notes_view c.args.notes.now) (c.notes.note-index + 1)))
-    (part_longer front (render_behind (names_behind c.args.names.now.items (take (c.notes.note-index + 1) (notes_view c.args.notes.now))) (drop (c.notes.note-index + 1) (notes_view c.args.notes.now))) s
+    (part_longer front (render_behind (names_behind c.args.names.now.items (take (c.notes.note-index + 1) (notes_view c.args.notes.now)))
+    (drop (c.notes.note-index + 1) (notes_view c.args.notes.now))) s
     (subst (λ (t : List ℕ). PutPart t s) (sym taken) part))
 
 pub returns-in-Err-clause-some : goal.returns-in-Err-clause-some

@@ -21,7 +21,9 @@ returns-clause-put g c =
 pub returns-clause-names : goal.returns-clause-names
 returns-clause-names g c =
     let rest = notes_from c.journal.result.now c.args.from c.args.world.now.journal c.journal.ensures in
-    subst (λ (ns : List (List ℕ)). OnOk c.put_each.result (c.put_each.new.names.items ≡ ns)) (ap (names_behind c.args.names.now.items) rest ∙ names_all c.args.world.now.journal c.args.from c.args.names.now.items c.requires.names) c.put_each.ensures.names
+    subst (λ (ns : List (List ℕ)). OnOk c.put_each.result (c.put_each.new.names.items ≡ ns))
+    (ap (names_behind c.args.names.now.items) rest ∙ names_all c.args.world.now.journal c.args.from c.args.names.now.items c.requires.names)
+    c.put_each.ensures.names
 
 pub returns-clause-part : goal.returns-clause-part
 returns-clause-part g c = λ e.

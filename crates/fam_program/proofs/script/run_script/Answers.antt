@@ -29,7 +29,8 @@ happen-requires g c = record {
 
 pub put_stop-requires : goal.put_stop-requires
 put_stop-requires g c =
-    let t = turned c.events.invariant.turns c.in-Some.ensures.steps.0 c.happen.new.media c.happen.new.shelf c.happen.new.world c.happen.new.copied (Err c.in-Err.fault) c.happen.ensures.size c.happen.ensures.steady c.in-Err.ensures.says in
+    let t = turned c.events.invariant.turns c.in-Some.ensures.steps.0 c.happen.new.media c.happen.new.shelf c.happen.new.world c.happen.new.copied
+    (Err c.in-Err.fault) c.happen.ensures.size c.happen.ensures.steady c.in-Err.ensures.says in
     record {
       within = from_within g.K.Sink.state c.args.out.now t c.journal-from.result.now c.journal-from.ensures;
       named = all_named g.K.Sink.state c.args.out.now t;
@@ -38,7 +39,8 @@ put_stop-requires g c =
 
 pub put_notes-requires : goal.put_notes-requires
 put_notes-requires g c =
-    let t = turned c.events.invariant.turns c.in-Some.ensures.steps.0 c.happen.new.media c.happen.new.shelf c.happen.new.world c.happen.new.copied (Ok tt) c.happen.ensures.size c.happen.ensures.steady c.in-Ok.ensures.says in
+    let t = turned c.events.invariant.turns c.in-Some.ensures.steps.0 c.happen.new.media c.happen.new.shelf c.happen.new.world c.happen.new.copied
+    (Ok tt) c.happen.ensures.size c.happen.ensures.steady c.in-Ok.ensures.says in
     record {
       within = from_within g.K.Sink.state c.args.out.now t c.journal-from.result.now c.journal-from.ensures;
       named = all_named g.K.Sink.state c.args.out.now t;
@@ -47,19 +49,23 @@ put_notes-requires g c =
 
 pub events-preserved : goal.events-preserved
 events-preserved g c =
-    let t = turned c.events.invariant.turns c.in-Some.ensures.steps.0 c.happen.new.media c.happen.new.shelf c.happen.new.world c.happen.new.copied (Ok tt) c.happen.ensures.size c.happen.ensures.steady c.in-Ok.ensures.says in
+    let t = turned c.events.invariant.turns c.in-Some.ensures.steps.0 c.happen.new.media c.happen.new.shelf c.happen.new.world c.happen.new.copied
+    (Ok tt) c.happen.ensures.size c.happen.ensures.steady c.in-Ok.ensures.says in
     record {
       turns = goes_on c.events.invariant.turns c.in-Some.ensures.steps.0 t;
       names = c.in-Ok-put_notes.ensures.names;
-      put = text_put g.K.Sink.state c.args.out.now t c.journal-from.result.now c.journal-from.ensures c.events.names.items c.events.invariant.names c.events.out c.put_notes.new.out c.events.invariant.put c.in-Ok-put_notes.ensures.put;
+      put = text_put g.K.Sink.state c.args.out.now t c.journal-from.result.now c.journal-from.ensures c.events.names.items c.events.invariant.names
+          c.events.out c.put_notes.new.out c.events.invariant.put c.in-Ok-put_notes.ensures.put;
       later = let x = c.events.invariant.later in let y = c.put_notes.ensures.later in omega (arith, x, y);
     }
 
 pub returns-in-Err : goal.returns-in-Err
 returns-in-Err g c =
-    let t = turned c.events.invariant.turns c.in-Some.ensures.steps.0 c.happen.new.media c.happen.new.shelf c.happen.new.world c.happen.new.copied (Err c.in-Err.fault) c.happen.ensures.size c.happen.ensures.steady c.in-Err.ensures.says in
+    let t = turned c.events.invariant.turns c.in-Some.ensures.steps.0 c.happen.new.media c.happen.new.shelf c.happen.new.world c.happen.new.copied
+    (Err c.in-Err.fault) c.happen.ensures.size c.happen.ensures.steady c.in-Err.ensures.says in
     record {
-      ran = stop_put g.K.Sink.state c.args.out.now c.journal-from.result.now c.journal-from.ensures c.events.names.items c.events.invariant.names c.events.out c.put_stop.new.out c.events.invariant.later c.events.invariant.put t c.put_stop.ensures.says;
+      ran = stop_put g.K.Sink.state c.args.out.now c.journal-from.result.now c.journal-from.ensures c.events.names.items c.events.invariant.names
+          c.events.out c.put_stop.new.out c.events.invariant.later c.events.invariant.put t c.put_stop.ensures.says;
       steady = t.steady;
       shelf = t.shelf_steady;
       later = let x = c.events.invariant.later in let y = c.put_stop.ensures.later in omega (arith, x, y);
@@ -67,9 +73,12 @@ returns-in-Err g c =
 
 pub returns-in-Err-Sink : goal.returns-in-Err-Sink
 returns-in-Err-Sink g c =
-    let t = turned c.events.invariant.turns c.in-Some.ensures.steps.0 c.happen.new.media c.happen.new.shelf c.happen.new.world c.happen.new.copied (Ok tt) c.happen.ensures.size c.happen.ensures.steady c.in-Ok.ensures.says in
+    let t = turned c.events.invariant.turns c.in-Some.ensures.steps.0 c.happen.new.media c.happen.new.shelf c.happen.new.world c.happen.new.copied
+    (Ok tt) c.happen.ensures.size c.happen.ensures.steady c.in-Ok.ensures.says in
     record {
-      ran = failed_put g.K.Sink.state c.args.out.now c.journal-from.result.now c.journal-from.ensures c.events.names.items c.events.invariant.names c.events.out c.put_notes.new.out c.events.invariant.later c.events.invariant.put t (c.put_notes.ensures.part (c.in-Err-Sink.is ∙ ap Err c.in-Err-Sink.field-0-is));
+      ran = failed_put g.K.Sink.state c.args.out.now c.journal-from.result.now c.journal-from.ensures c.events.names.items c.events.invariant.names
+          c.events.out c.put_notes.new.out c.events.invariant.later c.events.invariant.put t
+          (c.put_notes.ensures.part (c.in-Err-Sink.is ∙ ap Err c.in-Err-Sink.field-0-is));
       steady = t.steady;
       shelf = t.shelf_steady;
       later = let x = c.events.invariant.later in let y = c.put_notes.ensures.later in omega (arith, x, y);
@@ -77,10 +86,13 @@ returns-in-Err-Sink g c =
 
 pub returns-in-Err-OutOfMemory : goal.returns-in-Err-OutOfMemory
 returns-in-Err-OutOfMemory g c =
-    let t = turned c.events.invariant.turns c.in-Some.ensures.steps.0 c.happen.new.media c.happen.new.shelf c.happen.new.world c.happen.new.copied (Ok tt) c.happen.ensures.size c.happen.ensures.steady c.in-Ok.ensures.says in
+    let t = turned c.events.invariant.turns c.in-Some.ensures.steps.0 c.happen.new.media c.happen.new.shelf c.happen.new.world c.happen.new.copied
+    (Ok tt) c.happen.ensures.size c.happen.ensures.steady c.in-Ok.ensures.says in
     record {
-      ran = short_put g.K.Sink.state c.args.out.now c.journal-from.result.now c.journal-from.ensures c.events.names.items c.events.invariant.names c.events.out c.put_memory.new.out c.events.invariant.later c.events.invariant.put t
-          (short_some c.events.names.items (drop (length c.journal-from.result.now) c.happen.new.world.journal) (g.K.Sink.state c.events.out) (g.K.Sink.state c.put_notes.new.out) (g.K.Sink.state c.put_memory.new.out)
+      ran = short_put g.K.Sink.state c.args.out.now c.journal-from.result.now c.journal-from.ensures c.events.names.items c.events.invariant.names
+          c.events.out c.put_memory.new.out c.events.invariant.later c.events.invariant.put t
+          (short_some c.events.names.items (drop (length c.journal-from.result.now) c.happen.new.world.journal) (g.K.Sink.state c.events.out)
+          (g.K.Sink.state c.put_notes.new.out) (g.K.Sink.state c.put_memory.new.out)
           c.put_notes.ensures.later c.put_memory.result (c.put_notes.ensures.some (c.in-Err-OutOfMemory.is ∙ ap Err c.in-Err-OutOfMemory.field-0-is)) c.put_memory.ensures.put);
       steady = t.steady;
       shelf = t.shelf_steady;
@@ -93,7 +105,9 @@ returns g c =
     let all = all_passed t (nil_from_length c.events.event-iterator.rest.items (let ok = c.events.event-iterator.rest.ok in let none = c.in-None.ensures.steps.0 in omega (arith, ok, none))) in
     record {
       ran =
-          subst (ScriptRan c.args.events.items (outside_of g.M.Media.size g.M.Media.state c.args.media.now c.events.media (change g.S.Shelf.state c.args.shelf.now c.events.shelf) (change g.K.Sink.state c.args.out.now c.events.out)))
+          subst (ScriptRan c.args.events.items
+          (outside_of g.M.Media.size g.M.Media.state c.args.media.now c.events.media (change g.S.Shelf.state c.args.shelf.now c.events.shelf)
+          (change g.K.Sink.state c.args.out.now c.events.out)))
           (sym c.end_status.ensures) (all_put g.K.Sink.state c.args.out.now t all c.events.out c.events.invariant.put);
       steady = steady_here t;
       shelf = t.shelf_steady;

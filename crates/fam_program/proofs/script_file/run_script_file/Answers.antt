@@ -32,5 +32,8 @@ returns-in-Err-clause-ends g c =
     let read = c.events_of.ensures.steady in
     let shelf : ShelfChange = change g.S.Shelf.state c.args.shelf.now c.events_of.new.shelf in
     let s : SinkChange = change g.K.Sink.state c.args.out.now c.put_unread.new.out in
-    early_ends shelf s c.args.name.now (g.M.Media.size c.args.media.now) (g.M.Media.state c.args.media.now).faults (g.M.Media.state c.args.media.now).image (record { media = omega arith; shelf = read.faults_later; shorts = read.shorts_later; sink = c.put_unread.ensures.later }) c.put_unread.result c.in-Err.fault c.in-Err.ensures.fault
+    early_ends shelf s c.args.name.now (g.M.Media.size c.args.media.now) (g.M.Media.state c.args.media.now).faults
+    (g.M.Media.state c.args.media.now).image
+    (record { media = omega arith; shelf = read.faults_later; shorts = read.shorts_later; sink = c.put_unread.ensures.later }) c.put_unread.result
+    c.in-Err.fault c.in-Err.ensures.fault
     c.put_unread.ensures.put

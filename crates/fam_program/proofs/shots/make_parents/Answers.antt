@@ -41,7 +41,14 @@ pub returns-clause-ends : goal.returns-clause-ends
 returns-clause-ends g c =
     let sink : SinkChange = change g.K.Sink.state c.args.out.now c.put_end.new.out in
     let out : Outside = outside_of g.M.Media.size g.M.Media.state c.args.media.now c.run_until_stop-ended.new.media (change g.S.Shelf.state c.args.shelf.now c.run_until_stop-ended.new.shelf) sink in
-    let later : NoneFalls out = record { media = c.run_until_stop-ended.ensures.steady.later; shelf = c.run_until_stop-ended.ensures.shelf.faults_later; shorts = c.run_until_stop-ended.ensures.shelf.shorts_later; sink = c.put_end.ensures.later } in
+    let later : NoneFalls out = record {
+      media = c.run_until_stop-ended.ensures.steady.later;
+      shelf =
+          c.run_until_stop-ended.ensures.shelf.faults_later;
+      shorts = c.run_until_stop-ended.ensures.shelf.shorts_later;
+      sink =
+          c.put_end.ensures.later;
+    } in
     let journal : List Note = c.run_until_stop-ended.new.world.journal in
     let shot : OneShot = MakesParents c.args.path.now c.args.attr in
     let done : c.parents_status-done.result ≡ parents_status journal = c.parents_status-done.ensures ∙ ap parents_status c.journal.ensures in

@@ -16,8 +16,10 @@ same_line items (Err e) a b same is = tt
 pub returns : goal.returns
 returns c = λ all is.
     let seen : List Note = notes_view c.journal-notes.result.now in
-    same_line (λ v. v.items) c.storm_line.result (line (storm_text c.args.seed c.args.size c.args.events c.count_notes-counts.result c.in_ok-crc.crc)) (storm_line c.args.seed c.args.size all c.args.world.now.journal)
+    same_line (λ v. v.items) c.storm_line.result (line (storm_text c.args.seed c.args.size c.args.events c.count_notes-counts.result c.in_ok-crc.crc))
+    (storm_line c.args.seed c.args.size all c.args.world.now.journal)
     (ap (λ (n : ℕ). line (storm_text c.args.seed c.args.size n c.count_notes-counts.result c.in_ok-crc.crc)) is
-    ∙ storm_line_is c.args.seed c.args.size all seen c.count_notes-counts.result c.in_ok-crc.crc c.count_notes-counts.ensures.answers c.count_notes-counts.ensures.refused c.count_notes-counts.ensures.settled c.in_ok-crc.ensures
+    ∙ storm_line_is c.args.seed c.args.size all seen c.count_notes-counts.result c.in_ok-crc.crc c.count_notes-counts.ensures.answers
+    c.count_notes-counts.ensures.refused c.count_notes-counts.ensures.settled c.in_ok-crc.ensures
     ∙ ap (storm_line c.args.seed c.args.size all) c.journal-notes.ensures)
     c.storm_line.ensures

@@ -28,7 +28,8 @@ happen-requires g c = record {
 
 pub events-preserved : goal.events-preserved
 events-preserved g c =
-    let t = turned c.events.invariant.turns c.in-Some.ensures.steps.0 c.happen.new.media c.happen.new.shelf c.happen.new.world c.happen.new.copied (Ok tt) c.happen.ensures.size c.happen.ensures.steady c.in-Ok.ensures.says in
+    let t = turned c.events.invariant.turns c.in-Some.ensures.steps.0 c.happen.new.media c.happen.new.shelf c.happen.new.world c.happen.new.copied
+    (Ok tt) c.happen.ensures.size c.happen.ensures.steady c.in-Ok.ensures.says in
     let shot = subst AreShotEvents c.in-Some.ensures.steps.0 c.events.invariant.shot in
     record {
       turns = goes_on c.events.invariant.turns c.in-Some.ensures.steps.0 t;
@@ -38,7 +39,8 @@ events-preserved g c =
 
 pub returns-then-last_stops : goal.returns-then-last_stops
 returns-then-last_stops g c =
-    let t = turned c.events.invariant.turns c.in-Some.ensures.steps.0 c.happen.new.media c.happen.new.shelf c.happen.new.world c.happen.new.copied (Ok tt) c.happen.ensures.size c.happen.ensures.steady c.in-Ok.ensures.says in
+    let t = turned c.events.invariant.turns c.in-Some.ensures.steps.0 c.happen.new.media c.happen.new.shelf c.happen.new.world c.happen.new.copied
+    (Ok tt) c.happen.ensures.size c.happen.ensures.steady c.in-Ok.ensures.says in
     let shot = subst AreShotEvents c.in-Some.ensures.steps.0 c.events.invariant.shot in
     let stops : last_stops c.happen.new.world.journal ≡ true = sym (c.last_stops.ensures ∙ ap last_stops c.journal.ensures) ∙ c.if-last_stops.true in
     record {
@@ -48,7 +50,9 @@ returns-then-last_stops g c =
         goes_on = done_goes_on t shot.0 c.events.invariant.goes;
         all = λ h. absurd (false≢true (sym h ∙ stops));
       };
-      same = λ one lacks. done_spares (base_of c.args.events.items (g.M.Media.size c.args.media.now) (g.M.Media.state c.args.media.now) (g.S.Shelf.state c.args.shelf.now)) one (suc (length c.events.yielded))
+      same = λ one lacks. done_spares
+          (base_of c.args.events.items (g.M.Media.size c.args.media.now) (g.M.Media.state c.args.media.now) (g.S.Shelf.state c.args.shelf.now)) one
+          (suc (length c.events.yielded))
           (now_of c.happen.new.world (g.M.Media.state c.happen.new.media) c.happen.new.copied) (done_far t) lacks;
       steady = t.steady;
       shelf = t.shelf_steady;
@@ -56,7 +60,8 @@ returns-then-last_stops g c =
 
 pub returns-in-Err : goal.returns-in-Err
 returns-in-Err g c =
-    let t = turned c.events.invariant.turns c.in-Some.ensures.steps.0 c.happen.new.media c.happen.new.shelf c.happen.new.world c.happen.new.copied (Err c.in-Err.fault) c.happen.ensures.size c.happen.ensures.steady c.in-Err.ensures.says in
+    let t = turned c.events.invariant.turns c.in-Some.ensures.steps.0 c.happen.new.media c.happen.new.shelf c.happen.new.world c.happen.new.copied
+    (Err c.in-Err.fault) c.happen.ensures.size c.happen.ensures.steady c.in-Err.ensures.says in
     let shot = subst AreShotEvents c.in-Some.ensures.steps.0 c.events.invariant.shot in
     record {
       ended = λ sink. (fault_ends t sink, fault_goes_on t shot.0 c.events.invariant.goes, fault_is_told t shot.0 c.events.invariant.goes);
@@ -76,7 +81,9 @@ returns g c =
         goes_on = all_go c.events.world.journal c.events.invariant.goes;
         all = λ h. all;
       };
-      same = λ one lacks. done_spares (base_of c.args.events.items (g.M.Media.size c.args.media.now) (g.M.Media.state c.args.media.now) (g.S.Shelf.state c.args.shelf.now)) one (length c.events.yielded)
+      same = λ one lacks. done_spares
+          (base_of c.args.events.items (g.M.Media.size c.args.media.now) (g.M.Media.state c.args.media.now) (g.S.Shelf.state c.args.shelf.now)) one
+          (length c.events.yielded)
           (now_of c.events.world (g.M.Media.state c.events.media) c.events.copied) t.far lacks;
       steady = steady_here t;
       shelf = t.shelf_steady;

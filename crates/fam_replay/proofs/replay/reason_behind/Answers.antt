@@ -12,7 +12,9 @@ check_entry-requires-clause-empty c = λ k. zero_at 512 k
 pub returns-in-Ok-clause-against : goal.returns-in-Ok-clause-against
 returns-in-Ok-clause-against c =
     against_by c.args.plan.now.params c.args.words.now c.args.plan.now.entries c.checked_entry.result c.fault_behind.result
-    (ap (entry_of c.args.plan.now.params c.args.words.now) (sym c.count.ensures.count) ∙ ap (λ (p : Params). entry_of p c.args.words.now c.count.result) (sym c.params.ensures) ∙ sym c.in-Ok.ensures.value ∙ ap Ok (sym c.checked_entry.ensures))
+    (ap (entry_of c.args.plan.now.params c.args.words.now) (sym c.count.ensures.count)
+    ∙ ap (λ (p : Params). entry_of p c.args.words.now c.count.result) (sym c.params.ensures) ∙ sym c.in-Ok.ensures.value
+    ∙ ap Ok (sym c.checked_entry.ensures))
     c.fault_behind.ensures.fault
 
 pub checked_entry-requires-clause-long : goal.checked_entry-requires-clause-long

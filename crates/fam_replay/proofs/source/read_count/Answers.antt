@@ -29,7 +29,8 @@ returns-in_err-header g c =
 
 pub returns-in-Err : goal.returns-in-Err
 returns-in-Err g c =
-    let held : Held g.M.Media.size g.M.Media.state g.M.Media.exact c.args.media.now c.read_line.new.media = record { quiet = c.in_ok-header.ensures.quiet; same = c.in_ok-header.ensures.same; steady = c.in_ok-header.ensures.steady } in
+    let held : Held g.M.Media.size g.M.Media.state g.M.Media.exact c.args.media.now c.read_line.new.media =
+    record { quiet = c.in_ok-header.ensures.quiet; same = c.in_ok-header.ensures.same; steady = c.in_ok-header.ensures.steady } in
     let f = c.fault_of_log.result in
     let is = c.fault_of_log.ensures in
     let fell = stopped g.M.Media.size g.M.Media.state g.M.Media.exact c.args.media.now c.read_line.new.media held f (log_other f c.in-Err.fault is) in
@@ -39,7 +40,9 @@ returns-in-Err g c =
       gate = tt;
       head = tt;
       asked = λ image told. fails_nowhere (IsOfHead (line_at image) c.args.params.now) f (log_other f c.in-Err.fault is);
-      fault = λ image told. tells_log f c.in-Err.fault _ is (by_header_line (line_at image) c.args.params.now c.in_ok-header.header c.in-Err.fault (c.in_ok-header.ensures.words image told) c.in-Err.ensures);
+      fault = λ image told. tells_log f c.in-Err.fault _ is
+          (by_header_line (line_at image) c.args.params.now c.in_ok-header.header c.in-Err.fault (c.in_ok-header.ensures.words image told)
+          c.in-Err.ensures);
       cause = fell.cause;
       counted = fell.counted;
       line = fell.line;
@@ -53,7 +56,8 @@ returns-in_err-gate g c =
     let p = err_from_is_err_and c.from_residual-in_err-gate.result c.from_residual-in_err-gate.ensures.1 in
     let e = c.in_err-gate.ensures in
     let f = c.in_err-gate.field-0.0 in
-    let held : Held g.M.Media.size g.M.Media.state g.M.Media.exact c.args.media.now c.read_line.new.media = record { quiet = c.in_ok-header.ensures.quiet; same = c.in_ok-header.ensures.same; steady = c.in_ok-header.ensures.steady } in
+    let held : Held g.M.Media.size g.M.Media.state g.M.Media.exact c.args.media.now c.read_line.new.media =
+    record { quiet = c.in_ok-header.ensures.quiet; same = c.in_ok-header.ensures.same; steady = c.in_ok-header.ensures.steady } in
     let last = line_failed g.M.Media.size g.M.Media.state g.M.Media.exact c.read_line.new.media c.read_line-2.new.media f _ e.failed e.rose e.counted e.line e.same e.steady in
     let fell = fell_on g.M.Media.size g.M.Media.state g.M.Media.exact c.args.media.now c.read_line.new.media c.read_line-2.new.media held f last in
     rw (p.1, p.2) (record {
@@ -61,7 +65,11 @@ returns-in_err-gate g c =
       few = tt;
       gate = tt;
       head = tt;
-      asked = λ image told. fails_there (IsOfHead (line_at image) c.args.params.now) f _ e.failed (inr (no_fault_of (line_at image) c.args.params.now c.in_ok-header.header (c.in_ok-header.ensures.words image told) c.in_default.ensures, refl));
+      asked = λ image told. fails_there (IsOfHead (line_at image) c.args.params.now) f _ e.failed
+          (inr (
+            no_fault_of (line_at image) c.args.params.now c.in_ok-header.header (c.in_ok-header.ensures.words image told) c.in_default.ensures,
+            refl,
+          ));
       fault = λ image told. tells_nothing f _ _ e.failed;
       cause = fell.cause;
       counted = fell.counted;
@@ -73,8 +81,10 @@ returns-in_err-gate g c =
 
 pub returns-in-Err-read_gate : goal.returns-in-Err-read_gate
 returns-in-Err-read_gate g c =
-    let one : Held g.M.Media.size g.M.Media.state g.M.Media.exact c.args.media.now c.read_line.new.media = record { quiet = c.in_ok-header.ensures.quiet; same = c.in_ok-header.ensures.same; steady = c.in_ok-header.ensures.steady } in
-    let next : Held g.M.Media.size g.M.Media.state g.M.Media.exact c.read_line.new.media c.read_line-2.new.media = record { quiet = c.in_ok-gate.ensures.quiet; same = c.in_ok-gate.ensures.same; steady = c.in_ok-gate.ensures.steady } in
+    let one : Held g.M.Media.size g.M.Media.state g.M.Media.exact c.args.media.now c.read_line.new.media =
+    record { quiet = c.in_ok-header.ensures.quiet; same = c.in_ok-header.ensures.same; steady = c.in_ok-header.ensures.steady } in
+    let next : Held g.M.Media.size g.M.Media.state g.M.Media.exact c.read_line.new.media c.read_line-2.new.media =
+    record { quiet = c.in_ok-gate.ensures.quiet; same = c.in_ok-gate.ensures.same; steady = c.in_ok-gate.ensures.steady } in
     let held = held_on g.M.Media.size g.M.Media.state g.M.Media.exact c.args.media.now c.read_line.new.media c.read_line-2.new.media one next in
     let f = c.fault_of_log-in-Err-read_gate.result in
     let is = c.fault_of_log-in-Err-read_gate.ensures in
@@ -85,7 +95,10 @@ returns-in-Err-read_gate g c =
       gate = tt;
       head = tt;
       asked = λ image told. fails_nowhere (IsOfHead (line_at image) c.args.params.now) f (log_other f c.in-Err-read_gate.fault is);
-      fault = λ image told. tells_log f c.in-Err-read_gate.fault _ is (by_gate (line_at image) c.args.params.now c.in_ok-header.header _ c.in-Err-read_gate.fault (c.in_ok-header.ensures.words image told) c.in_default.ensures (ap (λ (l : List ℕ). get_or l 0 0) (c.in_ok-gate.ensures.words image (one.same ∙ told))) c.in-Err-read_gate.ensures.fault);
+      fault = λ image told. tells_log f c.in-Err-read_gate.fault _ is
+          (by_gate (line_at image) c.args.params.now c.in_ok-header.header _ c.in-Err-read_gate.fault (c.in_ok-header.ensures.words image told)
+          c.in_default.ensures (ap (λ (l : List ℕ). get_or l 0 0) (c.in_ok-gate.ensures.words image (one.same ∙ told)))
+          c.in-Err-read_gate.ensures.fault);
       cause = fell.cause;
       counted = fell.counted;
       line = fell.line;
@@ -96,14 +109,20 @@ returns-in-Err-read_gate g c =
 
 pub returns : goal.returns
 returns g c =
-    let one : Held g.M.Media.size g.M.Media.state g.M.Media.exact c.args.media.now c.read_line.new.media = record { quiet = c.in_ok-header.ensures.quiet; same = c.in_ok-header.ensures.same; steady = c.in_ok-header.ensures.steady } in
-    let next : Held g.M.Media.size g.M.Media.state g.M.Media.exact c.read_line.new.media c.read_line-2.new.media = record { quiet = c.in_ok-gate.ensures.quiet; same = c.in_ok-gate.ensures.same; steady = c.in_ok-gate.ensures.steady } in
+    let one : Held g.M.Media.size g.M.Media.state g.M.Media.exact c.args.media.now c.read_line.new.media =
+    record { quiet = c.in_ok-header.ensures.quiet; same = c.in_ok-header.ensures.same; steady = c.in_ok-header.ensures.steady } in
+    let next : Held g.M.Media.size g.M.Media.state g.M.Media.exact c.read_line.new.media c.read_line-2.new.media =
+    record { quiet = c.in_ok-gate.ensures.quiet; same = c.in_ok-gate.ensures.same; steady = c.in_ok-gate.ensures.steady } in
     let held = held_on g.M.Media.size g.M.Media.state g.M.Media.exact c.args.media.now c.read_line.new.media c.read_line-2.new.media one next in
     record {
-      told = λ image told. count_told (line_at image) c.args.params.now c.in_ok-header.header _ (c.in_ok-header.ensures.words image told) c.in_default.ensures (ap (λ (l : List ℕ). get_or l 0 0) (c.in_ok-gate.ensures.words image (one.same ∙ told))) c.in_default-read_gate.ensures.fault;
+      told = λ image told. count_told (line_at image) c.args.params.now c.in_ok-header.header _ (c.in_ok-header.ensures.words image told)
+          c.in_default.ensures (ap (λ (l : List ℕ). get_or l 0 0) (c.in_ok-gate.ensures.words image (one.same ∙ told)))
+          c.in_default-read_gate.ensures.fault;
       few = c.in_default-read_gate.ensures.within;
       gate = λ image told. (ap (λ (l : List ℕ). get_or l 0 0) (c.in_ok-gate.ensures.words image (one.same ∙ told)));
-      head = λ image told. head_reads (line_at image) c.args.params.now c.in_ok-header.header _ (c.in_ok-header.ensures.words image told) c.in_default.ensures (ap (λ (l : List ℕ). get_or l 0 0) (c.in_ok-gate.ensures.words image (one.same ∙ told))) c.in_default-read_gate.ensures.fault;
+      head = λ image told. head_reads (line_at image) c.args.params.now c.in_ok-header.header _ (c.in_ok-header.ensures.words image told)
+          c.in_default.ensures (ap (λ (l : List ℕ). get_or l 0 0) (c.in_ok-gate.ensures.words image (one.same ∙ told)))
+          c.in_default-read_gate.ensures.fault;
       asked = tt;
       fault = tt;
       cause = tt;

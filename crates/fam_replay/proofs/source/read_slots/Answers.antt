@@ -22,7 +22,8 @@ returns-in_err-read_slot-clause-asked g c =
     let p = err_from_is_err_and c.from_residual.result c.from_residual.ensures.1 in
     rw (p.1, p.2) (λ image told.
     fails_among (IsOfSlot c.loop-slot.plan.params (length c.loop-slot.plan.entries)) (IsOfSlots (line_at image) c.args.plan.now.params c.args.count)
-    (λ at line. slot_reached (line_at image) c.args.plan.now.params c.loop-slot.slot c.loop-slot.plan.entries (v.each image told) c.loop-slot.plan.params c.args.count at v.params v.count c.loop-slot-test.true line)
+    (λ at line. slot_reached (line_at image) c.args.plan.now.params c.loop-slot.slot c.loop-slot.plan.entries
+    (v.each image told) c.loop-slot.plan.params c.args.count at v.params v.count c.loop-slot-test.true line)
     c.in_err-read_slot.field-0.0 c.in_err-read_slot.ensures.asked)
 
 pub loop-slot-preserved : goal.loop-slot-preserved

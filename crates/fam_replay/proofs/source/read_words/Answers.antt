@@ -7,7 +7,13 @@ use Rattle.fam_replay.proofs.source.read_words.Goals as goal
 
 pub read_line-requires : goal.read_line-requires
 read_line-requires g c = record {
-  within = omega (arith, slot_within c.args.params.now c.args.slot c.lines.line (g.M.Media.size c.args.media.now) c.requires.sound c.requires.slot (omega (arith, c.lines-test.true, c.shape_of-line-end.ensures.lines)) c.requires.device, c.line_of_slot.ensures, c.lines.invariant.steady.size);
+  within = omega (
+    arith,
+    slot_within c.args.params.now c.args.slot c.lines.line (g.M.Media.size c.args.media.now) c.requires.sound c.requires.slot
+        (omega (arith, c.lines-test.true, c.shape_of-line-end.ensures.lines)) c.requires.device,
+    c.line_of_slot.ensures,
+    c.lines.invariant.steady.size,
+  );
 }
 
 pub lines-preserved : goal.lines-preserved
@@ -17,7 +23,8 @@ lines-preserved g c =
     record {
       count = c.type_inv.words;
       words = λ image told.
-          words_more (line_at image) c.args.params.now c.args.slot c.lines.line c.lines.words c.put_words.new.slot c.in_ok-part.part (v.words image told) c.put_words.ensures.here c.put_words.ensures.before
+          words_more (line_at image) c.args.params.now c.args.slot c.lines.line c.lines.words c.put_words.new.slot c.in_ok-part.part
+          (v.words image told) c.put_words.ensures.here c.put_words.ensures.before
           (e.words image (v.same ∙ told) ∙ ap (line_at image) c.line_of_slot.ensures);
       same = e.same ∙ v.same;
       quiet = λ exact. e.quiet exact ∙ v.quiet exact;
@@ -26,4 +33,6 @@ lines-preserved g c =
 
 pub returns-clause-words : goal.returns-clause-words
 returns-clause-words g c = λ image told.
-    words_all (line_at image) c.args.params.now c.args.slot c.lines.words c.lines.line (omega (arith, c.lines.invariant.count, slot_short c.args.params.now)) (omega (arith, c.lines-test.false, c.shape_of-line-end.ensures.lines)) (c.lines.invariant.words image told)
+    words_all (line_at image) c.args.params.now c.args.slot c.lines.words c.lines.line
+    (omega (arith, c.lines.invariant.count, slot_short c.args.params.now)) (omega (arith, c.lines-test.false, c.shape_of-line-end.ensures.lines))
+    (c.lines.invariant.words image told)

@@ -5,4 +5,6 @@ use Rattle.fam_script.proofs.TextLemmas.{assoc9}
 use Rattle.fam_script.proofs.answers.checked_text.Goals as goal
 
 pub returns : goal.returns
-returns c = IfOk-weaker c.format.result _ _ (λ s e. e ∙ assoc9 (codes "checked") (text.number c.args.m) (codes " missing") (text.number c.args.checked.now.missing) (codes " extra") (text.number c.args.checked.now.extra) (codes " changed") (text.number c.args.checked.now.changed) (codes " first")) c.format.ensures.ok
+returns c = IfOk-weaker c.format.result _ _
+    (λ s e. e ∙ assoc9 (codes "checked") (text.number c.args.m) (codes " missing") (text.number c.args.checked.now.missing) (codes " extra")
+    (text.number c.args.checked.now.extra) (codes " changed") (text.number c.args.checked.now.changed) (codes " first")) c.format.ensures.ok

@@ -19,7 +19,8 @@ bytes-preserved c =
       | then-bytes-i-eq47+in-Ok+in_ok-put w ↦ (
           let put = w.in_ok-put.ensures ∙ ap (λ (x : List ℕ). c.bytes.paths.items ++ x ∷ []) w.in-Ok.ensures.same in
           ap (λ paths. paths.items ++ rest) w.paths-is
-          ∙ slash_put c.bytes-bytes.result.now c.bytes.i c.bytes-test.true c.bytes.paths.items w.put.new.into.items (path_prefixes c.bytes-bytes.result.now) w.if-bytes-i-eq47.true put c.bytes.invariant)
+          ∙ slash_put c.bytes-bytes.result.now c.bytes.i c.bytes-test.true c.bytes.paths.items w.put.new.into.items
+          (path_prefixes c.bytes-bytes.result.now) w.if-bytes-i-eq47.true put c.bytes.invariant)
       | else-bytes-i-eq47 w ↦
           ap (λ paths. paths.items ++ rest) w.paths-is
           ∙ other_put c.bytes-bytes.result.now c.bytes.i c.bytes-test.true c.bytes.paths.items (path_prefixes c.bytes-bytes.result.now) w.if-bytes-i-eq47.false c.bytes.invariant

@@ -11,11 +11,13 @@ notes-preserved c =
     elim c.if-is_refused.branch [
       | then-is_refused w ↦ record {
         within = omega (arith, w.count-is, c.notes.invariant.within);
-        counted = counted_yes (λ (note : Note). is_refused_note (note_view note)) c.args.notes.now c.notes.note-index c.note-item.result c.notes-test.true c.note-item.is c.notes.count c.notes.invariant.counted _ (sym c.is_refused.ensures ∙ w.if-is_refused.true) w.count-is;
+        counted = counted_yes (λ (note : Note). is_refused_note (note_view note)) c.args.notes.now c.notes.note-index c.note-item.result
+            c.notes-test.true c.note-item.is c.notes.count c.notes.invariant.counted _ (sym c.is_refused.ensures ∙ w.if-is_refused.true) w.count-is;
       }
       | else-is_refused w ↦ record {
         within = omega (arith, w.count-is, c.notes.invariant.within);
-        counted = counted_no (λ (note : Note). is_refused_note (note_view note)) c.args.notes.now c.notes.note-index c.note-item.result c.notes-test.true c.note-item.is c.notes.count c.notes.invariant.counted _ (sym c.is_refused.ensures ∙ w.if-is_refused.false) w.count-is;
+        counted = counted_no (λ (note : Note). is_refused_note (note_view note)) c.args.notes.now c.notes.note-index c.note-item.result
+            c.notes-test.true c.note-item.is c.notes.count c.notes.invariant.counted _ (sym c.is_refused.ensures ∙ w.if-is_refused.false) w.count-is;
       }
     ]
 

@@ -21,11 +21,14 @@ note_line-requires c =
 pub notes-preserved : goal.notes-preserved
 notes-preserved c =
     let old = c.notes.invariant.so_far in record {
-      named = are_named c.args.notes.now c.notes.note-index c.note-item.result c.notes-test.true c.note-item.is c.notes.names.items c.notes.invariant.named c.note_line.new.names.items c.in_ok-line.ensures.names;
+      named = are_named c.args.notes.now c.notes.note-index c.note-item.result c.notes-test.true c.note-item.is c.notes.names.items
+          c.notes.invariant.named c.note_line.new.names.items c.in_ok-line.ensures.names;
       so_far = (
         old.0 ++ c.as_slice.result.now,
         sym (c.crc_more-crc.ensures.more old.0 old.1),
-        line_put c.args.notes.now c.notes.note-index c.note-item.result c.notes-test.true c.note-item.is c.notes.names.items c.note_line.new.names.items old.0 c.as_slice.result.now (old.0 ++ c.as_slice.result.now) _ c.in_ok-line.ensures.names (c.as_slice.ensures.value ∙ c.in_ok-line.ensures.line) refl old.2,
+        line_put c.args.notes.now c.notes.note-index c.note-item.result c.notes-test.true c.note-item.is c.notes.names.items
+            c.note_line.new.names.items old.0 c.as_slice.result.now (old.0 ++ c.as_slice.result.now) _ c.in_ok-line.ensures.names
+            (c.as_slice.ensures.value ∙ c.in_ok-line.ensures.line) refl old.2,
       );
     }
 

@@ -23,7 +23,8 @@ loop-entry-preserved g c =
     let before : AreSeen entries (e ∷ rest) old now c.loop-entry.first = subst (λ (l : List Entry). AreSeen entries l old now c.loop-entry.first) given c.loop-entry.invariant.seen in
     record {
       seen = subst (AreSeen entries rest old next) (sym c.or-first.ensures)
-          (more_seen entries old now next e rest c.loop-entry.first c.in_ok-met.met before c.in_ok-met.ensures.path c.in_ok-met.ensures.met c.in_ok-met.ensures.same c.in_ok-met.ensures.call c.in_ok-met.ensures.steady);
+          (more_seen entries old now next e rest c.loop-entry.first c.in_ok-met.met before c.in_ok-met.ensures.path c.in_ok-met.ensures.met
+          c.in_ok-met.ensures.same c.in_ok-met.ensures.call c.in_ok-met.ensures.steady);
       same = c.in_ok-met.ensures.same ∙ c.loop-entry.invariant.same;
       later = omega (arith, c.in_ok-met.ensures.later, c.loop-entry.invariant.later);
     }
@@ -52,7 +53,8 @@ returns-in_err-met-clause-fault g c =
     let given : tree_iter_rest c.loop-entry.entry-iterator ≡ e ∷ rest = cc (c.in-Some.ensures.steps) in
     let before : AreSeen entries (e ∷ rest) old now c.loop-entry.first = subst (λ (l : List Entry). AreSeen entries l old now c.loop-entry.first) given c.loop-entry.invariant.seen in
     let p = err_from_is_err_and c.from_residual.result c.from_residual.ensures.1 in
-    rw (p.1, p.2) (fault_of_pass entries before.done rest e old.faults now.faults (g.D.Shade.state c.clash_at.new.shade).faults before.parts c.loop-entry.invariant.later c.in_err-met.field-0.0 c.in_err-met.ensures.fault)
+    rw (p.1, p.2) (fault_of_pass entries before.done rest e old.faults now.faults (g.D.Shade.state c.clash_at.new.shade).faults before.parts
+    c.loop-entry.invariant.later c.in_err-met.field-0.0 c.in_err-met.ensures.fault)
 
 pub returns-in_err-met-clause-stop : goal.returns-in_err-met-clause-stop
 returns-in_err-met-clause-stop g c =
@@ -64,4 +66,5 @@ returns-in_err-met-clause-stop g c =
     let given : tree_iter_rest c.loop-entry.entry-iterator ≡ e ∷ rest = cc (c.in-Some.ensures.steps) in
     let before : AreSeen entries (e ∷ rest) old now c.loop-entry.first = subst (λ (l : List Entry). AreSeen entries l old now c.loop-entry.first) given c.loop-entry.invariant.seen in
     let p = err_from_is_err_and c.from_residual.result c.from_residual.ensures.1 in
-    rw (p.1, p.2) (looks_stop entries old now (g.D.Shade.state c.clash_at.new.shade) e rest c.in_err-met.field-0.0 c.in_err-met.ensures.fault c.in_err-met.ensures.stop c.loop-entry.first before c.in_err-met.ensures.same)
+    rw (p.1, p.2) (looks_stop entries old now (g.D.Shade.state c.clash_at.new.shade) e rest c.in_err-met.field-0.0 c.in_err-met.ensures.fault
+    c.in_err-met.ensures.stop c.loop-entry.first before c.in_err-met.ensures.same)

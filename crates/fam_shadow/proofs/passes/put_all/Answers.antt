@@ -45,7 +45,9 @@ returns-in_err-put_entry-clause-fault g c =
     let given : tree_iter_rest c.loop-entry.entry-iterator ≡ e ∷ rest = cc (c.in-Some.ensures.steps) in
     let before : EntriesPut entries (e ∷ rest) old now = subst (λ (l : List Entry). EntriesPut entries l old now) given c.loop-entry.invariant.put in
     let p = err_from_is_err_and c.from_residual.result c.from_residual.ensures.1 in
-    rw (p.1, p.2) (fault_of_pass entries before.done rest e (g.D.Shade.state c.args.shade.now).faults (g.D.Shade.state c.loop-entry.shade).faults (g.D.Shade.state c.put_entry.new.shade).faults before.parts c.loop-entry.invariant.later c.in_err-put_entry.field-0.0 c.in_err-put_entry.ensures.fault)
+    rw (p.1, p.2) (fault_of_pass entries before.done rest e (g.D.Shade.state c.args.shade.now).faults (g.D.Shade.state c.loop-entry.shade).faults
+    (g.D.Shade.state c.put_entry.new.shade).faults before.parts c.loop-entry.invariant.later c.in_err-put_entry.field-0.0
+    c.in_err-put_entry.ensures.fault)
 
 pub returns-clause-calls : goal.returns-clause-calls
 returns-clause-calls g c =
@@ -64,4 +66,5 @@ returns-in_err-put_entry-clause-stop g c =
     let given : tree_iter_rest c.loop-entry.entry-iterator ≡ e ∷ rest = cc (c.in-Some.ensures.steps) in
     let before : EntriesPut entries (e ∷ rest) old now = subst (λ (l : List Entry). EntriesPut entries l old now) given c.loop-entry.invariant.put in
     let p = err_from_is_err_and c.from_residual.result c.from_residual.ensures.1 in
-    rw (p.1, p.2) (puts_stop entries old now (g.D.Shade.state c.put_entry.new.shade) e rest c.in_err-put_entry.field-0.0 c.in_err-put_entry.ensures.fault c.in_err-put_entry.ensures.stop before c.in_err-put_entry.ensures.cut)
+    rw (p.1, p.2) (puts_stop entries old now (g.D.Shade.state c.put_entry.new.shade) e rest c.in_err-put_entry.field-0.0
+    c.in_err-put_entry.ensures.fault c.in_err-put_entry.ensures.stop before c.in_err-put_entry.ensures.cut)

@@ -8,7 +8,9 @@ use Rattle.fam_shadow.proofs.passes.shadow.Goals as goal
 pub returns-in_err-name-clause-ends : goal.returns-in_err-name-clause-ends
 returns-in_err-name-clause-ends g c =
     let p = err_from_is_err_and c.from_residual.result c.from_residual.ensures.1 in
-    rw (p.1, p.2) (looks_end c.args.tree.now (g.D.Shade.state c.args.shade.now).faults (g.D.Shade.state c.first_clash.new.shade).faults (g.D.Shade.state c.args.shade.now).nodes (g.D.Shade.state c.first_clash.new.shade).nodes c.in_err-name.field-0.0 c.in_err-name.ensures.fault c.in_err-name.ensures.same)
+    rw (p.1, p.2) (looks_end c.args.tree.now (g.D.Shade.state c.args.shade.now).faults (g.D.Shade.state c.first_clash.new.shade).faults
+    (g.D.Shade.state c.args.shade.now).nodes (g.D.Shade.state c.first_clash.new.shade).nodes c.in_err-name.field-0.0 c.in_err-name.ensures.fault
+    c.in_err-name.ensures.same)
 
 pub returns-in-Some-clause-ends : goal.returns-in-Some-clause-ends
 returns-in-Some-clause-ends g c =
@@ -25,9 +27,11 @@ returns-clause-ends g c = λ old told.
 pub returns-in_err-name-clause-calls : goal.returns-in_err-name-clause-calls
 returns-in_err-name-clause-calls g c =
     let p = err_from_is_err_and c.from_residual.result c.from_residual.ensures.1 in
-    rw (p.1, p.2) (looks_calls (map.values c.args.tree.now) (g.D.Shade.state c.args.shade.now) (g.D.Shade.state c.first_clash.new.shade) c.in_err-name.field-0.0 c.in_err-name.ensures.stop c.in_err-name.ensures.same)
+    rw (p.1, p.2) (looks_calls (map.values c.args.tree.now) (g.D.Shade.state c.args.shade.now) (g.D.Shade.state c.first_clash.new.shade)
+    c.in_err-name.field-0.0 c.in_err-name.ensures.stop c.in_err-name.ensures.same)
 
 pub returns-clause-calls : goal.returns-clause-calls
 returns-clause-calls g c =
-    puts_calls (map.values c.args.tree.now) (g.D.Shade.state c.args.shade.now) (g.D.Shade.state c.first_clash.new.shade) (g.D.Shade.state c.put_all.new.shade) c.in_ok-name.ensures.calls c.in_ok-name.ensures.same
+    puts_calls (map.values c.args.tree.now) (g.D.Shade.state c.args.shade.now) (g.D.Shade.state c.first_clash.new.shade)
+    (g.D.Shade.state c.put_all.new.shade) c.in_ok-name.ensures.calls c.in_ok-name.ensures.same
     c.put_all.result c.put_all.ensures.calls c.put_all.ensures.stop c.put_all.ensures.cut

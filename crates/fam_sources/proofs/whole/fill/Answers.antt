@@ -10,5 +10,8 @@ reads-preserved g c = (
   search rules,
   search rules,
   search rules,
-  λ files at. next_filled c.reads.got (length c.reads.into - c.reads.got) c.in-Ok.count c.reads.into c.read_at.new.into (bytes_of files c.args.name.now) (omega (arith, c.reads.invariant.1, c.reads.invariant.2)) (omega (arith, c.in-Ok.ensures.within, c.read_at.auto.into)) (c.reads.invariant.4 files at) (c.in-Ok.ensures.bytes files (c.reads.invariant.0.same ∙ at)),
+  λ files at. next_filled c.reads.got (length c.reads.into - c.reads.got) c.in-Ok.count c.reads.into c.read_at.new.into
+      (bytes_of files c.args.name.now) (omega (arith, c.reads.invariant.1, c.reads.invariant.2))
+      (omega (arith, c.in-Ok.ensures.within, c.read_at.auto.into)) (c.reads.invariant.4 files at)
+      (c.in-Ok.ensures.bytes files (c.reads.invariant.0.same ∙ at)),
 )

@@ -8,8 +8,14 @@ pub returns-then-sum-limit-clause-fault : goal.returns-then-sum-limit-clause-fau
 returns-then-sum-limit-clause-fault g c = (
   c.if-sum-limit.true,
   λ files at.
-      let h = holds_of _ c.in-Ok-Some.size (sym c.in-Ok-Some.field-0-is ∙ c.in-Ok-Some.ensures.value files at) in
-      (h.0, h.1, (c.saturating_add-sum.ensures ∙ ap (λ n. min (c.args.copied + n) (2 ^ 64 - 1)) h.2, (let fits : c.in-Ok-Some.size < 2 ^ 64 = search rules in let same = h.2 in omega (arith, fits, same)))),
+      let h = holds_of _ c.in-Ok-Some.size (sym c.in-Ok-Some.field-0-is ∙ c.in-Ok-Some.ensures.value files at) in (
+        h.0,
+        h.1,
+        (
+          c.saturating_add-sum.ensures ∙ ap (λ n. min (c.args.copied + n) (2 ^ 64 - 1)) h.2,
+          (let fits : c.in-Ok-Some.size < 2 ^ 64 = search rules in let same = h.2 in omega (arith, fits, same)),
+        ),
+      ),
 )
 
 pub returns-else-sum-limit-clause-within : goal.returns-else-sum-limit-clause-within

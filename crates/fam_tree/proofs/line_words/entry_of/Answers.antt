@@ -42,7 +42,8 @@ returns-clause-read c = λ e listed same.
     let both = some_same {A = MapKind × List Extent} (c.in_ok-map.map, c.in_ok-map.extents) (e.map, e.extents) (c.in_ok-map.ensures.read e.map e.extents listed.map listed.extents w.map) in
     ap (λ (x : Entry). Some x)
     (same_entry _ e (c.kind_of.ensures e.kind w.kind) (some_same _ _ (c.in_ok-path.ensures.read e.path listed.path w.path)) (some_same _ _ (c.in_ok-size.ensures.read e.size listed.size w.size))
-    (some_same _ _ (c.in_ok-mode.ensures.read e.mode listed.mode w.mode)) (some_same _ _ (c.in_ok-uid.ensures.read e.uid listed.uid w.uid)) (some_same _ _ (c.in_ok-gid.ensures.read e.gid listed.gid w.gid))
+    (some_same _ _ (c.in_ok-mode.ensures.read e.mode listed.mode w.mode)) (some_same _ _ (c.in_ok-uid.ensures.read e.uid listed.uid w.uid))
+    (some_same _ _ (c.in_ok-gid.ensures.read e.gid listed.gid w.gid))
     (ap (λ (p : MapKind × List Extent). p.0) both) (ap (λ (p : MapKind × List Extent). p.1) both))
 
 pub returns-clause-listed : goal.returns-clause-listed

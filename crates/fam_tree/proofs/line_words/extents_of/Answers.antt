@@ -29,7 +29,9 @@ loop-rest-preserved c =
           let read = c.in_ok-extent.ensures.read n.x n.fits (c.cut.ensures.front ∙ n.first) in
           let is : c.in_ok-extent.extent ≡ n.x = some_same _ _ read in
           so_far_more xs c.loop-rest.extents c.push.new.self c.loop-rest.rest.now c.cut.result.1.now c.in_ok-extent.extent n is added c.cut.ensures.back;
-      fits = subst (λ (l : List Extent). AreWordExtents l) (sym added) (All-push (λ (x : Extent). IsWordExtent x) c.loop-rest.extents c.in_ok-extent.extent c.loop-rest.invariant.fits c.in_ok-extent.ensures.fits);
+      fits = subst (λ (l : List Extent). AreWordExtents l) (sym added)
+          (All-push (λ (x : Extent). IsWordExtent x) c.loop-rest.extents c.in_ok-extent.extent c.loop-rest.invariant.fits
+          c.in_ok-extent.ensures.fits);
     }
 
 pub returns-then-len-eq0-clause-read : goal.returns-then-len-eq0-clause-read

@@ -26,7 +26,8 @@ loop-rest-preserved c =
       read = λ p proper same.
           let n = next_byte p (take c.loop-rest.count c.loop-rest.field) c.loop-rest.rest.now proper (c.loop-rest.invariant.read p proper same) left in
           let is = c.in_ok-byte.ensures.read n.byte (escaped n.tail) n.small n.first in
-          bytes_more p (take c.loop-rest.count c.loop-rest.field) _ c.loop-rest.rest.now c.in_ok-byte.more.now c.in_ok-byte.byte n is.0 (take_more_set c.loop-rest.field c.loop-rest.count c.in_ok-byte.byte within) is.1;
+          bytes_more p (take c.loop-rest.count c.loop-rest.field) _ c.loop-rest.rest.now c.in_ok-byte.more.now c.in_ok-byte.byte n is.0
+          (take_more_set c.loop-rest.field c.loop-rest.count c.in_ok-byte.byte within) is.1;
       within = omega (arith, within, length-set c.loop-rest.field c.loop-rest.count c.in_ok-byte.byte);
       room = length-set c.loop-rest.field c.loop-rest.count c.in_ok-byte.byte ∙ c.loop-rest.invariant.room;
     }

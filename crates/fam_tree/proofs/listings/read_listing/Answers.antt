@@ -21,7 +21,8 @@ pub returns-then-is_empty-clause-order : goal.returns-then-is_empty-clause-order
 returns-then-is_empty-clause-order c = subst (λ (es : List Entry). IsListing es) (sym c.new.ensures.items) empty_listing
 
 -- the first line counts the others, or it doesn't
-counts : (first bytes rest : List ℕ) (n : ℕ) → first ≡ front line_feed bytes → rest ≡ back line_feed bytes → n ≡ length (text_lines rest) → path_eq (front line_feed bytes) (played_line (length (text_lines (back line_feed bytes)))) ≡ path_eq first (played_line n)
+counts : (first bytes rest : List ℕ) (n : ℕ) → first ≡ front line_feed bytes → rest ≡ back line_feed bytes → n ≡ length (text_lines rest)
+    → path_eq (front line_feed bytes) (played_line (length (text_lines (back line_feed bytes)))) ≡ path_eq first (played_line n)
 counts first bytes rest n a b c =
     sym (ap₂ (λ (l : List ℕ) (k : ℕ). path_eq l (played_line k)) a (c ∙ ap (λ (l : List ℕ). length (text_lines l)) b))
 
@@ -54,7 +55,8 @@ pub returns-clause-read : goal.returns-clause-read
 returns-clause-read c =
     let some : 0 < length c.args.bytes.now = search rules in
     let bytes = c.args.bytes.now in
-    let test = counts c.cut.result.0.now bytes c.cut.result.1.now c.count_lines.result c.cut.ensures.front c.cut.ensures.back c.count_lines.ensures.count ∙ sym c.in_ok-is_count.ensures ∙ c.if-branch.false in
+    let test = counts c.cut.result.0.now bytes c.cut.result.1.now c.count_lines.result c.cut.ensures.front c.cut.ensures.back
+    c.count_lines.ensures.count ∙ sym c.in_ok-is_count.ensures ∙ c.if-branch.false in
     ok_along c.read_lines-2.result (λ (es : Vec Entry Global). LinesSay 1 None (text_lines bytes) (Ok es.items)) (λ (es : Vec Entry Global). ListingSays bytes (Ok es.items))
     (λ es h. plain_said bytes some (Ok es.items) test h) c.read_lines-2.ensures.read
 
@@ -68,6 +70,7 @@ pub returns-clause-bad : goal.returns-clause-bad
 returns-clause-bad c =
     let some : 0 < length c.args.bytes.now = search rules in
     let bytes = c.args.bytes.now in
-    let test = counts c.cut.result.0.now bytes c.cut.result.1.now c.count_lines.result c.cut.ensures.front c.cut.ensures.back c.count_lines.ensures.count ∙ sym c.in_ok-is_count.ensures ∙ c.if-branch.false in
+    let test = counts c.cut.result.0.now bytes c.cut.result.1.now c.count_lines.result c.cut.ensures.front c.cut.ensures.back
+    c.count_lines.ensures.count ∙ sym c.in_ok-is_count.ensures ∙ c.if-branch.false in
     err_along c.read_lines-2.result (NamesBad (LinesSay 1 None (text_lines bytes))) (NamesBad (ListingSays bytes))
     (λ fault h. names_along (LinesSay 1 None (text_lines bytes)) (ListingSays bytes) fault (λ said k. plain_said bytes some said test k) h) c.read_lines-2.ensures.bad

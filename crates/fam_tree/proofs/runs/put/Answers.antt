@@ -29,7 +29,8 @@ split-requires-clause-runs g c =
     let items = c.args.runs.now.items in
     let for : IsRunFor (runs_of es items) c.args.entry.now.path c.in-Some.k = rw (← c.deref.ensures.value, ← c.path.ensures.same) c.in-Some.ensures.some in
     let below : c.in-Some.k < length items = rw (← c.deref.ensures.value) c.in-Some.ensures.within in
-    added_are es c.add.new.entries items c.in-Some.k c.add.new.self c.args.entry.now c.requires.runs c.if-not-add.ensures.entries c.index_mut.result.now for below c.index_mut.ensures.value c.if-not-add.ensures.added c.if-not-add.ensures.inside
+    added_are es c.add.new.entries items c.in-Some.k c.add.new.self c.args.entry.now c.requires.runs c.if-not-add.ensures.entries
+    c.index_mut.result.now for below c.index_mut.ensures.value c.if-not-add.ensures.added c.if-not-add.ensures.inside
 
 pub returns-clause-free : goal.returns-clause-free
 returns-clause-free g c =
@@ -37,7 +38,8 @@ returns-clause-free g c =
     let items = c.args.runs.now.items in
     let for : IsRunFor (runs_of es items) c.args.entry.now.path c.in-Some.k = rw (← c.deref.ensures.value, ← c.path.ensures.same) c.in-Some.ensures.some in
     let below : c.in-Some.k < length items = rw (← c.deref.ensures.value) c.in-Some.ensures.within in
-    added_free es c.add.new.entries items c.in-Some.k c.add.new.self c.args.entry.now c.requires.runs c.if-not-add.ensures.entries c.index_mut.result.now for below c.index_mut.ensures.value c.if-not-add.ensures.added
+    added_free es c.add.new.entries items c.in-Some.k c.add.new.self c.args.entry.now c.requires.runs c.if-not-add.ensures.entries
+    c.index_mut.result.now for below c.index_mut.ensures.value c.if-not-add.ensures.added
 
 pub returns-clause-added : goal.returns-clause-added
 returns-clause-added g c =
@@ -46,7 +48,8 @@ returns-clause-added g c =
     let for : IsRunFor (runs_of es items) c.args.entry.now.path c.in-Some.k = rw (← c.deref.ensures.value, ← c.path.ensures.same) c.in-Some.ensures.some in
     let below : c.in-Some.k < length items = rw (← c.deref.ensures.value) c.in-Some.ensures.within in
     let kept : listed c.add.new.entries c.split.new.runs.items ≡ listed c.add.new.entries (set items c.in-Some.k c.add.new.self) = c.split.ensures.entries in
-    ap tree_of kept ∙ added_view es c.add.new.entries items c.in-Some.k c.add.new.self c.args.entry.now c.requires.runs c.if-not-add.ensures.entries c.index_mut.result.now for below c.index_mut.ensures.value c.if-not-add.ensures.added
+    ap tree_of kept ∙ added_view es c.add.new.entries items c.in-Some.k c.add.new.self c.args.entry.now c.requires.runs c.if-not-add.ensures.entries
+    c.index_mut.result.now for below c.index_mut.ensures.value c.if-not-add.ensures.added
 
 pub returns-clause-count : goal.returns-clause-count
 returns-clause-count g c =
@@ -55,4 +58,5 @@ returns-clause-count g c =
     let for : IsRunFor (runs_of es items) c.args.entry.now.path c.in-Some.k = rw (← c.deref.ensures.value, ← c.path.ensures.same) c.in-Some.ensures.some in
     let below : c.in-Some.k < length items = rw (← c.deref.ensures.value) c.in-Some.ensures.within in
     let kept : listed c.add.new.entries c.split.new.runs.items ≡ listed c.add.new.entries (set items c.in-Some.k c.add.new.self) = c.split.ensures.entries in
-    ap (λ (l : List Entry). length l) kept ∙ added_count es c.add.new.entries items c.in-Some.k c.add.new.self c.args.entry.now c.requires.runs c.if-not-add.ensures.entries c.index_mut.result.now for below c.index_mut.ensures.value c.if-not-add.ensures.added
+    ap (λ (l : List Entry). length l) kept ∙ added_count es c.add.new.entries items c.in-Some.k c.add.new.self c.args.entry.now c.requires.runs
+    c.if-not-add.ensures.entries c.index_mut.result.now for below c.index_mut.ensures.value c.if-not-add.ensures.added

@@ -5,7 +5,8 @@ use Rattle.fam_alloc.proofs.layers.Layers.mark.Goals as goal
 
 pub hint_all-requires-clause-sound : goal.hint_all-requires-clause-sound
 hint_all-requires-clause-sound c =
-    still_full c.self.inside.words.items c.mark.new.words.items c.self.inside.full.items c.self.invariant.words_full (marked_too c.self.inside.words.items c.mark.new.words.items c.args.from c.args.to c.mark.ensures.marked)
+    still_full c.self.inside.words.items c.mark.new.words.items c.self.inside.full.items c.self.invariant.words_full
+    (marked_too c.self.inside.words.items c.mark.new.words.items c.args.from c.args.to c.mark.ensures.marked)
 
 pub hint_all-requires-2-clause-sound : goal.hint_all-requires-2-clause-sound
 hint_all-requires-2-clause-sound c =

@@ -9,4 +9,5 @@ invariant_of-result c =
     let blocks = c.in_ok-zeros-3.ensures in
     let tops = c.in_ok-zeros-4.ensures in
     rw (words, full, blocks, tops)
-    (empty_layers c.args.words c.div_ceil-full.result c.div_ceil-blocks.result c.div_ceil-tops.result (omega (arith, c.div_ceil-full.ensures)) (omega (arith, c.div_ceil-blocks.ensures)) (omega (arith, c.div_ceil-tops.ensures)))
+    (empty_layers c.args.words c.div_ceil-full.result c.div_ceil-blocks.result c.div_ceil-tops.result (omega (arith, c.div_ceil-full.ensures))
+    (omega (arith, c.div_ceil-blocks.ensures)) (omega (arith, c.div_ceil-tops.ensures)))

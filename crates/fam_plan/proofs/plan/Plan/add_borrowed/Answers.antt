@@ -29,7 +29,8 @@ pub first_fault-requires-clause-within : goal.first_fault-requires-clause-within
 first_fault-requires-clause-within c =
     let own = c.self.inside in
     subst (λ (l : Ledger). LieWithin own.params.unit (length l.used.map) c.args.entry.now.extents) (sym c.in-Err.ensures.beside)
-    (within_view (record { params = own.params; entries = entries_at own.tree own.ledger.order }) c.args.self.now own.tree own.ledger.used.map c.args.entry.now c.self.invariant.plan c.self.view_is c.requires.proper)
+    (within_view (record { params = own.params; entries = entries_at own.tree own.ledger.order }) c.args.self.now own.tree own.ledger.used.map
+    c.args.entry.now c.self.invariant.plan c.self.view_is c.requires.proper)
 
 pub returns-in-Err-clause-cause : goal.returns-in-Err-clause-cause
 returns-in-Err-clause-cause c =
@@ -38,7 +39,8 @@ returns-in-Err-clause-cause c =
     c.first_fault.ensures
     ∙ ap (λ (l : Ledger). or_else (tree.reason_of c.in-Err.fault) (overlap_fault (first_overlap (is_taken l.used.map) units))) c.in-Err.ensures.beside
     ∙ ap (λ (f : Option Reason). or_else f (overlap_fault (first_overlap (is_taken own.ledger.used.map) units))) c.in-Err.ensures.cause
-    ∙ fault_of_view (record { params = own.params; entries = entries_at own.tree own.ledger.order }) c.args.self.now own.tree own.ledger.used.map c.args.entry.now c.self.invariant.plan c.self.view_is c.requires.proper
+    ∙ fault_of_view (record { params = own.params; entries = entries_at own.tree own.ledger.order }) c.args.self.now own.tree own.ledger.used.map
+    c.args.entry.now c.self.invariant.plan c.self.view_is c.requires.proper
 
 pub returns-in-Err-clause-once : goal.returns-in-Err-clause-once
 returns-in-Err-clause-once c =
@@ -55,9 +57,11 @@ invariant_of-self-2 c =
     let joins = c.in_default.ensures.joins in
     let unit = c.self.invariant.units in
     let e = c.args.entry.now in
-    let longer = entries_with own.tree c.apply_beside.new.self own.ledger.order new.order e (free_there own.tree e joins) c.self.invariant.held c.self.invariant.own c.in_default.ensures.added grown.order in
+    let longer = entries_with own.tree c.apply_beside.new.self own.ledger.order new.order e (free_there own.tree e joins) c.self.invariant.held
+    c.self.invariant.own c.in_default.ensures.added grown.order in
     record {
-      plan = plan_added (record { params = own.params; entries = entries_at own.tree own.ledger.order }) c.args.self.now own.tree own.ledger.used.map e c.self.invariant.plan c.self.view_is c.requires.proper
+      plan = plan_added (record { params = own.params; entries = entries_at own.tree own.ledger.order }) c.args.self.now own.tree own.ledger.used.map
+          e c.self.invariant.plan c.self.view_is c.requires.proper
           (entries_at c.apply_beside.new.self new.order) c.apply_beside.new.self new.used.map joins
           (subst (λ (n : ℕ). overlap_fault (first_overlap (is_taken own.ledger.used.map) (units_in n e.extents)) ≡ None) unit grown.used.fits)
           c.requires.left longer.entries c.in_default.ensures.added grown.used.units
@@ -71,7 +75,8 @@ pub returns-clause-joins : goal.returns-clause-joins
 returns-clause-joins c =
     let own = c.self.inside in
     let e = c.args.entry.now in
-    sym (units_of_view (record { params = own.params; entries = entries_at own.tree own.ledger.order }) c.args.self.now own.tree own.ledger.used.map e c.self.invariant.plan c.self.view_is c.requires.proper c.in_default.ensures.joins)
+    sym (units_of_view (record { params = own.params; entries = entries_at own.tree own.ledger.order }) c.args.self.now own.tree own.ledger.used.map e
+    c.self.invariant.plan c.self.view_is c.requires.proper c.in_default.ensures.joins)
     ∙ subst (λ (n : ℕ). overlap_fault (first_overlap (is_taken own.ledger.used.map) (units_in n e.extents)) ≡ None) c.self.invariant.units c.in_default.ensures.grown.used.fits
 
 pub returns-clause-added : goal.returns-clause-added

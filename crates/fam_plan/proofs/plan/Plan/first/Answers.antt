@@ -12,7 +12,13 @@ add-requires-clause-proper c =
 
 pub add-requires-clause-left : goal.add-requires-clause-left
 add-requires-clause-left c =
-    omega (arith, ap (λ (l : List Entry). length l) c.loop-i.invariant.first, length-take-le c.loop-i.i c.args.self.now.entries (omega arith), c.each_entry_joins.ensures.few, ap (λ (p : Params). p.slots) c.loop-i.invariant.params)
+    omega (
+      arith,
+      ap (λ (l : List Entry). length l) c.loop-i.invariant.first,
+      length-take-le c.loop-i.i c.args.self.now.entries (omega arith),
+      c.each_entry_joins.ensures.few,
+      ap (λ (p : Params). p.slots) c.loop-i.invariant.params,
+    )
 
 pub loop-i-preserved : goal.loop-i-preserved
 loop-i-preserved c = record {

@@ -11,4 +11,5 @@ returns c =
     next_either (is_used c.args.self.now.params (take c.args.count c.args.self.now.entries))
     (holds (units_in c.args.self.now.params.unit (take c.args.i c.args.extents.now)))
     c.args.run.start c.args.run.end c.first_used.result c.first_shared.result c.first_used.ensures
-    (subst (λ (s : PlanState). IsNext (holds (units_in s.params.unit (take c.args.i c.args.extents.now))) true c.args.run.start c.first_used.result c.first_shared.result) c.self.view_is c.first_shared.ensures)
+    (subst (λ (s : PlanState). IsNext (holds (units_in s.params.unit (take c.args.i c.args.extents.now))) true c.args.run.start c.first_used.result
+    c.first_shared.result) c.self.view_is c.first_shared.ensures)

@@ -17,7 +17,8 @@ returns-in_default c =
 pub extent_from-requires : goal.extent_from-requires
 extent_from-requires c =
     let own = c.self.inside in
-    end_fits (record { params = own.params; entries = entries_at own.tree own.ledger.order }) c.args.self.now own.tree own.ledger.used.map c.self.invariant.plan c.self.view_is c.units_of-count.result c.in-Some.start
+    end_fits (record { params = own.params; entries = entries_at own.tree own.ledger.order }) c.args.self.now own.tree own.ledger.used.map
+    c.self.invariant.plan c.self.view_is c.units_of-count.result c.in-Some.start
     (room_within (is_taken own.ledger.used.map) _ c.units_of-count.result c.in-Some.start c.in-Some.ensures)
 
 pub returns : goal.returns

@@ -11,7 +11,8 @@ use Rattle.fam_plan.proofs.plan.Plan.striped_room.Goals as goal
 pub find_strips-requires-clause-some : goal.find_strips-requires-clause-some
 find_strips-requires-clause-some c =
     let own = c.self.inside in
-    let good = stripe_here (record { params = own.params; entries = entries_at own.tree own.ledger.order }) c.args.self.now own.tree own.ledger.used.map c.self.invariant.plan c.self.view_is c.args.stripe c.requires.stripe in
+    let good = stripe_here (record { params = own.params; entries = entries_at own.tree own.ledger.order }) c.args.self.now own.tree
+    own.ledger.used.map c.self.invariant.plan c.self.view_is c.args.stripe c.requires.stripe in
     let chunk_fits : c.args.stripe.chunk < 2 ^ 64 = search rules in
     strip_some (record { params = own.params; entries = entries_at own.tree own.ledger.order }) c.args.self.now own.tree own.ledger.used.map c.self.invariant.plan c.self.view_is
     c.args.size c.args.stripe c.strip_units-count.result good c.requires.size c.ranges.size.fits chunk_fits c.strip_units-count.ensures.value

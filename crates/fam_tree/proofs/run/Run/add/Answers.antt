@@ -20,4 +20,5 @@ returns-clause-inside g c =
     let xs = c.self.inside.places.value.items in
     let same : c.in-Some.places.now.items ≡ xs = ap (λ v. v.items) c.in-Some.ensures.value ∙ c.unshare.ensures in
     let within : AreWithin (length es) xs = rw c.self.view_is c.requires.inside in
-    within_where c.insert.result es c.insert.new.entries xs c.insert.new.places.items c.in-Some.places.now.items c.in-Err.i c.args.entry.now within same c.insert.ensures.places c.insert.ensures.entries
+    within_where c.insert.result es c.insert.new.entries xs c.insert.new.places.items c.in-Some.places.now.items c.in-Err.i c.args.entry.now within
+    same c.insert.ensures.places c.insert.ensures.entries
