@@ -126,7 +126,7 @@ impl Task {
         ensures err { OnErr result (self.new ≡ self.old) }
         ensures want { OnErr result (WantsMemory self.old (turn_of self.old None)) }
     {
-        match self.cmd {
+        match self.command() {
             Cmd::Logplay => self.play(),
             Cmd::Mount => Ok(self.mount()),
             Cmd::Mkdir { .. } => self.append(),
@@ -137,6 +137,13 @@ impl Task {
             Cmd::Check { .. } => self.check(),
             Cmd::Fsck => self.report(),
         }
+    }
+
+    /// The command. It is asked for where a call of the whole task follows, whose proof then has no part of the task in it.
+    fn command(&self) -> &Cmd
+        ensures { result.now ≡ self.now.cmd }
+    {
+        &self.cmd
     }
 
     /// Answers with the tree of all entries. A host that keeps something keeps these from here on.
