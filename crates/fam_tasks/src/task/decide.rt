@@ -140,7 +140,7 @@ impl Task {
     }
 
     /// The command. It is asked for where a call of the whole task follows, whose proof then has no part of the task in it.
-    fn command(&self) -> &Cmd
+    pub(super) fn command(&self) -> &Cmd
         ensures { result.now ≡ self.now.cmd }
     {
         &self.cmd

@@ -52,7 +52,7 @@ impl Task {
         ensures shows { OnErr result (is_fsck self.old.cmd ≡ true
             → ShowWants self.old.params self.old.gate slot self.old.words) }
     {
-        if is_fsck(&self.cmd) {
+        if is_fsck(self.command()) {
             return self.show_slot(slot);
         }
         self.read_slot(slot)
