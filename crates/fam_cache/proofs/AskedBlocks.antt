@@ -52,7 +52,8 @@ module _ (c : Blocks) (kept : IsKept c) (first number next : ℕ) (none : NoneAs
       read : (q : ℕ) → q / 16 ≡ next → cell_at (lines_of c) q ≡ cell_in (block_at c.blocks.items at) (q % 16)
       read q e = cell_read c kept at q (record { within = stands.within; is = stands.is ∙ sym e })
 
-      unasked_below : (o : ℕ) → ((i : ℕ) → start ≤ i → i < o → IsAsked (cell_in (block_at c.blocks.items at) i) → ⊥) → (q : ℕ) → first ≤ q → q / 16 ≡ next → q % 16 < o → IsAsked (cell_at (lines_of c) q) → ⊥
+      unasked_below : (o : ℕ) → ((i : ℕ) → start ≤ i → i < o → IsAsked (cell_in (block_at c.blocks.items at) i) → ⊥) → (q : ℕ) → first ≤ q
+          → q / 16 ≡ next → q % 16 < o → IsAsked (cell_at (lines_of c) q) → ⊥
       unasked_below o before q from e below asked =
           let least : start ≤ q % 16 = elim (cases_eq next (first / 16)) [
             | inl same ↦ omega (arith, here same, same, e, from)
@@ -67,7 +68,8 @@ module _ (c : Blocks) (kept : IsKept c) (first number next : ℕ) (none : NoneAs
             | inr other ↦ none_skipped skipped q from (omega (arith, below, other))
           ]
 
-      pub first_here : first / 16 ≤ next → (o : ℕ) → o < 16 → start ≤ o → IsAsked (cell_in (block_at c.blocks.items at) o) → ((i : ℕ) → start ≤ i → i < o → IsAsked (cell_in (block_at c.blocks.items at) i) → ⊥) →
+      pub first_here : first / 16 ≤ next → (o : ℕ) → o < 16 → start ≤ o → IsAsked (cell_in (block_at c.blocks.items at) o)
+          → ((i : ℕ) → start ≤ i → i < o → IsAsked (cell_in (block_at c.blocks.items at) i) → ⊥) →
           IsFirstAsked (lines_of c) first (next * 16 + o)
       first_here up o small from_there asked before =
           let number_is : (next * 16 + o) / 16 ≡ next = omega (arith, small) in

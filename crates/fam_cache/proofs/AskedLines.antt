@@ -51,7 +51,8 @@ module _ (l : ℕ) (words : List ℕ) where
   abbrev sent_line : CachedLine
   sent_line = record { words = words; mark = clean }
 
-  first_in : (lines : Lines) → is_sorted nat_cmp lines ≡ true → is_asked (cell_of (find nat_cmp l lines)) ≡ true → ((q : ℕ) → q < l → is_asked (cell_of (find nat_cmp q lines)) ≡ true → ⊥) → asked_in lines ≡ l ∷ asked_in (put nat_cmp l sent_line lines)
+  first_in : (lines : Lines) → is_sorted nat_cmp lines ≡ true → is_asked (cell_of (find nat_cmp l lines)) ≡ true
+      → ((q : ℕ) → q < l → is_asked (cell_of (find nat_cmp q lines)) ≡ true → ⊥) → asked_in lines ≡ l ∷ asked_in (put nat_cmp l sent_line lines)
   unfolding asked_in
   first_in [] sorted is none = absurd (false≢true is)
   first_in (e ∷ lines) sorted is none =
@@ -63,7 +64,9 @@ module _ (l : ℕ) (words : List ℕ) where
             ∙ ap (λ (k : ℕ). k ∷ asked_in lines) (sym same)
             ∙ ap (λ (ls : Lines). l ∷ asked_in ls) (sym (put_same e lines same))
         | inr d ↦ elim d [
-          | inl up ↦ absurd (false≢true (sym (ap (λ (o : Option CachedLine). is_asked (cell_of o)) (below_none l lines (below_too l e.0 lines up both.0))) ∙ sym (found_later e lines l (λ same. omega (arith, up, same))) ∙ is))
+          | inl up ↦ absurd (false≢true (sym
+              (ap (λ (o : Option CachedLine). is_asked (cell_of o)) (below_none l lines (below_too l e.0 lines up both.0)))
+              ∙ sym (found_later e lines l (λ same. omega (arith, up, same))) ∙ is))
           | inr down ↦
               let unasked : is_marked_asked e.1.mark ≡ true → ⊥ = λ marked. none e.0 down (found_here e lines e.0 refl ∙ marked) in
               without_first (is_marked_asked e.1.mark) e others unasked
@@ -72,7 +75,9 @@ module _ (l : ℕ) (words : List ℕ) where
                 | inl same ↦ false≢true (sym (ap (λ (o : Option CachedLine). is_asked (cell_of o)) (ap (λ (k : ℕ). find nat_cmp k lines) same ∙ below_none e.0 lines both.0)) ∙ found)
                 | inr other ↦ none q before (found_later e lines q other ∙ found)
               ])
-              ∙ ap (λ (ls : List ℕ). l ∷ ls) (sym (ap asked_in (put_later e lines down) ∙ without_first (is_marked_asked e.1.mark) e (filter (λ (e : ℕ × CachedLine). is_marked_asked e.1.mark) (put nat_cmp l sent_line lines)) unasked))
+              ∙ ap (λ (ls : List ℕ). l ∷ ls) (sym
+              (ap asked_in (put_later e lines down) ∙ without_first (is_marked_asked e.1.mark) e
+              (filter (λ (e : ℕ × CachedLine). is_marked_asked e.1.mark) (put nat_cmp l sent_line lines)) unasked))
         ]
       ]
     where
@@ -82,7 +87,8 @@ module _ (l : ℕ) (words : List ℕ) where
       put_later : (e : ℕ × CachedLine) (lines : Lines) → e.0 < l → put nat_cmp l sent_line (e ∷ lines) ≡ e ∷ put nat_cmp l sent_line lines
       put_later e lines down = rw (greater l e.0 down) refl
 
-cleaned_lines_in : (cache : Cache) (l : ℕ) (cell : Cell) → IsAsked cell → is_asked (cell_of (find nat_cmp l (entries cache))) ≡ true → ((q : ℕ) → q < l → is_asked (cell_of (find nat_cmp q (entries cache))) ≡ true → ⊥) →
+cleaned_lines_in : (cache : Cache) (l : ℕ) (cell : Cell) → IsAsked cell → is_asked (cell_of (find nat_cmp l (entries cache))) ≡ true
+    → ((q : ℕ) → q < l → is_asked (cell_of (find nat_cmp q (entries cache))) ≡ true → ⊥) →
     asked_in (entries cache) ≡ l ∷ asked_lines (with_cell l (cleaned cell) cache)
 unfolding asked_in asked_lines
 cleaned_lines_in cache l Absent is_so is none = absurd (false≢true is_so)

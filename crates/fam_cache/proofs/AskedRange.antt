@@ -27,7 +27,8 @@ changed : (line : ℕ) (cell : Cell) (old new : Cache) → new ≡ with_cell lin
 changed line cell old new is asks l asked =
     let here : IsAsked (cell_at (with_cell line cell old) l) = subst (λ (c : Cache). IsAsked (cell_at c l)) is asked in
     elim (cases_eq l line) [
-      | inl e ↦ subst (λ (k : ℕ). IsAsked (cell_at old k)) (sym e) (asks (subst IsAsked (cell_at-with_cell_same line cell old) (subst (λ (k : ℕ). IsAsked (cell_at (with_cell line cell old) k)) e here)))
+      | inl e ↦ subst (λ (k : ℕ). IsAsked (cell_at old k)) (sym e)
+          (asks (subst IsAsked (cell_at-with_cell_same line cell old) (subst (λ (k : ℕ). IsAsked (cell_at (with_cell line cell old) k)) e here)))
       | inr ne ↦ subst IsAsked (cell_at-with_cell_other line cell old l ne) here
     ]
 
@@ -80,7 +81,8 @@ module _ (first last : ℕ) (old new : Cache) (was : AskedWithin first last old)
   within_cleaned some = kept first last old new (λ l asked. lines_asked (take some.count (asked_lines old)) old l (subst (λ (c : Cache). IsAsked (cell_at c l)) some.is asked)) was
 
 -- A line was asked for.
-pub within_asked : (first last first_now last_now line : ℕ) (old new : Cache) → AskedWithin first last old → new ≡ cell_changed line asked_for old → first_now ≤ first → first_now ≤ line → last ≤ last_now → line ≤ last_now → AskedWithin first_now last_now new
+pub within_asked : (first last first_now last_now line : ℕ) (old new : Cache) → AskedWithin first last old → new ≡ cell_changed line asked_for old
+    → first_now ≤ first → first_now ≤ line → last ≤ last_now → line ≤ last_now → AskedWithin first_now last_now new
 within_asked first last first_now last_now line old new was is a b c d = record {
   low = λ l asked. elim (cases_eq l line) [
     | inl e ↦ omega (arith, e, b)

@@ -69,7 +69,8 @@ module _ (new : Block) (l : ℕ) (is_new : new.number ≡ l / 16) where
   set_same (b ∷ bs) zero within before = first_here new bs l is_new
   set_same (b ∷ bs) (suc at) within before = first_other b (set bs at new) l (before 0 (omega arith)) ∙ set_same bs at (omega arith) (λ j below. before (suc j) (omega arith))
 
-  set_other : (bs : List Block) (at q : ℕ) → at < length bs → number_at bs at ≡ l / 16 → ((i : ℕ) → i ≢ l % 16 → cell_in new i ≡ cell_in (block_at bs at) i) → q ≢ l → cell_at (cache_of (set bs at new)) q ≡ cell_at (cache_of bs) q
+  set_other : (bs : List Block) (at q : ℕ) → at < length bs → number_at bs at ≡ l / 16
+      → ((i : ℕ) → i ≢ l % 16 → cell_in new i ≡ cell_in (block_at bs at) i) → q ≢ l → cell_at (cache_of (set bs at new)) q ≡ cell_at (cache_of bs) q
   set_other [] at q within is others other = absurd (omega arith)
   set_other (b ∷ bs) zero q within is others other =
       elim (cases_eq (l / 16) (q / 16)) [
@@ -107,7 +108,9 @@ module _ (c : Blocks) (kept : IsKept c) where
       let is_new : new.number ≡ l / 16 = number ∙ stands.is in
       same_cells _ _
       (λ q. elim (cases_eq q l) [
-        | inl e ↦ ap (cell_at (cache_of (set c.blocks.items at new))) e ∙ set_same new l is_new c.blocks.items at stands.within (first_of at (l / 16) stands) ∙ here ∙ sym (cell_at-with_cell_same l cell (lines_of c)) ∙ sym (ap (cell_at (with_cell l cell (lines_of c))) e)
+        | inl e ↦ ap (cell_at (cache_of (set c.blocks.items at new))) e ∙ set_same new l is_new c.blocks.items at stands.within
+            (first_of at (l / 16) stands) ∙ here ∙ sym (cell_at-with_cell_same l cell (lines_of c))
+            ∙ sym (ap (cell_at (with_cell l cell (lines_of c))) e)
         | inr other ↦ set_other new l is_new c.blocks.items at q stands.within stands.is others other ∙ sym (cell_at-with_cell_other l cell (lines_of c) q other)
       ])
 
@@ -195,24 +198,40 @@ module _ (c : Blocks) (kept : IsKept c) (at l : ℕ) (stands : IsBlockOf c.block
   b_number = ap (λ (x : Block). x.number) b_is
 
   module _ (mark : Mark) (words : List ℕ) where
-    pub line_cache : cache_of (set c.blocks.items at (record { number = b.number; marks = set b.marks (l % 16) mark; words = set b.words (l % 16) words })) ≡ with_cell l (marked mark words) (lines_of c)
+    pub line_cache : cache_of (set c.blocks.items at
+        (record { number = b.number; marks = set b.marks (l % 16) mark; words = set b.words (l % 16) words })) ≡ with_cell l (marked mark words)
+        (lines_of c)
     line_cache =
-        block_set c kept at l (record { number = b.number; marks = set b.marks (l % 16) mark; words = set b.words (l % 16) words }) (marked mark words) stands b_number (line_set b (l % 16) (omega arith) b_whole mark words)
+        block_set c kept at l (record { number = b.number; marks = set b.marks (l % 16) mark; words = set b.words (l % 16) words })
+        (marked mark words) stands b_number (line_set b (l % 16) (omega arith) b_whole mark words)
         (λ i other. lines_kept b (l % 16) (omega arith) b_whole mark words i other ∙ ap (λ (x : Block). cell_in x i) b_is)
 
-    pub line_keeps : IsKept (record { blocks = with_item c.blocks at (record { number = b.number; marks = set b.marks (l % 16) mark; words = set b.words (l % 16) words }); areas = c.areas; room = c.room; greatest = c.greatest })
+    pub line_keeps : IsKept (record {
+      blocks =
+          with_item c.blocks at (record { number = b.number; marks = set b.marks (l % 16) mark; words = set b.words (l % 16) words });
+      areas = c.areas;
+      room = c.room;
+      greatest = c.greatest;
+    })
     line_keeps =
         kept_new (record { number = b.number; marks = set b.marks (l % 16) mark; words = set b.words (l % 16) words }) refl
         (record { marks = length-set b.marks (l % 16) mark ∙ b_whole.marks; words = length-set b.words (l % 16) words ∙ b_whole.words })
 
   module _ (mark : Mark) where
-    pub mark_cache : cache_of (set c.blocks.items at (record { number = b.number; marks = set b.marks (l % 16) mark; words = b.words })) ≡ with_cell l (marked mark (words_there c.blocks.items at l)) (lines_of c)
+    pub mark_cache : cache_of (set c.blocks.items at (record { number = b.number; marks = set b.marks (l % 16) mark; words = b.words }))
+        ≡ with_cell l (marked mark (words_there c.blocks.items at l)) (lines_of c)
     mark_cache =
         block_set c kept at l (record { number = b.number; marks = set b.marks (l % 16) mark; words = b.words }) (marked mark (words_there c.blocks.items at l)) stands b_number
         (mark_set b (l % 16) (omega arith) b_whole mark [] ∙ ap (λ (x : Block). marked mark (get_or x.words (l % 16) [])) b_is)
         (λ i other. marks_kept b (l % 16) (omega arith) b_whole mark [] i other ∙ ap (λ (x : Block). cell_in x i) b_is)
 
-    pub mark_keeps : IsKept (record { blocks = with_item c.blocks at (record { number = b.number; marks = set b.marks (l % 16) mark; words = b.words }); areas = c.areas; room = c.room; greatest = c.greatest })
+    pub mark_keeps : IsKept (record {
+      blocks =
+          with_item c.blocks at (record { number = b.number; marks = set b.marks (l % 16) mark; words = b.words });
+      areas = c.areas;
+      room = c.room;
+      greatest = c.greatest;
+    })
     mark_keeps =
         kept_new (record { number = b.number; marks = set b.marks (l % 16) mark; words = b.words }) refl
         (record { marks = length-set b.marks (l % 16) mark ∙ b_whole.marks; words = b_whole.words })
@@ -271,7 +290,8 @@ held_words Stored words is = refl
 held_words Asked words is = refl
 
 -- the words of a line that is held
-pub words_held : (c : Blocks) → IsKept c → (at l : ℕ) → IsBlockOf c.blocks.items at (l / 16) → is_held (cell_at (lines_of c) l) ≡ true → words_of (cell_at (lines_of c) l) ≡ eight (words_there c.blocks.items at l)
+pub words_held : (c : Blocks) → IsKept c → (at l : ℕ) → IsBlockOf c.blocks.items at (l / 16) → is_held (cell_at (lines_of c) l) ≡ true
+    → words_of (cell_at (lines_of c) l) ≡ eight (words_there c.blocks.items at l)
 unfolding cell_in
 words_held c kept at l stands held =
     let is : cell_at (lines_of c) l ≡ marked (get_or (block_at c.blocks.items at).marks (l % 16) Empty) (words_there c.blocks.items at l) = cell_read c kept at l stands in
@@ -301,7 +321,9 @@ module _ (es : Areas) (n place : ℕ) (sorted : is_sorted nat_cmp es ≡ true) (
     here = place_found (put nat_cmp (n / 64) v es) n v (find_same es (n / 64) v) ∙ ap (λ (p : ℕ). Some p) here;
     others = λ m other at was.
         elim (cases_eq (m / 64) (n / 64)) [
-          | inl e ↦ place_found (put nat_cmp (n / 64) v es) m v (ap (λ (a : ℕ). find nat_cmp a (put nat_cmp (n / 64) v es)) e ∙ find_same es (n / 64) v) ∙ ap (λ (p : ℕ). Some p) (others m other e at was)
+          | inl e ↦ place_found (put nat_cmp (n / 64) v es) m v
+              (ap (λ (a : ℕ). find nat_cmp a (put nat_cmp (n / 64) v es)) e ∙ find_same es (n / 64) v)
+              ∙ ap (λ (p : ℕ). Some p) (others m other e at was)
           | inr ne ↦ place_other es m (n / 64) v ne ∙ was
         ];
     sorted = sorted_put es (n / 64) v sorted;
@@ -325,10 +347,12 @@ module _ (es : Areas) (n place : ℕ) (sorted : is_sorted nat_cmp es ≡ true) (
       subst (λ (new : Areas). IsEnlisted es new n place)
       (sym (ap (λ (k : ℕ). set es at (k, set x.1 (n % 64) place)) is ∙ put_present es at (n / 64) (set x.1 (n % 64) place) within before number))
       (enlisted (set x.1 (n % 64) place) (length-set x.1 (n % 64) place ∙ long) (get_or-set_same x.1 (n % 64) place 0 (omega (arith, long)))
-      (λ m other e p was. get_or-set_other x.1 (n % 64) (m % 64) place 0 (λ r. other (omega arith)) ∙ same_some (get_or x.1 (m % 64) 0) p (sym (place_found es m x.1 (ap (λ (a : ℕ). find nat_cmp a es) e ∙ found)) ∙ was)))
+      (λ m other e p was. get_or-set_other x.1 (n % 64) (m % 64) place 0 (λ r. other (omega arith)) ∙ same_some (get_or x.1 (m % 64) 0) p
+      (sym (place_found es m x.1 (ap (λ (a : ℕ). find nat_cmp a es) e ∙ found)) ∙ was)))
 
   -- in a new one
-  pub enlisted_new : (at : ℕ) (v : List ℕ) → at ≤ length es → Before es at (n / 64) → (at < length es → n / 64 < area_at es at) → length v ≡ 64 → IsEnlisted es (insert es at (n / 64, set v (n % 64) place)) n place
+  pub enlisted_new : (at : ℕ) (v : List ℕ) → at ≤ length es → Before es at (n / 64) → (at < length es → n / 64 < area_at es at) → length v ≡ 64
+      → IsEnlisted es (insert es at (n / 64, set v (n % 64) place)) n place
   enlisted_new at v within before after long =
       subst (λ (new : Areas). IsEnlisted es new n place) (sym (put_absent es at (n / 64) (set v (n % 64) place) within before after))
       (enlisted (set v (n % 64) place) (length-set v (n % 64) place ∙ long) (get_or-set_same v (n % 64) place 0 (omega (arith, long)))
@@ -355,7 +379,8 @@ module _ (old new : Blocks) (kept : IsKept old) (b : Block) (none : HasNone old.
   }
 
   pub added_keeps : (at : ℕ) → at ≡ length old.blocks.items → IsWhole b → IsEnlisted old.areas.items new.areas.items b.number at →
-      vec_len new.blocks + new.room ≤ vec_capacity new.blocks → vec_len new.areas + new.room ≤ vec_capacity new.areas → vec_len new.blocks + new.room ≤ most_blocks → old.greatest ≤ new.greatest → b.number ≤ new.greatest → IsKept new
+      vec_len new.blocks + new.room ≤ vec_capacity new.blocks → vec_len new.areas + new.room ≤ vec_capacity new.areas
+      → vec_len new.blocks + new.room ≤ most_blocks → old.greatest ≤ new.greatest → b.number ≤ new.greatest → IsKept new
   added_keeps at is whole told room_blocks room_areas few later own = record {
     sorted = told.sorted;
     indexed = λ j below.

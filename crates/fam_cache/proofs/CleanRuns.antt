@@ -56,7 +56,9 @@ brought_both first lines m (suc n) cache =
 pub row_put : (first : ℕ) (lines : List (List ℕ)) (done part n : ℕ) (old now new : Cache) → n ≡ part → done + part ≤ length lines → now ≡ brought_run first lines done old →
     new ≡ brought_run (first + done) (take n (drop done lines)) (length (take n (drop done lines))) now → new ≡ brought_run first lines (done + part) old
 row_put first lines done part n old now new size within before put =
-    let count : length (take n (drop done lines)) ≡ part = omega (arith, size, within, length-drop done lines, length-take-le n (drop done lines) (omega (arith, size, within, length-drop done lines))) in
+    let count : length (take n (drop done lines)) ≡ part =
+    omega (arith, size, within, length-drop done lines, length-take-le n (drop done lines) (omega (arith, size, within, length-drop done lines)))
+    in
     put ∙ ap (λ (k : ℕ). brought_run (first + done) (take n (drop done lines)) k now) count
     ∙ brought_take (first + done) (drop done lines) n part now (omega (arith, size))
     ∙ ap (brought_run (first + done) (drop done lines) part) before

@@ -34,7 +34,9 @@ count_put l v (e ∷ lines) none =
         | inr down ↦
             let later : find nat_cmp l lines ≡ None = sym (ap (λ (b : Bool). cond b (Some e.1) (find nat_cmp l lines)) (other_key l e.0 (λ same. omega (arith, down, same)))) ∙ none in
             let rest = count_put l v lines later in
-            rw (greater l e.0 down) (count_first e (put nat_cmp l v lines) ∙ (let sum : cond (is_marked_dirty e.1.mark) 1 0 + count_lines (put nat_cmp l v lines) ≡ cond (is_marked_dirty v.mark) 1 0 + count_lines (e ∷ lines) = omega (arith, rest, count_first e lines) in sum))
+            rw (greater l e.0 down) (count_first e (put nat_cmp l v lines)
+            ∙ (let sum : cond (is_marked_dirty e.1.mark) 1 0 + count_lines (put nat_cmp l v lines)
+            ≡ cond (is_marked_dirty v.mark) 1 0 + count_lines (e ∷ lines) = omega (arith, rest, count_first e lines) in sum))
       ]
     ]
 
@@ -83,18 +85,21 @@ count_append m (x ∷ ms) =
     let these = sum_by-cons {X = Mark} (λ x. cond (is_dirty_by x) 1 0) x ms in
     omega (arith, all, these, count_append m ms)
 
-lines_counted : (b : Block) (cache : Cache) → IsWhole b → ((i : ℕ) → i < 16 → cell_at cache (16 * b.number + i) ≡ Absent) → (n : ℕ) → n ≤ 16 → dirty_count (with_lines b n cache) ≡ count_by is_dirty_by (take n b.marks) + dirty_count cache
+lines_counted : (b : Block) (cache : Cache) → IsWhole b → ((i : ℕ) → i < 16 → cell_at cache (16 * b.number + i) ≡ Absent) → (n : ℕ) → n ≤ 16
+    → dirty_count (with_lines b n cache) ≡ count_by is_dirty_by (take n b.marks) + dirty_count cache
 unfolding with_lines cell_in
 lines_counted b cache whole none zero few =
     let nothing : count_by is_dirty_by (take 0 b.marks) ≡ 0 = refl in
     omega (arith, nothing)
 lines_counted b cache whole none (suc n) few =
     let mark : Mark = get_or b.marks n Empty in
-    let one = dirty_with (with_lines b n cache) (16 * b.number + n) (marked mark (get_or b.words n [])) (lines_other b n cache (16 * b.number + n) (λ i below e. omega (arith, below, e)) ∙ none n (omega (arith, few))) in
+    let one = dirty_with (with_lines b n cache) (16 * b.number + n) (marked mark (get_or b.words n []))
+    (lines_other b n cache (16 * b.number + n) (λ i below e. omega (arith, below, e)) ∙ none n (omega (arith, few))) in
     let test : cond {A = ℕ} (is_dirty (marked mark (get_or b.words n []))) 1 0 ≡ cond {A = ℕ} (is_dirty_by mark) 1 0 = ap (λ (t : Bool). cond t 1 0) (dirty_marked mark (get_or b.words n [])) in
     let rest = lines_counted b cache whole none n (omega (arith, few)) in
     let more : count_by is_dirty_by (take (suc n) b.marks) ≡ cond (is_dirty_by mark) 1 0 + count_by is_dirty_by (take n b.marks) =
-    ap (λ (k : ℕ). count_by is_dirty_by (take k b.marks)) (let step : suc n ≡ n + 1 = omega arith in step) ∙ ap (count_by is_dirty_by) (take_more b.marks n Empty (omega (arith, few, whole.marks))) ∙ count_append mark (take n b.marks) in
+    ap (λ (k : ℕ). count_by is_dirty_by (take k b.marks)) (let step : suc n ≡ n + 1 = omega arith in step) ∙ ap (count_by is_dirty_by)
+    (take_more b.marks n Empty (omega (arith, few, whole.marks))) ∙ count_append mark (take n b.marks) in
     omega (arith, one, test, rest, more)
 
 -- The blocks.
@@ -103,7 +108,8 @@ pub dirty_of : List Block → ℕ
 dirty_of [] = 0
 dirty_of (b ∷ bs) = count_by is_dirty_by b.marks + dirty_of bs
 
-blocks_counted : (bs : List Block) → ((j : ℕ) → j < length bs → IsWhole (block_at bs j)) → ((i j : ℕ) → i < length bs → j < length bs → number_at bs i ≡ number_at bs j → i ≡ j) → dirty_count (cache_of bs) ≡ dirty_of bs
+blocks_counted : (bs : List Block) → ((j : ℕ) → j < length bs → IsWhole (block_at bs j))
+    → ((i j : ℕ) → i < length bs → j < length bs → number_at bs i ≡ number_at bs j → i ≡ j) → dirty_count (cache_of bs) ≡ dirty_of bs
 unfolding cache_of dirty_of
 blocks_counted [] whole alone = dirty_empty
 blocks_counted (b ∷ bs) whole alone =
@@ -113,9 +119,11 @@ blocks_counted (b ∷ bs) whole alone =
     (λ i few. cell_none bs (16 * b.number + i) (λ j below e. (let quotient : (16 * b.number + i) / 16 ≡ b.number = omega (arith, few) in none j below (e ∙ quotient))))
     16 (omega arith)
     ∙ ap₂ (λ (x y : ℕ). x + y) (ap (count_by is_dirty_by) (take_all 16 b.marks (omega (arith, first.marks))))
-    (blocks_counted bs (λ j below. whole (suc j) (omega (arith, below))) (λ i j at_i at_j e. (let same : suc i ≡ suc j = alone (suc i) (suc j) (omega (arith, at_i)) (omega (arith, at_j)) e in omega (arith, same))))
+    (blocks_counted bs (λ j below. whole (suc j) (omega (arith, below)))
+    (λ i j at_i at_j e. (let same : suc i ≡ suc j = alone (suc i) (suc j) (omega (arith, at_i)) (omega (arith, at_j)) e in omega (arith, same))))
 
-pub dirty_counted : (bs : List Block) → ((j : ℕ) → j < length bs → IsWhole (block_at bs j)) → ((i j : ℕ) → i < length bs → j < length bs → number_at bs i ≡ number_at bs j → i ≡ j) → dirty_of bs ≡ dirty_count (cache_of bs)
+pub dirty_counted : (bs : List Block) → ((j : ℕ) → j < length bs → IsWhole (block_at bs j))
+    → ((i j : ℕ) → i < length bs → j < length bs → number_at bs i ≡ number_at bs j → i ≡ j) → dirty_of bs ≡ dirty_count (cache_of bs)
 dirty_counted bs whole alone = sym (blocks_counted bs whole alone)
 
 count_few : (ms : List Mark) → count_by is_dirty_by ms ≤ length ms

@@ -91,7 +91,9 @@ module _ (before now : CacheOver) (is : HasSent before now) where
         image = sends ∙ ap (option_map (line_changed line (λ memory. sent memory (cell_at now.lines line)))) is.image ∙ imaged more before.image;
       }
     where
-      imaged : take (suc is.count) asked ≡ take is.count asked ++ line ∷ [] → (o : Option Image) → option_map (line_changed line (λ memory. sent memory (cell_at now.lines line))) (option_map (λ (image : Image). (left image).image) o) ≡ option_map (λ (image : Image). (send_lines (take (suc is.count) asked) (machine image before.lines)).image) o
+      imaged : take (suc is.count) asked ≡ take is.count asked ++ line ∷ [] → (o : Option Image)
+          → option_map (line_changed line (λ memory. sent memory (cell_at now.lines line))) (option_map (λ (image : Image). (left image).image) o)
+          ≡ option_map (λ (image : Image). (send_lines (take (suc is.count) asked) (machine image before.lines)).image) o
       imaged more None = refl
       imaged more (Some image) =
           ap (λ (c : Cache). Some (line_changed line (λ memory. sent memory (cell_at c line)) (left image).image)) (left_lines image)

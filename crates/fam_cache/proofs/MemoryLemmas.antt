@@ -46,7 +46,9 @@ pub held_kept : (modelled : Option Image) (line : ℕ) (copy : Cell) → IsHeld 
 held_kept modelled line copy is = from_any modelled line (λ memory. normal copy ≡ brought memory (normal copy)) (held_stays copy is)
 
 -- an absent copy is brought, with the words that were read
-pub absent_brought : (modelled : Option Image) (line : ℕ) (words : List ℕ) (copy : Cell) → copy ≡ Absent → IfModelled modelled (λ lines. eight words ≡ line_at lines line) → FromMemory modelled line (λ memory. Clean (eight words) ≡ brought memory (normal copy))
+pub absent_brought : (modelled : Option Image) (line : ℕ) (words : List ℕ) (copy : Cell) → copy ≡ Absent
+    → IfModelled modelled (λ lines. eight words ≡ line_at lines line)
+    → FromMemory modelled line (λ memory. Clean (eight words) ≡ brought memory (normal copy))
 absent_brought modelled line words copy is read = record {
   memory = eight words;
   whole = refl;
@@ -72,7 +74,9 @@ held_same modelled line cache is =
     (λ memory. sym (ap (λ (cell : Cell). with_cell line cell cache) (held_still (cell_at cache line) is memory) ∙ with_cell_own line cache))
 
 -- an absent line is clean behind it, with memory's words
-pub brought_absent : (modelled : Option Image) (line : ℕ) (words : List ℕ) (old new : Cache) → cell_at old line ≡ Absent → IfModelled modelled (λ lines. eight words ≡ line_at lines line) → new ≡ with_cell line (Clean (eight words)) old → FromMemory modelled line (λ memory. new ≡ cell_changed line (brought memory) old)
+pub brought_absent : (modelled : Option Image) (line : ℕ) (words : List ℕ) (old new : Cache) → cell_at old line ≡ Absent
+    → IfModelled modelled (λ lines. eight words ≡ line_at lines line) → new ≡ with_cell line (Clean (eight words)) old
+    → FromMemory modelled line (λ memory. new ≡ cell_changed line (brought memory) old)
 brought_absent modelled line words old new absent read is = record {
   memory = eight words;
   whole = refl;
@@ -94,7 +98,8 @@ unfolding masked
 eight_masked_words mask new old = refl
 
 -- the masked words of a clean line are refreshed from what was read
-pub refreshed : (modelled : Option Image) (line mask : ℕ) (words read new : List ℕ) (copy : Cell) → IfModelled modelled (λ lines. eight read ≡ line_at lines line) → new ≡ masked mask read words → copy ≡ Clean words →
+pub refreshed : (modelled : Option Image) (line mask : ℕ) (words read new : List ℕ) (copy : Cell)
+    → IfModelled modelled (λ lines. eight read ≡ line_at lines line) → new ≡ masked mask read words → copy ≡ Clean words →
     FromMemory modelled line (λ memory. Clean (eight new) ≡ fetched mask memory (normal copy))
 refreshed modelled line mask words read new copy is_read new_is copy_is = record {
   memory = eight read;
@@ -115,7 +120,8 @@ leaked_line a (Some image) line mask words read new is_read new_is =
     ap (λ (w : List ℕ). Some (with_line line w image)) (leak_words image line mask words read new (is_read image refl) new_is)
 
 -- a leak that was written
-pub leaked_image : {a : Bool} (old between after : Option Image) (line mask : ℕ) (words read new : List ℕ) (copy : Cell) → between ≡ old → IfModelled old (λ lines. eight read ≡ line_at lines line) → new ≡ masked mask words read → copy ≡ Dirty a words →
+pub leaked_image : {a : Bool} (old between after : Option Image) (line mask : ℕ) (words read new : List ℕ) (copy : Cell) → between ≡ old
+    → IfModelled old (λ lines. eight read ≡ line_at lines line) → new ≡ masked mask words read → copy ≡ Dirty a words →
     after ≡ option_map (with_line line new) between → after ≡ option_map (line_changed line (λ memory. leaked mask memory (normal copy))) old
 leaked_image {a} old between after line mask words read new copy same is_read new_is copy_is written =
     written ∙ ap (option_map (with_line line new)) same ∙ leaked_line a old line mask words read new is_read new_is
@@ -135,7 +141,8 @@ pub absent_unsent : (state : Option Image) (line : ℕ) (copy : Cell) → IsNorm
 absent_unsent state line copy known is =
     absent_stays state line known ∙ sym (ap (λ (c : Cell). option_map (line_changed line (λ memory. sent memory (normal c))) state) is)
 
-pub clean_unsent : {words : List ℕ} (state : Option Image) (line : ℕ) (copy : Cell) → IsNormal state → copy ≡ Clean words → state ≡ option_map (line_changed line (λ memory. sent memory (normal copy))) state
+pub clean_unsent : {words : List ℕ} (state : Option Image) (line : ℕ) (copy : Cell) → IsNormal state → copy ≡ Clean words
+    → state ≡ option_map (line_changed line (λ memory. sent memory (normal copy))) state
 clean_unsent state line copy known is =
     absent_stays state line known ∙ sym (ap (λ (c : Cell). option_map (line_changed line (λ memory. sent memory (normal c))) state) is)
 
@@ -144,12 +151,14 @@ pub absent_unleaked : (state : Option Image) (line mask : ℕ) (copy : Cell) →
 absent_unleaked state line mask copy known is =
     absent_stays state line known ∙ sym (ap (λ (c : Cell). option_map (line_changed line (λ memory. leaked mask memory (normal c))) state) is)
 
-pub clean_unleaked : {words : List ℕ} (state : Option Image) (line mask : ℕ) (copy : Cell) → IsNormal state → copy ≡ Clean words → state ≡ option_map (line_changed line (λ memory. leaked mask memory (normal copy))) state
+pub clean_unleaked : {words : List ℕ} (state : Option Image) (line mask : ℕ) (copy : Cell) → IsNormal state → copy ≡ Clean words
+    → state ≡ option_map (line_changed line (λ memory. leaked mask memory (normal copy))) state
 clean_unleaked state line mask copy known is =
     absent_stays state line known ∙ sym (ap (λ (c : Cell). option_map (line_changed line (λ memory. leaked mask memory (normal c))) state) is)
 
 -- a send that was written
-pub dirty_sent : {a : Bool} {words : List ℕ} (state after : Option Image) (line : ℕ) (copy : Cell) → copy ≡ Dirty a words → after ≡ option_map (with_line line words) state → after ≡ option_map (line_changed line (λ memory. sent memory (normal copy))) state
+pub dirty_sent : {a : Bool} {words : List ℕ} (state after : Option Image) (line : ℕ) (copy : Cell) → copy ≡ Dirty a words
+    → after ≡ option_map (with_line line words) state → after ≡ option_map (line_changed line (λ memory. sent memory (normal copy))) state
 dirty_sent state after line copy is written =
     written ∙ sym (ap (λ (c : Cell). option_map (line_changed line (λ memory. sent memory (normal c))) state) is)
 
@@ -171,7 +180,8 @@ torn_leak_line image line through mask words new new_is =
     ∙ ap (λ (w : List ℕ). with_line line (masked through w (line_at image line)) image) (ap eight new_is ∙ eight_masked_words mask (eight words) (line_at image line))
 
 -- a leak whose write failed
-pub torn_leak : {a : Bool} (old between after : Option Image) (line mask : ℕ) (words read new : List ℕ) (copy : Cell) → between ≡ old → IfModelled old (λ lines. eight read ≡ line_at lines line) → new ≡ masked mask words read → copy ≡ Dirty a words →
+pub torn_leak : {a : Bool} (old between after : Option Image) (line mask : ℕ) (words read new : List ℕ) (copy : Cell) → between ≡ old
+    → IfModelled old (λ lines. eight read ≡ line_at lines line) → new ≡ masked mask words read → copy ≡ Dirty a words →
     IsTorn between after line new → IfModelled old (λ image. FailsTo line (λ through memory. failed_leak mask through memory (normal copy)) image after)
 torn_leak old between after line mask words read new copy same is_read new_is copy_is torn image is = record {
   through = torn.mask;

@@ -24,28 +24,37 @@ use Rattle.fam_cache.proofs.StoreLemmas.{brought_words}
 done : (op did : Op) (image : Image) (now : Option Image) (old new : Cache) → op ≡ did → IsMachine (operated did (machine image old)) now new → IsMachine (operated op (machine image old)) now new
 done op did image now old new is left = subst (λ (o : Op). IsMachine (operated o (machine image old)) now new) (sym is) left
 
-pub load_operated : (op : Op) (line : LineNo) (k : ℕ) (modelled now : Option Image) (old new : Cache) → op ≡ Load line k → now ≡ modelled → FromMemory modelled line.0 (λ memory. new ≡ cell_changed line.0 (brought memory) old) → IfModelled modelled (λ image. IsMachine (operated op (machine image old)) now new)
+pub load_operated : (op : Op) (line : LineNo) (k : ℕ) (modelled now : Option Image) (old new : Cache) → op ≡ Load line k → now ≡ modelled
+    → FromMemory modelled line.0 (λ memory. new ≡ cell_changed line.0 (brought memory) old)
+    → IfModelled modelled (λ image. IsMachine (operated op (machine image old)) now new)
 load_operated op line k modelled now old new is same from image modelled_is =
     done op (Load line k) image now old new is (record {
       image = same ∙ modelled_is;
       cache = from.is ∙ ap (λ (memory : List ℕ). cell_changed line.0 (brought memory) old) (from.modelled_is image modelled_is);
     })
 
-pub store_operated : (op : Op) (line : LineNo) (k value : ℕ) (modelled now : Option Image) (old new : Cache) → op ≡ Store line k value → now ≡ modelled → FromMemory modelled line.0 (λ memory. new ≡ cell_changed line.0 (stored k value memory) old) → IfModelled modelled (λ image. IsMachine (operated op (machine image old)) now new)
+pub store_operated : (op : Op) (line : LineNo) (k value : ℕ) (modelled now : Option Image) (old new : Cache) → op ≡ Store line k value
+    → now ≡ modelled → FromMemory modelled line.0 (λ memory. new ≡ cell_changed line.0 (stored k value memory) old)
+    → IfModelled modelled (λ image. IsMachine (operated op (machine image old)) now new)
 store_operated op line k value modelled now old new is same from image modelled_is =
     done op (Store line k value) image now old new is (record {
       image = same ∙ modelled_is;
       cache = from.is ∙ ap (λ (memory : List ℕ). cell_changed line.0 (stored k value memory) old) (from.modelled_is image modelled_is);
     })
 
-pub write_back_operated : (op : Op) (line : LineNo) (modelled : Option Image) (old new : Cache) → op ≡ WriteBack line → new ≡ cell_changed line.0 asked_for old → IfModelled modelled (λ image. IsMachine (operated op (machine image old)) modelled new)
+pub write_back_operated : (op : Op) (line : LineNo) (modelled : Option Image) (old new : Cache) → op ≡ WriteBack line
+    → new ≡ cell_changed line.0 asked_for old → IfModelled modelled (λ image. IsMachine (operated op (machine image old)) modelled new)
 write_back_operated op line modelled old new is asked image modelled_is =
     done op (WriteBack line) image modelled old new is (record { image = modelled_is; cache = asked })
 
-pub fence_operated : (op : Op) (modelled now : Option Image) (old new : Cache) → op ≡ Fence → IfModelled modelled (λ image. IsMachine (operated Fence (machine image old)) now new) → IfModelled modelled (λ image. IsMachine (operated op (machine image old)) now new)
+pub fence_operated : (op : Op) (modelled now : Option Image) (old new : Cache) → op ≡ Fence
+    → IfModelled modelled (λ image. IsMachine (operated Fence (machine image old)) now new)
+    → IfModelled modelled (λ image. IsMachine (operated op (machine image old)) now new)
 fence_operated op modelled now old new is left image modelled_is = done op Fence image now old new is (left image modelled_is)
 
-pub invalidate_operated : (op : Op) (line : LineNo) (modelled now : Option Image) (old new : Cache) → op ≡ Invalidate line → now ≡ option_map (line_changed line.0 (λ memory. sent memory (cell_at old line.0))) modelled → new ≡ with_cell line.0 Absent old → IfModelled modelled (λ image. IsMachine (operated op (machine image old)) now new)
+pub invalidate_operated : (op : Op) (line : LineNo) (modelled now : Option Image) (old new : Cache) → op ≡ Invalidate line
+    → now ≡ option_map (line_changed line.0 (λ memory. sent memory (cell_at old line.0))) modelled → new ≡ with_cell line.0 Absent old
+    → IfModelled modelled (λ image. IsMachine (operated op (machine image old)) now new)
 invalidate_operated op line modelled now old new is written dropped image modelled_is =
     done op (Invalidate line) image now old new is (record {
       image = written ∙ ap (option_map (line_changed line.0 (λ memory. sent memory (cell_at old line.0)))) modelled_is;
@@ -53,7 +62,9 @@ invalidate_operated op line modelled now old new is written dropped image modell
     })
 
 -- a load gives the word that the machine gives
-pub load_gives : (op : Op) (line : LineNo) (k value : ℕ) (modelled : Option Image) (old new : Cache) → op ≡ Load line k → value ≡ slice_index (words_of (cell_at new line.0)) k → FromMemory modelled line.0 (λ memory. new ≡ cell_changed line.0 (brought memory) old) → IfModelled modelled (λ image. Some value ≡ given op (machine image old))
+pub load_gives : (op : Op) (line : LineNo) (k value : ℕ) (modelled : Option Image) (old new : Cache) → op ≡ Load line k
+    → value ≡ slice_index (words_of (cell_at new line.0)) k → FromMemory modelled line.0 (λ memory. new ≡ cell_changed line.0 (brought memory) old)
+    → IfModelled modelled (λ image. Some value ≡ given op (machine image old))
 load_gives op line k value modelled old new is reads from image modelled_is =
     let cell : Cell = cell_at old line.0 in
     let words : words_of (cell_at new line.0) ≡ current (line_at image line.0) cell =
@@ -69,7 +80,9 @@ not_held line m Absent never = refl
 not_held line m (Clean words) never = absurd (never refl)
 not_held line m (Dirty a words) never = absurd (never refl)
 
-bring_fails : (op : Op) (line at : LineNo) (modelled now : Option Image) (old new : Cache) → at ≡ line → ((image : Image) → (through : Breaking) → failed through op (machine image old) ≡ not_brought line (machine image old) (cell_at old line.0)) → (IsHeld (cell_at old line.0) → ⊥) → now ≡ modelled → new ≡ old → IfModelled modelled (λ image. HasFailed op (machine image old) at now new)
+bring_fails : (op : Op) (line at : LineNo) (modelled now : Option Image) (old new : Cache) → at ≡ line
+    → ((image : Image) → (through : Breaking) → failed through op (machine image old) ≡ not_brought line (machine image old) (cell_at old line.0))
+    → (IsHeld (cell_at old line.0) → ⊥) → now ≡ modelled → new ≡ old → IfModelled modelled (λ image. HasFailed op (machine image old) at now new)
 bring_fails op line at modelled now old new here brings never same kept image is = record {
   left = machine image old;
   fails = record {
@@ -83,15 +96,20 @@ bring_fails op line at modelled now old new here brings never same kept image is
 }
 
 -- a load that would bring a line fails
-pub load_failed : (op : Op) (line : LineNo) (k : ℕ) (modelled now : Option Image) (old new : Cache) → op ≡ Load line k → (IsHeld (cell_at old line.0) → ⊥) → now ≡ modelled → new ≡ old → IfModelled modelled (λ image. HasFailed op (machine image old) line now new)
+pub load_failed : (op : Op) (line : LineNo) (k : ℕ) (modelled now : Option Image) (old new : Cache) → op ≡ Load line k
+    → (IsHeld (cell_at old line.0) → ⊥) → now ≡ modelled → new ≡ old → IfModelled modelled (λ image. HasFailed op (machine image old) line now new)
 load_failed op line k modelled now old new is = bring_fails op line line modelled now old new refl (λ image through. ap (λ (o : Op). failed through o (machine image old)) is)
 
 -- and so does a store
-pub store_failed : (op : Op) (line : LineNo) (k value : ℕ) (modelled now : Option Image) (old new : Cache) → op ≡ Store line k value → (IsHeld (cell_at old line.0) → ⊥) → now ≡ modelled → new ≡ old → IfModelled modelled (λ image. HasFailed op (machine image old) line now new)
+pub store_failed : (op : Op) (line : LineNo) (k value : ℕ) (modelled now : Option Image) (old new : Cache) → op ≡ Store line k value
+    → (IsHeld (cell_at old line.0) → ⊥) → now ≡ modelled → new ≡ old → IfModelled modelled (λ image. HasFailed op (machine image old) line now new)
 store_failed op line k value modelled now old new is = bring_fails op line line modelled now old new refl (λ image through. ap (λ (o : Op). failed through o (machine image old)) is)
 
 -- a send fails
-send_failed : (op : Op) (line : LineNo) (modelled now : Option Image) (old new : Cache) → ((image : Image) → (through : Breaking) → failed through op (machine image old) ≡ not_sent through.mask line (machine image old)) → IfModelled modelled (λ image. FailsTo line.0 (λ through memory. failed_send through memory (cell_at old line.0)) image now) → new ≡ old → IfModelled modelled (λ image. HasFailed op (machine image old) line now new)
+send_failed : (op : Op) (line : LineNo) (modelled now : Option Image) (old new : Cache)
+    → ((image : Image) → (through : Breaking) → failed through op (machine image old) ≡ not_sent through.mask line (machine image old))
+    → IfModelled modelled (λ image. FailsTo line.0 (λ through memory. failed_send through memory (cell_at old line.0)) image now) → new ≡ old
+    → IfModelled modelled (λ image. HasFailed op (machine image old) line now new)
 send_failed op line modelled now old new sends torn kept image is =
     let t = torn image is in
     record {
@@ -104,7 +122,9 @@ send_failed op line modelled now old new sends torn kept image is =
       is = record { image = t.written; cache = kept };
     }
 
-pub invalidate_failed : (op : Op) (line : LineNo) (modelled now : Option Image) (old new : Cache) → op ≡ Invalidate line → IfModelled modelled (λ image. FailsTo line.0 (λ through memory. failed_send through memory (cell_at old line.0)) image now) → new ≡ old → IfModelled modelled (λ image. HasFailed op (machine image old) line now new)
+pub invalidate_failed : (op : Op) (line : LineNo) (modelled now : Option Image) (old new : Cache) → op ≡ Invalidate line
+    → IfModelled modelled (λ image. FailsTo line.0 (λ through memory. failed_send through memory (cell_at old line.0)) image now) → new ≡ old
+    → IfModelled modelled (λ image. HasFailed op (machine image old) line now new)
 invalidate_failed op line modelled now old new is = send_failed op line modelled now old new (λ image through. ap (λ (o : Op). failed through o (machine image old)) is)
 
 -- What an operation leaves of the cache.
@@ -119,7 +139,8 @@ pub held_after_load : (modelled : Option Image) (line : ℕ) (old new : Cache) �
 held_after_load modelled line old new from =
     subst IsHeld (sym (ap (λ (cache : Cache). cell_at cache line) from.is ∙ cell_at-with_cell_same line (brought from.memory (cell_at old line)) old)) (brought_held from.memory (cell_at old line))
 
-pub held_after_store : (modelled : Option Image) (line word value : ℕ) (old new : Cache) → FromMemory modelled line (λ memory. new ≡ cell_changed line (stored word value memory) old) → IsHeld (cell_at new line)
+pub held_after_store : (modelled : Option Image) (line word value : ℕ) (old new : Cache)
+    → FromMemory modelled line (λ memory. new ≡ cell_changed line (stored word value memory) old) → IsHeld (cell_at new line)
 held_after_store modelled line word value old new from =
     subst IsHeld (sym (ap (λ (cache : Cache). cell_at cache line) from.is ∙ cell_at-with_cell_same line (stored word value from.memory (cell_at old line)) old)) refl
 
@@ -132,9 +153,13 @@ one_changed : (line : ℕ) (cell : Cell) (old new : Cache) → new ≡ with_cell
 one_changed line cell old new is other differs = ap (λ (cache : Cache). cell_at cache other) is ∙ cell_at-with_cell_other line cell old other differs
 
 -- every line that the operation doesn't ask for is as before
-pub others_left : (op : Op) (modelled : Option Image) (old new : Cache) → LeavesCache op modelled old new → IsOneLine op → (other : ℕ) → op_line op ≢ Some (line_no other) → cell_at new other ≡ cell_at old other
-others_left (Load line k) modelled old new from one other differs = one_changed line.0 (brought from.memory (cell_at old line.0)) old new from.is other (λ e. differs (ap (λ (l : ℕ). Some (line_no l)) (sym e)))
-others_left (Store line k value) modelled old new from one other differs = one_changed line.0 (stored k value from.memory (cell_at old line.0)) old new from.is other (λ e. differs (ap (λ (l : ℕ). Some (line_no l)) (sym e)))
+pub others_left : (op : Op) (modelled : Option Image) (old new : Cache) → LeavesCache op modelled old new → IsOneLine op → (other : ℕ)
+    → op_line op ≢ Some (line_no other) → cell_at new other ≡ cell_at old other
+others_left (Load line k) modelled old new from one other differs = one_changed line.0 (brought from.memory (cell_at old line.0)) old new from.is
+    other (λ e. differs (ap (λ (l : ℕ). Some (line_no l)) (sym e)))
+others_left (Store line k value) modelled old new from one other differs =
+    one_changed line.0 (stored k value from.memory (cell_at old line.0)) old new from.is other
+    (λ e. differs (ap (λ (l : ℕ). Some (line_no l)) (sym e)))
 others_left Fence modelled old new is one other differs = absurd one
 others_left (WriteBack line) modelled old new is one other differs = one_changed line.0 (asked_for (cell_at old line.0)) old new is other (λ e. differs (ap (λ (l : ℕ). Some (line_no l)) (sym e)))
 others_left (Invalidate line) modelled old new is one other differs = one_changed line.0 Absent old new is other (λ e. differs (ap (λ (l : ℕ). Some (line_no l)) (sym e)))
@@ -158,7 +183,9 @@ cleaned_held [] cache l held = held
 cleaned_held (x ∷ lines) cache l held =
     let later : IsHeld (cell_at (cell_changed x cleaned cache) l) = cleaned_held lines (cell_changed x cleaned cache) l held in
     elim (cases_eq l x) [
-      | inl same ↦ held_cleaned (cell_at cache l) (subst IsHeld (ap (λ (k : ℕ). cell_at (cell_changed k cleaned cache) l) (sym same) ∙ cell_at-with_cell_same l (cleaned (cell_at cache l)) cache) later)
+      | inl same ↦ held_cleaned (cell_at cache l)
+          (subst IsHeld (ap (λ (k : ℕ). cell_at (cell_changed k cleaned cache) l) (sym same) ∙ cell_at-with_cell_same l
+          (cleaned (cell_at cache l)) cache) later)
       | inr other ↦ subst IsHeld (cell_at-with_cell_other x (cleaned (cell_at cache x)) cache l other) later
     ]
 

@@ -11,7 +11,8 @@ use Rattle.fam_media.specs.Outside.{IfModelled}
 use Rattle.fam_cache.specs.Runs.{AreCut, AreDone, CacheOver, over}
 
 -- one operation
-pub one_cut : (op : Op) (line : LineNo) (modelled shown : Option Image) (old held : Cache) → IfModelled modelled (λ image. HasFailed op (machine image old) line shown held) → AreCut (op ∷ []) line (over modelled old) (over shown held)
+pub one_cut : (op : Op) (line : LineNo) (modelled shown : Option Image) (old held : Cache)
+    → IfModelled modelled (λ image. HasFailed op (machine image old) line shown held) → AreCut (op ∷ []) line (over modelled old) (over shown held)
 one_cut op line modelled shown old held failed = record {
   is = λ image is.
       let f = failed image is in

@@ -50,7 +50,8 @@ asked_dirty : (copy : Cell) (words : List ℕ) → copy ≡ Dirty true words →
 asked_dirty copy words is = ap is_asked is
 
 -- what is sent of an asked line are its words
-sent_dirty : (o : Option Image) (line : ℕ) (copy : Cell) (words : List ℕ) → copy ≡ Dirty true words → option_map (with_line line words) o ≡ option_map (line_changed line (λ memory. sent memory copy)) o
+sent_dirty : (o : Option Image) (line : ℕ) (copy : Cell) (words : List ℕ) → copy ≡ Dirty true words
+    → option_map (with_line line words) o ≡ option_map (line_changed line (λ memory. sent memory copy)) o
 sent_dirty None line copy words is = refl
 sent_dirty (Some image) line copy words is = rw is refl
 
@@ -59,7 +60,8 @@ run_more first k lines None = refl
 run_more first k lines (Some image) = refl
 
 -- What a fence has done, and the first line that is asked yet.
-module _ (start before : CacheOver) (from last first : ℕ) (has : HasSent start before) (within : AskedWithin from last before.lines) (next : IsFirstAsked before.lines from first) (lines : List (List ℕ)) where
+module _ (start before : CacheOver) (from last first : ℕ) (has : HasSent start before) (within : AskedWithin from last before.lines)
+    (next : IsFirstAsked before.lines from first) (lines : List (List ℕ)) where
   abbrev behind : ℕ → CacheOver
   behind k = over (run_written first lines k before.image) (cleaned_run first k before.lines)
 
@@ -118,7 +120,8 @@ module _ (start before : CacheOver) (from last first : ℕ) (has : HasSent start
   run_sent count now run =
       subst (HasSent start) (sym (whole now run.sent.sends run.sent.cleans)) (all_more start before from last first has within next run.lines count run.sent.asked).sends
     where
-      whole : (now : CacheOver) → now.image ≡ run_written first run.lines count before.image → now.lines ≡ cleaned_run first count before.lines → now ≡ over (run_written first run.lines count before.image) (cleaned_run first count before.lines)
+      whole : (now : CacheOver) → now.image ≡ run_written first run.lines count before.image → now.lines ≡ cleaned_run first count before.lines
+          → now ≡ over (run_written first run.lines count before.image) (cleaned_run first count before.lines)
       whole now image lines = rw (image, lines) refl
 
   pub run_within : (count : ℕ) (now : CacheOver) → SendsRun first count before now → AskedWithin (first + count) last now.lines
@@ -142,7 +145,8 @@ module _ (start before : CacheOver) (from last first : ℕ) (has : HasSent start
   fails_asked line after off =
       let most = all_more start before from last first has within next off.lines off.count off.sent.asked in
       subst (λ (l : ℕ). IsAsked (cell_at start.lines l)) (sym off.at)
-      (was_asked start (behind start before from last first has within next off.lines off.count) most.sends (first + off.count) _ (line_next start before from last first has within next off.lines off.count most off.next))
+      (was_asked start (behind start before from last first has within next off.lines off.count) most.sends (first + off.count) _
+      (line_next start before from last first has within next off.lines off.count most off.next))
 
   pub fails_cleans : (line : LineNo) (after : CacheOver) → BreaksOff first line.0 before after → CleansSome start.lines after.lines
   fails_cleans line after off =

@@ -78,7 +78,8 @@ set_apart new (b ∷ bs) (suc at) q within was is =
     ]
 
 module _ (c : Blocks) (kept : IsKept c) (at first : ℕ) (stands : IsBlockOf c.blocks.items at (first / 16)) (b : Block) (read : b ≡ get_or c.blocks.items at b)
-    (n : ℕ) (marks : List Mark) (copied lines : List (List ℕ)) (size : n ≡ length lines) (within : first % 16 + length lines ≤ 16) (fresh : marks ≡ replicate (length lines) Fresh) (same : copied ≡ lines) where
+    (n : ℕ) (marks : List Mark) (copied lines : List (List ℕ)) (size : n ≡ length lines) (within : first % 16 + length lines ≤ 16)
+    (fresh : marks ≡ replicate (length lines) Fresh) (same : copied ≡ lines) where
   -- the block behind it
   abbrev new : Block
   new = record { number = b.number; marks = put_mid (first % 16) n b.marks marks; words = put_mid (first % 16) n b.words copied }
@@ -118,7 +119,8 @@ module _ (c : Blocks) (kept : IsKept c) (at first : ℕ) (stands : IsBlockOf c.b
       let there : IsBlockOf c.blocks.items at (q / 16) = record { within = stands.within; is = stands.is ∙ e } in
       ap (λ (x : Block). cell_in x (q % 16)) (b_is c kept at first stands b read) ∙ sym (cell_read c kept at q there)
 
-  outside : (q : ℕ) → first / 16 ≡ q / 16 → (q < first) ⊎ (first + length lines ≤ q) → cell_at (cache_of (set c.blocks.items at new)) q ≡ cell_at (brought_run first lines (length lines) (lines_of c)) q
+  outside : (q : ℕ) → first / 16 ≡ q / 16 → (q < first) ⊎ (first + length lines ≤ q) → cell_at (cache_of (set c.blocks.items at new)) q
+      ≡ cell_at (brought_run first lines (length lines) (lines_of c)) q
   outside q e apart =
       in_block q e
       ∙ cell_other (q % 16) (elim apart [ inl below ↦ inl (omega arith) | inr behind ↦ inr (omega (arith, within)) ])

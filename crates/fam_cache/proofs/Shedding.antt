@@ -82,7 +82,8 @@ same_now line a b real shown e = cell_at-with_cell_same line a real ∙ e ∙ sy
 
 -- One operation.
 
-pub shown_step : (op : Op) → IsOneLine op → (modelled : Option Image) (real left shown : Cache) → IsShed real shown → WantsSame op real shown → LeavesCache op modelled real left → ShownStep op modelled real left shown
+pub shown_step : (op : Op) → IsOneLine op → (modelled : Option Image) (real left shown : Cache) → IsShed real shown → WantsSame op real shown
+    → LeavesCache op modelled real left → ShownStep op modelled real left shown
 shown_step (Load line k) one modelled real left shown shed same leaves =
     let now : cell_at left line.0 ≡ cell_at (cell_changed line.0 (brought leaves.memory) shown) line.0 =
     ap (λ (c : Cache). cell_at c line.0) leaves.is
@@ -161,7 +162,9 @@ module _ (op : Op) (image : Image) (real left shown : Cache) (line : LineNo) (no
   abbrev failure : Failure
   failure = record { line = line; left = x.left }
 
-  bring_shown : (l : LineNo) → cell_at real l.0 ≡ cell_at shown l.0 → ((c : Cache) → failed x.fails.through op (machine image c) ≡ not_brought l (machine image c) (cell_at c l.0)) → HasFailed op (machine image shown) line now shown
+  bring_shown : (l : LineNo) → cell_at real l.0 ≡ cell_at shown l.0
+      → ((c : Cache) → failed x.fails.through op (machine image c) ≡ not_brought l (machine image c) (cell_at c l.0))
+      → HasFailed op (machine image shown) line now shown
   bring_shown l same brings =
       let fails : not_brought l (machine image real) (cell_at real l.0) ≡ Some failure = sym (brings real) ∙ x.fails.is in
       let is : failure ≡ record { line = l; left = machine image real } = brought_fails l (machine image real) (cell_at real l.0) failure fails in
@@ -181,7 +184,9 @@ module _ (op : Op) (image : Image) (real left shown : Cache) (line : LineNo) (no
   shed_fails through memory words a b (inl same) fails = ap (failed_send through memory) (sym same) ∙ fails
   shed_fails through memory words a b (inr lacks) fails = absurd (let none : None ≡ Some words = sym (ap (failed_send through memory) lacks.0) ∙ fails in cc)
 
-  send_shown : (l : LineNo) → IsShedCopy (cell_at real l.0) (cell_at shown l.0) → ((c : Cache) → failed x.fails.through op (machine image c) ≡ not_sent x.fails.through.mask l (machine image c)) → HasFailed op (machine image shown) line now shown
+  send_shown : (l : LineNo) → IsShedCopy (cell_at real l.0) (cell_at shown l.0)
+      → ((c : Cache) → failed x.fails.through op (machine image c) ≡ not_sent x.fails.through.mask l (machine image c))
+      → HasFailed op (machine image shown) line now shown
   send_shown l copy sends =
       let torn = send_fails l (machine image real) (failed_send x.fails.through.mask (line_at image l.0) (cell_at real l.0)) failure (sym (sends real) ∙ x.fails.is) in
       let words : List ℕ = torn.0 in
@@ -196,7 +201,8 @@ module _ (op : Op) (image : Image) (real left shown : Cache) (line : LineNo) (no
         is = record { image = x.is.image ∙ ap (λ (f : Failure). Some f.left.image) torn.2; cache = refl };
       }
 
-pub shown_failed : (op : Op) → IsOneLine op → (image : Image) (real left shown : Cache) (line : LineNo) (now : Option Image) → IsShed real shown → WantsSame op real shown → HasFailed op (machine image real) line now left → HasFailed op (machine image shown) line now shown
+pub shown_failed : (op : Op) → IsOneLine op → (image : Image) (real left shown : Cache) (line : LineNo) (now : Option Image) → IsShed real shown
+    → WantsSame op real shown → HasFailed op (machine image real) line now left → HasFailed op (machine image shown) line now shown
 shown_failed (Load l k) one image real left shown line now shed same x = bring_shown (Load l k) image real left shown line now x l same (λ c. refl)
 shown_failed (Store l k value) one image real left shown line now shed same x = bring_shown (Store l k value) image real left shown line now x l same (λ c. refl)
 shown_failed (WriteBack l) one image real left shown line now shed same x = absurd (let none = x.fails.is in cc)

@@ -25,7 +25,9 @@ module _ (line word value : ℕ) (before between after : Cache) where
       with_cell line (Dirty false (set (words_of (cell_at between line)) word value)) between ≡ cell_changed line (stored word value memory) before
   stored_cell memory is =
       let cell : Cell = cell_at before line in
-      let words : words_of (cell_at between line) ≡ current memory cell = ap words_of (ap (λ (cache : Cache). cell_at cache line) is ∙ cell_at-with_cell_same line (brought memory cell) before) ∙ brought_words memory cell in
+      let words : words_of (cell_at between line) ≡ current memory cell =
+      ap words_of (ap (λ (cache : Cache). cell_at cache line) is ∙ cell_at-with_cell_same line (brought memory cell) before)
+      ∙ brought_words memory cell in
       ap (λ (ws : List ℕ). with_cell line (Dirty false (set ws word value)) between) words
       ∙ ap (with_cell line (Dirty false (set (current memory cell) word value))) is
       ∙ with_cell_twice line (brought memory cell) (Dirty false (set (current memory cell) word value)) before

@@ -27,7 +27,8 @@ pub no_event : (bytes : List ℕ) → AreNoEvent (words_in bytes) → line_reads
 unfolding line_reads
 no_event bytes none = none_in (end_of_line bytes) (words_in bytes) none
 
-module _ (bytes : List ℕ) (words : List Word) (number : ℕ) (line : Line) (one : AreEvent (words_in bytes)) (same : words ≡ words_in bytes) (is : line ≡ record { number = number; end = end_of_line bytes }) where
+module _ (bytes : List ℕ) (words : List Word) (number : ℕ) (line : Line) (one : AreEvent (words_in bytes)) (same : words ≡ words_in bytes)
+    (is : line ≡ record { number = number; end = end_of_line bytes }) where
   pub one_event : line_reads bytes ≡ event_or_column (event_line line.end words)
   unfolding line_reads
   one_event =

@@ -17,7 +17,8 @@ pub none_behind : {A : Type 0} (said : Result (List A) (ℕ × ℕ)) → said �
 none_behind (Ok more) = refl
 none_behind (Err bad) = refl
 
-pub one_more : {A : Type 0} (events : List A) (event : A) (number : ℕ) (rest : Result (List A) (ℕ × ℕ)) → behind_events events (with_line (Ok (Some event)) number rest) ≡ behind_events (events ++ event ∷ []) rest
+pub one_more : {A : Type 0} (events : List A) (event : A) (number : ℕ) (rest : Result (List A) (ℕ × ℕ))
+    → behind_events events (with_line (Ok (Some event)) number rest) ≡ behind_events (events ++ event ∷ []) rest
 one_more events event number (Ok more) = ap Ok (sym (append_assoc events (event ∷ []) more))
 one_more events event number (Err bad) = refl
 
@@ -37,7 +38,8 @@ HasRead reads bytes n events = events_in reads bytes ≡ behind_events events (e
 pub none_read : {A : Type 0} (reads : List ℕ → LineReading A) (bytes : List ℕ) → HasRead reads bytes 0 []
 none_read reads bytes = none_behind (events_in reads bytes)
 
-module _ {A : Type 0} (reads : List ℕ → LineReading A) (bytes : List ℕ) (n : ℕ) (events : List A) (so_far : HasRead reads bytes n events) (line : List ℕ) (within : n < length (lines_of bytes)) (is : line ≡ get_or (lines_of bytes) n line) where
+module _ {A : Type 0} (reads : List ℕ → LineReading A) (bytes : List ℕ) (n : ℕ) (events : List A) (so_far : HasRead reads bytes n events)
+    (line : List ℕ) (within : n < length (lines_of bytes)) (is : line ≡ get_or (lines_of bytes) n line) where
   next_line : drop n (lines_of bytes) ≡ line ∷ drop (n + 1) (lines_of bytes)
   next_line = at_drop_more (λ (l : List (List ℕ)). l) (lines_of bytes) n line within ∙ ap (λ (x : List ℕ). x ∷ drop (n + 1) (lines_of bytes)) (sym is)
 
@@ -64,5 +66,6 @@ module _ {A : Type 0} (reads : List ℕ → LineReading A) (bytes : List ℕ) (n
   read_bad OutOfMemory bad = tt
 
 -- all lines
-pub read_all : {A : Type 0} (reads : List ℕ → LineReading A) (bytes : List ℕ) (n : ℕ) (events : List A) → HasRead reads bytes n events → drop n (lines_of bytes) ≡ [] → events_in reads bytes ≡ Ok events
+pub read_all : {A : Type 0} (reads : List ℕ → LineReading A) (bytes : List ℕ) (n : ℕ) (events : List A) → HasRead reads bytes n events
+    → drop n (lines_of bytes) ≡ [] → events_in reads bytes ≡ Ok events
 read_all reads bytes n events so_far none = so_far ∙ ap (λ (ls : List (List ℕ)). behind_events events (events_from reads (n + 1) ls)) none ∙ ap Ok (append-nil events)

@@ -34,7 +34,8 @@ abbrev pub Holds : {A : Type 0} → (A → Type 0) → Reading A → Type 0
 Holds P (Reads value rest) = P value
 Holds P (Misfit column) = ⊤
 
-pub then_holds : {A B : Type 0} (Q : A → Type 0) (P : B → Type 0) (r : Reading A) (next : A → List Word → Reading B) → Holds Q r → ((x : A) (rest : List Word) → Q x → Holds P (next x rest)) → Holds P (then_reads r next)
+pub then_holds : {A B : Type 0} (Q : A → Type 0) (P : B → Type 0) (r : Reading A) (next : A → List Word → Reading B) → Holds Q r
+    → ((x : A) (rest : List Word) → Q x → Holds P (next x rest)) → Holds P (then_reads r next)
 then_holds Q P (Reads value rest) next holds each = each value rest holds
 then_holds Q P (Misfit column) next holds each = tt
 
@@ -53,7 +54,8 @@ fitting_holds : {A : Type 0} (Q : A → Type 0) (o : Option A) (column : ℕ) (r
 fitting_holds Q None column rest each = tt
 fitting_holds Q (Some x) column rest each = each x refl
 
-pub word_holds : {A : Type 0} (Q : A → Type 0) (spelling : List ℕ → Option A) (end : ℕ) (words : List Word) → ((text : List ℕ) (x : A) → spelling text ≡ Some x → Q x) → Holds Q (word_of spelling end words)
+pub word_holds : {A : Type 0} (Q : A → Type 0) (spelling : List ℕ → Option A) (end : ℕ) (words : List Word)
+    → ((text : List ℕ) (x : A) → spelling text ≡ Some x → Q x) → Holds Q (word_of spelling end words)
 word_holds Q spelling end [] each = tt
 word_holds Q spelling end (w ∷ words) each = fitting_holds Q (spelling w.text) w.column words (each w.text)
 
@@ -153,7 +155,8 @@ abbrev IfHas : {A : Type 0} → (A → Type 0) → Option A → Type 0
 IfHas P None = ⊤
 IfHas P (Some x) = P x
 
-keyed_has : {A : Type 0} (P : A → Type 0) (v : Option (List ℕ)) (spelling : List ℕ → Option A) (other : Option A) → ((text : List ℕ) → IfHas P (spelling text)) → IfHas P other → IfHas P (keyed v spelling other)
+keyed_has : {A : Type 0} (P : A → Type 0) (v : Option (List ℕ)) (spelling : List ℕ → Option A) (other : Option A)
+    → ((text : List ℕ) → IfHas P (spelling text)) → IfHas P other → IfHas P (keyed v spelling other)
 keyed_has P None spelling other each rest = rest
 keyed_has P (Some text) spelling other each rest = each text
 
@@ -202,10 +205,11 @@ options_small : (takes : Takes) (given : FileOptions) (words : List Word) → Sm
 options_small takes given [] small = small
 options_small takes given (w ∷ words) small = by_word (with_file_word takes given w.text) (λ more small. options_small takes more words small) (word_small takes given w.text small)
   where
-    by_word : (o : Option FileOptions) → ((more : FileOptions) → SmallMode more → Holds SmallMode (file_options takes more words)) → IfHas SmallMode o → Holds SmallMode (elim o as (λ _. Reading FileOptions) [
-      | None ↦ Misfit w.column
-      | Some more ↦ file_options takes more words
-    ])
+    by_word : (o : Option FileOptions) → ((more : FileOptions) → SmallMode more → Holds SmallMode (file_options takes more words)) → IfHas SmallMode o
+        → Holds SmallMode (elim o as (λ _. Reading FileOptions) [
+          | None ↦ Misfit w.column
+          | Some more ↦ file_options takes more words
+        ])
     by_word None rest has = tt
     by_word (Some more) rest has = rest more has
 
@@ -281,10 +285,11 @@ mkfs_options_format : (given : MkfsOptions) (words : List Word) → HasFormat gi
 mkfs_options_format given [] has = has
 mkfs_options_format given (w ∷ words) has = by_word (with_mkfs_word given w.text) (λ more has. mkfs_options_format more words has) (word_format given w.text has)
   where
-    by_word : (o : Option MkfsOptions) → ((more : MkfsOptions) → HasFormat more → Holds HasFormat (mkfs_options more words)) → IfHas HasFormat o → Holds HasFormat (elim o as (λ _. Reading MkfsOptions) [
-      | None ↦ Misfit w.column
-      | Some more ↦ mkfs_options more words
-    ])
+    by_word : (o : Option MkfsOptions) → ((more : MkfsOptions) → HasFormat more → Holds HasFormat (mkfs_options more words)) → IfHas HasFormat o
+        → Holds HasFormat (elim o as (λ _. Reading MkfsOptions) [
+          | None ↦ Misfit w.column
+          | Some more ↦ mkfs_options more words
+        ])
     by_word None rest has = tt
     by_word (Some more) rest has = rest more has
 
@@ -327,20 +332,24 @@ behind_sound end command.Mount words = ends_holds IsSoundAsk _ words tt
 behind_sound end command.Fsck words = ends_holds IsSoundAsk _ words tt
 behind_sound end command.Mkdir words =
     behind IsSoundAsk (word_of path_of end words) _ (λ path rest.
-    then_holds SmallMode IsSoundAsk (file_options mkdir_takes no_file_options rest) _ (options_small mkdir_takes no_file_options rest none_small) (λ o none small. attr_small directory_mode o (omega arith) small))
+    then_holds SmallMode IsSoundAsk (file_options mkdir_takes no_file_options rest) _ (options_small mkdir_takes no_file_options rest none_small)
+    (λ o none small. attr_small directory_mode o (omega arith) small))
 behind_sound end command.Creat words =
     behind IsSoundAsk (word_of path_of end words) _ (λ path rest.
     behind IsSoundAsk (word_of size_of_text end rest) _ (λ size rest.
-    then_holds SmallMode IsSoundAsk (file_options creat_takes no_file_options rest) _ (options_small creat_takes no_file_options rest none_small) (λ o none small. attr_small file_mode o (omega arith) small)))
+    then_holds SmallMode IsSoundAsk (file_options creat_takes no_file_options rest) _ (options_small creat_takes no_file_options rest none_small)
+    (λ o none small. attr_small file_mode o (omega arith) small)))
 behind_sound end command.Cp words =
     behind IsSoundAsk (word_of file_of end words) _ (λ source rest.
     behind IsSoundAsk (word_of path_of end rest) _ (λ path rest.
-    then_holds SmallMode IsSoundAsk (file_options cp_takes no_file_options rest) _ (options_small cp_takes no_file_options rest none_small) (λ o none small. attr_small file_mode o (omega arith) small)))
+    then_holds SmallMode IsSoundAsk (file_options cp_takes no_file_options rest) _ (options_small cp_takes no_file_options rest none_small)
+    (λ o none small. attr_small file_mode o (omega arith) small)))
 behind_sound end command.Verify words = behind IsSoundAsk (word_of path_of end words) _ (λ path rest. verify_sound end path rest)
 behind_sound end command.Read words =
     behind IsSoundAsk (word_of path_of end words) _ (λ path rest.
     behind IsSoundAsk (word_of number_of_text end rest) _ (λ offset rest.
-    then_holds (λ (count : ℕ). count ≤ read_limit) IsSoundAsk (word_of count_of end rest) _ (word_holds (λ (count : ℕ). count ≤ read_limit) count_of end rest count_small) (λ count rest small. ends_holds IsSoundAsk _ rest small)))
+    then_holds (λ (count : ℕ). count ≤ read_limit) IsSoundAsk (word_of count_of end rest) _
+    (word_holds (λ (count : ℕ). count ≤ read_limit) count_of end rest count_small) (λ count rest small. ends_holds IsSoundAsk _ rest small)))
 behind_sound end command.Check words = behind IsSoundAsk (word_of file_of end words) _ (λ source rest. ends_holds IsSoundAsk _ rest tt)
 
 ask_sound : (end : ℕ) (words : List Word) → Holds IsSoundAsk (ask_line end words)
@@ -408,4 +417,5 @@ of_line (Err column) o is e = absurd cc
 
 pub line_sound : (line : List ℕ) (event : Option Event) → line_reads line ≡ Ok event → IfEvent event
 unfolding line_reads
-line_sound line event is = of_line (line_of_words event_line (length (without_return line) + 1) (words_from 1 (without_return line))) event (words_sound (length (without_return line) + 1) (words_from 1 (without_return line))) is
+line_sound line event is = of_line (line_of_words event_line (length (without_return line) + 1) (words_from 1 (without_return line))) event
+    (words_sound (length (without_return line) + 1) (words_from 1 (without_return line))) is

@@ -67,8 +67,19 @@ to_right a b c = simp append_assoc refl
 pub stripe_back : (s : Stripe) → s.nstrips < 2 ^ 64 → s.nbuckets < 2 ^ 64 → s.chunk < 2 ^ 64 → stripe_of (stripe_value s) ≡ Some s
 unfolding stripe_of
 stripe_back s first second third =
-    rw (to_right (decimal s.nstrips) (decimal s.nbuckets) (decimal s.chunk), cut (decimal s.nstrips) (decimal s.nbuckets ++ 44 ∷ decimal s.chunk) (digits_no_comma _ (digits_decimal own s.nstrips first)), cut (decimal s.nbuckets) (decimal s.chunk) (digits_no_comma _ (digits_decimal own s.nbuckets second)), number-decimal s.nstrips first, number-decimal s.nbuckets second, size-decimal s.chunk third) refl
+    rw (
+      to_right (decimal s.nstrips) (decimal s.nbuckets) (decimal s.chunk),
+      cut (decimal s.nstrips) (decimal s.nbuckets ++ 44 ∷ decimal s.chunk)
+          (digits_no_comma _ (digits_decimal own s.nstrips first)),
+      cut (decimal s.nbuckets) (decimal s.chunk)
+          (digits_no_comma _ (digits_decimal own s.nbuckets second)),
+      number-decimal s.nstrips first,
+      number-decimal s.nbuckets second,
+      size-decimal s.chunk third,
+    ) refl
 
 pub stripe_no_blank : (s : Stripe) → s.nstrips < 2 ^ 64 → s.nbuckets < 2 ^ 64 → s.chunk < 2 ^ 64 → HasNoBlank (stripe_value s)
 stripe_no_blank s first second third =
-    no_blank-append _ _ (no_blank-append _ _ (no_blank-append _ _ (no_blank-append _ _ (decimal_no_blank s.nstrips first) (refl, tt)) (decimal_no_blank s.nbuckets second)) (refl, tt)) (decimal_no_blank s.chunk third)
+    no_blank-append _ _ (no_blank-append _ _
+    (no_blank-append _ _ (no_blank-append _ _ (decimal_no_blank s.nstrips first) (refl, tt)) (decimal_no_blank s.nbuckets second)) (refl, tt))
+    (decimal_no_blank s.chunk third)

@@ -94,7 +94,9 @@ pub parses : (s : List ℕ) → Parses (parsed s)
 parses s =
     either (length s == 32) (parsed_simple s) _ (simple_parses s)
     (either (length s == 36) (parsed_hyphenated s) _ (hyphenated_parses s)
-    (either (length s == 38) (parsed_braced s) _ (on_test ((length s == 38) && (slice_index s 0 == open_brace) && (slice_index s 37 == close_brace)) (parsed_hyphenated (take 36 (drop 1 s))) (λ is. hyphenated_parses (take 36 (drop 1 s))))
+    (either (length s == 38) (parsed_braced s) _
+    (on_test ((length s == 38) && (slice_index s 0 == open_brace) && (slice_index s 37 == close_brace)) (parsed_hyphenated (take 36 (drop 1 s)))
+    (λ is. hyphenated_parses (take 36 (drop 1 s))))
     (either (length s == 45) (parsed_urn s) None (on_test ((length s == 45) && has_urn_prefix s) (parsed_hyphenated (drop 9 s)) (λ is. hyphenated_parses (drop 9 s))) tt)))
 
 word_parses : (s : List ℕ) → Parses (uuid_of s)

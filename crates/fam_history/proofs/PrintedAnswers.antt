@@ -278,7 +278,8 @@ answer_more (told.Length m size wanted) = codes "differs" ∷ decimal m ∷ deci
 answer_more (told.Bytes m bytes) = decimal m ∷ bytes_text bytes ∷ []
 answer_more (told.NotFound m) = codes "found" ∷ decimal m ∷ []
 answer_more (told.IsDirectory m) = codes "a" ∷ codes "directory" ∷ decimal m ∷ []
-answer_more (told.Checked m checked) = decimal m ∷ codes "missing" ∷ decimal checked.missing ∷ codes "extra" ∷ decimal checked.extra ∷ codes "changed" ∷ decimal checked.changed ∷ codes "first" ∷ first_word checked.first ∷ []
+answer_more (told.Checked m checked) = decimal m ∷ codes "missing" ∷ decimal checked.missing ∷ codes "extra" ∷ decimal checked.extra ∷ codes "changed"
+    ∷ decimal checked.changed ∷ codes "first" ∷ first_word checked.first ∷ []
 answer_more (told.Report true) = codes "sound" ∷ []
 answer_more (told.Report false) = codes "damaged" ∷ []
 answer_more (told.NoSuperblock (NoSuper word)) = codes "superblock" ∷ decimal word ∷ []
@@ -313,7 +314,10 @@ answer_spaced (told.IsDirectory m) = simp append-nil refl
 answer_spaced (told.Checked m checked) =
     ten (codes "checked") (number m) (codes " missing") (number checked.missing) (codes " extra") (number checked.extra) (codes " changed") (number checked.changed) (codes " first")
     (path_or_none checked.first)
-    ∙ ap (λ (l : List ℕ). codes "checked" ++ (number m ++ (codes " missing" ++ (number checked.missing ++ (codes " extra" ++ (number checked.extra ++ (codes " changed" ++ (number checked.changed ++ (codes " first" ++ l)))))))))
+    ∙ ap (λ (l : List ℕ). codes "checked"
+    ++ (number m ++ (codes " missing"
+    ++ (number checked.missing ++ (codes " extra"
+    ++ (number checked.extra ++ (codes " changed" ++ (number checked.changed ++ (codes " first" ++ l)))))))))
     (first_spaced checked.first ∙ ap (λ (l : List ℕ). 32 ∷ l) (sym (append-nil (first_word checked.first))))
 answer_spaced (told.Report true) = refl
 answer_spaced (told.Report false) = refl
@@ -428,7 +432,14 @@ checked_reads m checked column end is =
     let extra : ℕ = past (past missing (codes "missing")) (decimal checked.missing) in
     let changed : ℕ = past (past extra (codes "extra")) (decimal checked.extra) in
     let first : ℕ = past (past changed (codes "changed")) (decimal checked.changed) in
-    rw (number-decimal m is.0, number-decimal checked.missing is.1.missing, number-decimal checked.extra is.1.extra, number-decimal checked.changed is.1.changed, first_reads (none_differs checked.missing checked.extra checked.changed) checked.first (past first (codes "first")) end is.1.first) refl
+    rw (
+      number-decimal m is.0,
+      number-decimal checked.missing is.1.missing,
+      number-decimal checked.extra is.1.extra,
+      number-decimal checked.changed is.1.changed,
+      first_reads (none_differs checked.missing checked.extra checked.changed) checked.first
+          (past first (codes "first")) end is.1.first,
+    ) refl
 
 slot_reads : (seq : ℕ) (why : Reason) (column end : ℕ) → IsTellingAnswer (told.BadSlot seq why)
     → answer_line end (placed column (answer_first (told.BadSlot seq why) ∷ answer_more (told.BadSlot seq why))) ≡ Reads (told.BadSlot seq why) []
@@ -529,7 +540,8 @@ answer_prints (Replied (reply.NotFound m)) = alone (codes "not found" ++ number 
 answer_prints (Replied (reply.IsDirectory m)) = alone (codes "is a directory" ++ number m)
 answer_prints (Replied (reply.Checks m checked)) =
     ap (λ (l : List ℕ). line
-    (codes "checked" ++ number m ++ codes " missing" ++ number checked.missing ++ codes " extra" ++ number checked.extra ++ codes " changed" ++ number checked.changed ++ codes " first" ++ l)) (first_same (none_differs checked.missing checked.extra checked.changed) checked.first)
+    (codes "checked" ++ number m ++ codes " missing" ++ number checked.missing ++ codes " extra" ++ number checked.extra ++ codes " changed"
+    ++ number checked.changed ++ codes " first" ++ l)) (first_same (none_differs checked.missing checked.extra checked.changed) checked.first)
     ∙ alone (checked_text m (checked_told checked))
 answer_prints (Replied (reply.Reports r)) =
     eight (line (told_answer_text (answer_told (Replied (reply.Reports r))))) (line (super_state_text r.superblock)) (line (log_state_text r.log))

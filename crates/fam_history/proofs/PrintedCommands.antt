@@ -199,4 +199,5 @@ same_read a b said first second = cc
 -- commands of one text are alike
 pub one_text : (a b : Cmd) → IsTelling a → IsTelling b → cmd_text a ≡ cmd_text b → AreAlikeCommands a b
 one_text a b first second same =
-    same_read (told_of_command a) (told_of_command b) (told_line 0 (words_from 0 (cmd_text a))) (text_reads a 0 0 first) (ap (λ (text : List ℕ). told_line 0 (words_from 0 text)) same ∙ text_reads b 0 0 second)
+    same_read (told_of_command a) (told_of_command b) (told_line 0 (words_from 0 (cmd_text a))) (text_reads a 0 0 first)
+    (ap (λ (text : List ℕ). told_line 0 (words_from 0 text)) same ∙ text_reads b 0 0 second)

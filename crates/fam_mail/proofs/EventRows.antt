@@ -155,7 +155,8 @@ module _ (name : List ℕ) (told : MediaChange) (old new : MailView) (same : tol
   pub changes_says : (cause : MailHost → Option MailRefusal) → ((h : MailHost) → cause_count (cause h) ≡ 0) → (change : MailHost → MailHost) (made : MailNote) → mail_faults (made ∷ []) ≡ 0
       → IsByWords made → (r : Result (Unit {0}) MailFault)
       → IfMailAnswered r (λ answered. MailRefuses name (refusal_named name cause old) old new answered (ChangesHost name change made old new)) → (IsErrOf r fault.OutOfMemory → new ≡ old)
-      → SaysBy (λ o notes n. MailByRefusal name (refusal_named name cause (world_of old.entry o)) o notes n (OfNamedHost name o (λ at host. IsHostGiven made at (change host) o notes n))) IsNothing told old new (mail_outcome r)
+      → SaysBy (λ o notes n. MailByRefusal name (refusal_named name cause (world_of old.entry o)) o notes n
+      (OfNamedHost name o (λ at host. IsHostGiven made at (change host) o notes n))) IsNothing told old new (mail_outcome r)
   changes_says cause quiet change made quiet_made words (Ok x) said kept =
       let c : ChangesHost name change made old new = said.1 in
       made_one (λ o notes n. MailByRefusal name (refusal_named name cause (world_of old.entry o)) o notes n (OfNamedHost name o (λ at host. IsHostGiven made at (change host) o notes n))) made
@@ -179,17 +180,22 @@ module _ (name : List ℕ) (told : MediaChange) (old new : MailView) (same : tol
 
   -- a task begins
   pub begins_says : (ask : Ask) (r : Result (Unit {0}) MailFault) → IfMailAnswered r (λ answered. MailBegins name ask answered old new) → (IsErrOf r fault.OutOfMemory → new ≡ old)
-      → SaysBy (λ o notes n. MailByRefusal name (refusal_named name (begin_refusal ask) (world_of old.entry o)) o notes n (IsTaskBegun old.entry name ask o notes n)) IsNothing told old new (mail_outcome r)
+      → SaysBy (λ o notes n. MailByRefusal name (refusal_named name (begin_refusal ask) (world_of old.entry o)) o notes n
+      (IsTaskBegun old.entry name ask o notes n)) IsNothing told old new (mail_outcome r)
   begins_says ask r said kept = changes_says (begin_refusal ask) (quiet_begin ask) (λ h. record h { task = Some (new_task ask (capacity_in old)) }) (note.Start name ask) refl tt r said kept
 
   -- a task is dropped
   pub stops_says : (r : Result (Unit {0}) MailFault) → IfMailAnswered r (λ answered. MailStops name answered old new) → (IsErrOf r fault.OutOfMemory → new ≡ old)
-      → SaysBy (λ o notes n. MailByRefusal name (refusal_named name no_task_refusal (world_of old.entry o)) o notes n (OfNamedHost name o (λ at host. IsHostGiven (note.Stop name) at (record host { task = None }) o notes n))) IsNothing told old new (mail_outcome r)
+      → SaysBy (λ o notes n. MailByRefusal name (refusal_named name no_task_refusal (world_of old.entry o)) o notes n
+      (OfNamedHost name o (λ at host. IsHostGiven (note.Stop name) at (record host { task = None }) o notes n))) IsNothing told old new
+      (mail_outcome r)
   stops_says r said kept = changes_says no_task_refusal quiet_idle (λ h. record h { task = None }) (note.Stop name) refl tt r said kept
 
   -- a host halts
   pub halts_says : (r : Result (Unit {0}) MailFault) → IfMailAnswered r (λ answered. MailHalts name answered old new) → (IsErrOf r fault.OutOfMemory → new ≡ old)
-      → SaysBy (λ o notes n. MailByRefusal name (refusal_named name no_refusal (world_of old.entry o)) o notes n (OfNamedHost name o (λ at host. IsHostGiven (note.Halt name) at (record host { cache = finmap.empty; task = None }) o notes n))) IsNothing told old new (mail_outcome r)
+      → SaysBy (λ o notes n. MailByRefusal name (refusal_named name no_refusal (world_of old.entry o)) o notes n
+      (OfNamedHost name o (λ at host. IsHostGiven (note.Halt name) at (record host { cache = finmap.empty; task = None }) o notes n))) IsNothing
+      told old new (mail_outcome r)
   halts_says r said kept = changes_says no_refusal quiet_none (λ h. record h { cache = finmap.empty; task = None }) (note.Halt name) refl tt r said kept
 
 -- what is done is one of two things
@@ -220,7 +226,8 @@ module _ (name : List ℕ) (told : MediaChange) (old new : MailView) (R : MailHo
 
   -- the world gets its notes, and stands for the machine that it leads to
   becomes_adds : (P : MailMachines → List MailNote → MailMachines → Type 0) → HasMailCounted told.old.faults told.new.faults call.notes → AreByWords call.notes
-      → ((image : Image) → told.old.image ≡ Some image → (left : Image) × (told.new.image ≡ Some left) × P (machines_of image old) call.notes (record { memory = left; hosts = changed_member call.at (λ (h : MailHost). call.next) old.hosts }))
+      → ((image : Image) → told.old.image ≡ Some image → (left : Image) × (told.new.image ≡ Some left) × P (machines_of image old) call.notes
+      (record { memory = left; hosts = changed_member call.at (λ (h : MailHost). call.next) old.hosts }))
       → MailAdds P told old new
   becomes_adds P counted words does = record {
     notes = call.notes;
@@ -246,7 +253,8 @@ module _ (name : List ℕ) (told : MediaChange) (old new : MailView) (R : MailHo
   -- so many were done of its task, which is over or isn't
   operations_add : (P : MailMachines → List MailNote → MailMachines → Type 0) (count : ℕ) (busy : Bool) → HasMailCounted told.old.faults told.new.faults call.notes → AreByWords call.notes
       → ((image : Image) → told.old.image ≡ Some image → Along old.entry name call.at old.hosts call.host image told.new.image call.next count call.notes) → is_some call.next.task ≡ busy
-      → ((image left : Image) → MailOperations old.entry name call.at (machines_of image old) count call.notes (left_at left) → has_task_at call.at (left_at left) ≡ busy → P (machines_of image old) call.notes (left_at left)) → MailAdds P told old new
+      → ((image left : Image) → MailOperations old.entry name call.at (machines_of image old) count call.notes (left_at left)
+      → has_task_at call.at (left_at left) ≡ busy → P (machines_of image old) call.notes (left_at left)) → MailAdds P told old new
   operations_add P count busy counted words all busy_is does =
       becomes_adds P counted words
       (λ image is.
@@ -274,7 +282,9 @@ module _ (lines : ℕ) (name : List ℕ) (told : MediaChange) (old new : MailVie
 
   -- a task that is finished
   finish_adds : (call : Finishes lines name told old new) (P : MailMachines → List MailNote → MailMachines → Type 0)
-      → ((image left : Image) → MailOperations old.entry name call.at (machines_of image old) (suc call.does.count) call.notes (left_at name told old new finishing call left) → has_task_at call.at (left_at name told old new finishing call left) ≡ false → P (machines_of image old) call.notes (left_at name told old new finishing call left))
+      → ((image left : Image) → MailOperations old.entry name call.at (machines_of image old) (suc call.does.count) call.notes
+      (left_at name told old new finishing call left) → has_task_at call.at (left_at name told old new finishing call left) ≡ false
+      → P (machines_of image old) call.notes (left_at name told old new finishing call left))
       → MailAdds P told old new
   finish_adds call P does =
       let f = call.does in
@@ -287,7 +297,9 @@ module _ (lines : ℕ) (name : List ℕ) (told : MediaChange) (old new : MailVie
 
   -- and one that isn't
   stays_adds : (call : Stays lines name told old new) → refusal_named name no_task_refusal old ≡ None → (P : MailMachines → List MailNote → MailMachines → Type 0)
-      → ((image left : Image) → MailOperations old.entry name call.at (machines_of image old) call.does.count call.notes (left_at name told old new staying call left) → has_task_at call.at (left_at name told old new staying call left) ≡ true → P (machines_of image old) call.notes (left_at name told old new staying call left))
+      → ((image left : Image) → MailOperations old.entry name call.at (machines_of image old) call.does.count call.notes
+      (left_at name told old new staying call left) → has_task_at call.at (left_at name told old new staying call left) ≡ true
+      → P (machines_of image old) call.notes (left_at name told old new staying call left))
       → MailAdds P told old new
   stays_adds call free P does =
       let s = call.does in

@@ -16,7 +16,8 @@ below_capacity : (t : Bool) (capacity gate : ℕ) (turn : Turn) → nat_lt capac
 below_capacity true capacity gate turn is over = absurd cc
 below_capacity false capacity gate turn is over = grind (arith, nat_tests)
 
-gate_falls : (ask : Ask) (t : MailTask) (word : ℕ) → ends_mail_task (loaded_gate_turn ask t.capacity word) ≡ false → left_of (phase_task at.LoadGate word (record t { ask = ask })) < left_at at.LoadGate t
+gate_falls : (ask : Ask) (t : MailTask) (word : ℕ) → ends_mail_task (loaded_gate_turn ask t.capacity word) ≡ false
+    → left_of (phase_task at.LoadGate word (record t { ask = ask })) < left_at at.LoadGate t
 gate_falls (Post numbers) t word over = omega arith
 gate_falls Take t word over =
     let le : word ≤ t.capacity = below_capacity (nat_lt t.capacity word) t.capacity word Go refl over in omega (arith, le)

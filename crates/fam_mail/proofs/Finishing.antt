@@ -22,7 +22,8 @@ changed_twice {A} zero x y (z ∷ zs) = refl
 changed_twice {A} (suc i) x y (z ∷ zs) = ap (λ (ws : List A). z ∷ ws) (changed_twice i x y zs)
 
 -- the world stands behind an operation, whether the media served or failed
-still : (rest : ℕ → List ℕ) (past : MailPast) (at : ℕ) (entry : Entry) (name : List ℕ) (host : MailHost) (t : MailTask) (told : MediaChange) (over : Bool) (next : MailHost) (notes : List MailNote) (new : MailView)
+still : (rest : ℕ → List ℕ) (past : MailPast) (at : ℕ) (entry : Entry) (name : List ℕ) (host : MailHost) (t : MailTask) (told : MediaChange)
+    (over : Bool) (next : MailHost) (notes : List MailNote) (new : MailView)
     (how : TaskServes entry name host t told over next notes ⊎ TaskBreaks entry name host t told over next notes) → StandsBehind rest past at entry name host t told over next notes new how
     → StandsStill rest (mail_past_behind past at entry name host t told over next notes how) told.new.image new
 still rest past at entry name host t told over next notes new (inl serves) said = record { image = said.image; told = said.told; stands = said.stands }
@@ -46,7 +47,9 @@ module _ (rest : ℕ → List ℕ) (past : MailPast) (image : Image) (lines : �
 
   -- some of them
   along : (count : ℕ) (next : MailHost) (later : MediaState) (notes : List MailNote) (runs : HostRuns lines v.entry name host told count next later notes)
-      → StandsAlong rest past at lines v name host told count next later notes runs × StandsStill rest (mail_past_along past at lines v.entry name host told count next later notes runs) later.image (with_host_noted v at next notes)
+      → StandsAlong rest past at lines v name host told count next later notes runs
+      × StandsStill rest (mail_past_along past at lines v.entry name host told count next later notes runs) later.image
+      (with_host_noted v at next notes)
   along _ _ _ _ rests = (
     tt,
     record {

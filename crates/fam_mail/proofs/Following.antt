@@ -208,7 +208,8 @@ module _ (entry : Entry) (start : Image) (records : List (List ℕ)) where
           }
         where
           floors : (k : ℕ) (x : MailHost) (t : MailTask) → slice_get (m.hosts ++ new_mail_host name writer ∷ []) k ≡ Some x → x.task ≡ Some t → More m.hosts (new_mail_host name writer) k
-              → floor_told (slice_get (m.hosts ++ new_mail_host name writer ∷ []) k) (mail_state (capacity_of entry.size) records journal) ≡ floor_told (slice_get m.hosts k) (mail_state (capacity_of entry.size) records journal)
+              → floor_told (slice_get (m.hosts ++ new_mail_host name writer ∷ []) k) (mail_state (capacity_of entry.size) records journal)
+              ≡ floor_told (slice_get m.hosts k) (mail_state (capacity_of entry.size) records journal)
           floors k x t is task (before same not) = ap (λ (o : Option MailHost). floor_told o (mail_state (capacity_of entry.size) records journal)) same
           floors k x t is task (last e same gone) = absurd (let idle : None ≡ Some t = ap (λ (y : MailHost). y.task) (same_Some (new_mail_host name writer) x (sym same ∙ is)) ∙ task in cc)
 

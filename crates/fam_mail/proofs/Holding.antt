@@ -98,7 +98,13 @@ asked_at : (p : Phase) (word : ℕ) (t : MailTask) → (phase_task p word t).ask
 asked_at (at.LoadRecord i k) word t = by (k == 7)
   where
     by : (b : Bool)
-        → (cond b (record t { phase = at.DropRecord (i + 1); words = Rattle.fam_mail.specs.Tasks.words_with 7 word t; records = Rattle.fam_mail.specs.Tasks.records_with word t }) (record t { phase = at.LoadRecord i (k + 1); words = Rattle.fam_mail.specs.Tasks.words_with k word t })).ask ≡ t.ask
+        → (cond b (record t {
+          phase = at.DropRecord (i + 1);
+          words = Rattle.fam_mail.specs.Tasks.words_with 7 word t;
+          records =
+              Rattle.fam_mail.specs.Tasks.records_with word t;
+        })
+        (record t { phase = at.LoadRecord i (k + 1); words = Rattle.fam_mail.specs.Tasks.words_with k word t })).ask ≡ t.ask
     by true = refl
     by false = refl
 asked_at other word t = refl
@@ -195,7 +201,9 @@ module _ (entry : Entry) (start : Image) (records : List (List ℕ)) where
       (memory : Image) (name : next.name ≡ host.name) (writer : next.writer ≡ host.writer)
       (size : length memory ≡ length m.memory) (normal : map eight memory ≡ memory) where
     -- so does another host in a host's place, over an image on which the world stands
-    pub same_held : MailStands (line_at start) (record { entry = entry; hosts = changed_member n (λ (x : MailHost). next) m.hosts; journal = journal }) (past_told (mail_state (capacity_of entry.size) records journal) m.hosts) memory
+    pub same_held : MailStands (line_at start)
+        (record { entry = entry; hosts = changed_member n (λ (x : MailHost). next) m.hosts; journal = journal })
+        (past_told (mail_state (capacity_of entry.size) records journal) m.hosts) memory
         → ((t : MailTask) → next.task ≡ Some t → (mail_state (capacity_of entry.size) records journal).asked host.name ≡ Some t.ask)
         → IsMailHeld entry start records (with_host_at n next memory m) journal
     same_held stands own_ask =

@@ -64,7 +64,8 @@ module _ (rest : ℕ → List ℕ) (v new : MailView) (past : MailPast) (image :
       subst (λ (w : MailView). StandsStill rest past told.new.image w) (sym new_is) still
 
 -- so behind a call that does one
-pub operated_stands : (rest : ℕ → List ℕ) (name : List ℕ) (told : MediaChange) (over : Bool) (old new : MailView) (past : MailPast) (image : Image) (lines : ℕ) (call : MailOperates name told over old new) → MailStands rest old past image
+pub operated_stands : (rest : ℕ → List ℕ) (name : List ℕ) (told : MediaChange) (over : Bool) (old new : MailView) (past : MailPast) (image : Image)
+    (lines : ℕ) (call : MailOperates name told over old new) → MailStands rest old past image
     → told.old.image ≡ Some image → IsTold lines told.old.image → MailWorldFits lines old → StandsAfter rest past name told over old new call
 operated_stands rest name told over old new past image lines call stands is modelled fits =
     behind rest old new past image lines name told over stands is modelled fits.place call.at call.host call.next call.host_is call.does.task call.does.task_is call.notes
@@ -318,7 +319,9 @@ unrefused None v e = refl
 unrefused (Some n) v e = absurd cc
 
 declare_free : (same many : Bool) (writer : Bool) (name : List ℕ) (v : MailView)
-    → cond same (Some (Rattle.fam_mail.specs.declared.note.MailRefusal.TheVariants.SameHost name)) (cond many (Some Rattle.fam_mail.specs.declared.note.MailRefusal.TheVariants.TooManyHosts) (second_writer writer (member_place is_writer v.hosts) v)) ≡ None
+    → cond same (Some (Rattle.fam_mail.specs.declared.note.MailRefusal.TheVariants.SameHost name))
+    (cond many (Some Rattle.fam_mail.specs.declared.note.MailRefusal.TheVariants.TooManyHosts)
+    (second_writer writer (member_place is_writer v.hosts) v)) ≡ None
     → second_writer writer (member_place is_writer v.hosts) v ≡ None
 declare_free true many writer name v e = absurd cc
 declare_free false true writer name v e = absurd cc

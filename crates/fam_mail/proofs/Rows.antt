@@ -112,7 +112,8 @@ pub record Along (entry : Entry) (name : List ℕ) (at : ℕ) (hosts : List Mail
     : Type 0 where
   pub left : Image
   pub shown_is : shown ≡ Some left
-  pub does : MailOperations entry name at (record { memory = image; hosts = changed_member at (λ (h : MailHost). host) hosts }) count notes (record { memory = left; hosts = changed_member at (λ (h : MailHost). next) hosts })
+  pub does : MailOperations entry name at (record { memory = image; hosts = changed_member at (λ (h : MailHost). host) hosts }) count notes
+      (record { memory = left; hosts = changed_member at (λ (h : MailHost). next) hosts })
 
 module _ (lines : ℕ) (entry : Entry) (name : List ℕ) (at : ℕ) (host : MailHost) (told : MediaState) (hosts : List MailHost) (host_is : slice_get hosts at ≡ Some host) (image : Image)
     (is : told.image ≡ Some image) where

@@ -110,7 +110,8 @@ module _ (rest : ℕ → List ℕ) (v : MailView) (past : MailPast) (image : Ima
 
   -- the task that a turn leaves
   run_left : (over : Bool) (turn : Turn) (word : ℕ) (floor : Option ℕ) → ends_mail_task turn ≡ over
-      → option_map {U = TaskRun} (λ (x : MailTask). record { task = x; floor = floor }) (cond over None (Some (next_task word t))) ≡ cond over None (Some (record { task = next_task word t; floor = floor }))
+      → option_map {U = TaskRun} (λ (x : MailTask). record { task = x; floor = floor }) (cond over None (Some (next_task word t)))
+      ≡ cond over None (Some (record { task = next_task word t; floor = floor }))
   run_left true turn word floor is = refl
   run_left false turn word floor is = refl
 
@@ -126,7 +127,8 @@ module _ (rest : ℕ → List ℕ) (v : MailView) (past : MailPast) (image : Ima
     floor' : Option ℕ
     floor' = floor_behind_turn (mail_turn word t) (length past.mail.list) (past.floors host_no)
 
-    left_run : runs_of_hosts (changed_member host_no (λ (x : MailHost). next) v.hosts) (mail_past_after host_no (mail_turn word t) t.ask past).floors host_no ≡ run_behind_turn (mail_turn word t) (length past.mail.list) word (record { task = t; floor = past.floors host_no })
+    left_run : runs_of_hosts (changed_member host_no (λ (x : MailHost). next) v.hosts) (mail_past_after host_no (mail_turn word t) t.ask past).floors
+        host_no ≡ run_behind_turn (mail_turn word t) (length past.mail.list) word (record { task = t; floor = past.floors host_no })
     left_run =
         ap₂ run_by (changed_here host_no (λ (x : MailHost). next) v.hosts host host_is)
         (ap (λ (b : Bool). if b then floor_behind_turn (mail_turn word t) (length past.mail.list) (past.floors host_no) else past.floors host_no) (eq-eqb host_no host_no refl))

@@ -203,7 +203,8 @@ module _ (b : Box) (host : ℕ) (floor : Option ℕ) (m : Mail) (s : SharedState
 
   -- A word of the record is stored.
   store_word : (s' : SharedState) (t : MailTask) (k : ℕ) → k < 8 → (w : IsPosting b host t.ask t.gate s m) → AtRecord (Holding k) b host t.ask t.gate s
-      → LeavesAt host (b.place (1 + t.gate)) s s' (s.memory (b.place (1 + t.gate))) (stored k (slice_index (posted_line t.ask) k) (s.memory (b.place (1 + t.gate))) (s.copy host (b.place (1 + t.gate))))
+      → LeavesAt host (b.place (1 + t.gate)) s s' (s.memory (b.place (1 + t.gate)))
+      (stored k (slice_index (posted_line t.ask) k) (s.memory (b.place (1 + t.gate))) (s.copy host (b.place (1 + t.gate))))
       → Acted b host floor m s s' t.ask Go (record t { phase = cond (k == 7) at.SendRecord (at.StoreRecord (k + 1)) })
   store_word s' t k lt w holding done =
       let value = slice_index (posted_line t.ask) k in
@@ -360,7 +361,8 @@ module _ (b : Box) (host : ℕ) (floor : Option ℕ) (m : Mail) (s : SharedState
       member : (numbers : List ℕ) × (slice_get (whole m) i ≡ Some numbers)
       member = go (slice_get_cases (whole m) i).1
         where
-          go : ((numbers : List ℕ) × (i < length (whole m)) × (slice_get (whole m) i ≡ Some numbers) × (get_or (whole m) i numbers ≡ numbers)) ⊎ ((length (whole m) ≤ i) × (slice_get (whole m) i ≡ None)) → (numbers : List ℕ) × (slice_get (whole m) i ≡ Some numbers)
+          go : ((numbers : List ℕ) × (i < length (whole m)) × (slice_get (whole m) i ≡ Some numbers) × (get_or (whole m) i numbers ≡ numbers))
+              ⊎ ((length (whole m) ≤ i) × (slice_get (whole m) i ≡ None)) → (numbers : List ℕ) × (slice_get (whole m) i ≡ Some numbers)
           go (inl e) = (e.0, e.2)
           go (inr e) = absurd (omega (arith, e.0, below, core.high))
 
@@ -377,7 +379,8 @@ module _ (b : Box) (host : ℕ) (floor : Option ℕ) (m : Mail) (s : SharedState
       next : MailTask
       next = record t { phase = at.DropRecord (i + 1); words = words_with 7 word t; records = records_with word t }
 
-      whole_record : Acted b host floor m s s' t.ask (record_turn (wrong_word (words_with 7 word t)) i word t) (record t { phase = at.DropRecord (i + 1); words = words_with 7 word t; records = records_with word t })
+      whole_record : Acted b host floor m s s' t.ask (record_turn (wrong_word (words_with 7 word t)) i word t)
+          (record t { phase = at.DropRecord (i + 1); words = words_with 7 word t; records = records_with word t })
       whole_record =
           subst (λ (o : Option ℕ). Acted b host floor m s s' t.ask (record_turn o i word t) (record t { phase = at.DropRecord (i + 1); words = words_with 7 word t; records = records_with word t }))
           (sym (read_as (slice_set t.words 7 word) member.0 reads).0)

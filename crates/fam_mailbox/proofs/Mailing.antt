@@ -35,7 +35,8 @@ module _ (entry : Entry) (events : List MailEvent) (journal : List MailNote) (fi
   each_before WantsMemory given (inr each) = inr (ends_before (Err (record {})) (PutsFirst given) each)
 
 -- a run, from before the look: the media's count was no higher then, and as high where it counts exactly
-pub ran_before : (exact : Bool) (entry : Entry) (events : List MailEvent) (first before behind : MediaState) (s : SinkChange) (given : Status) → before.image ≡ first.image → first.faults ≤ before.faults → (exact ≡ true → before.faults ≡ first.faults)
+pub ran_before : (exact : Bool) (entry : Entry) (events : List MailEvent) (first before behind : MediaState) (s : SinkChange) (given : Status)
+    → before.image ≡ first.image → first.faults ≤ before.faults → (exact ≡ true → before.faults ≡ first.faults)
     → MailRan exact entry events (record { old = before; new = behind }) s given → MailRan exact entry events (record { old = first; new = behind }) s given
 ran_before exact entry events first before behind s given same later quiet x = record {
   ending = x.ending;

@@ -195,10 +195,15 @@ module _ {M : Type 0} (size : M → ℕ) (state : M → MediaState) (entry : Ent
   -- How the run ends.
 
   module _ {K : Type 0} (sink_state : K → SinkState) (out last : K) (exact : Bool) where
-    ended : (ending : MailEnding) (next : M) (w : MailView) (given : Status) → w.entry ≡ entry → HasMailCounted (state media).faults (state next).faults w.journal → AreByWords w.journal → (exact ≡ true → (state next).faults ≡ mail_counted (state media).faults w.journal)
-        → ((start : Image) → (state media).image ≡ Some start → (records : List (List ℕ)) × (box_of (file_line w.entry) (capacity_of w.entry.size) (line_at start) ≡ Ok records) × HasDoneMail ending start records events w (state next).image)
+    ended : (ending : MailEnding) (next : M) (w : MailView) (given : Status) → w.entry ≡ entry
+        → HasMailCounted (state media).faults (state next).faults w.journal → AreByWords w.journal
+        → (exact ≡ true → (state next).faults ≡ mail_counted (state media).faults w.journal)
+        → ((start : Image) → (state media).image ≡ Some start
+        → (records : List (List ℕ)) × (box_of (file_line w.entry) (capacity_of w.entry.size) (line_at start) ≡ Ok records)
+        × HasDoneMail ending start records events w (state next).image)
         → Rattle.fam_mailbox.specs.Runs.PutsMail ending w.journal (change sink_state out last) given
-        → PutsByEvent ending entry events w.journal (change state media next) (change sink_state out last) given → MailRan exact entry events (change state media next) (change sink_state out last) given
+        → PutsByEvent ending entry events w.journal (change state media next) (change sink_state out last) given
+        → MailRan exact entry events (change state media next) (change sink_state out last) given
     ended ending next w given entry_is counted words exactly done puts each = record {
       ending = ending;
       journal = w.journal;
@@ -220,7 +225,9 @@ module _ {M : Type 0} (size : M → ℕ) (state : M → MediaState) (entry : Ent
     }
 
     -- all events are done
-    pub all_ran : (count : ℕ) (next : M) (w : MailView) (given : Status) → (exact ≡ true → (state next).faults ≡ mail_counted (state media).faults w.journal) → length events ≤ count → Going size state entry events count media next w → given ≡ good_status (is_good_mail w.journal)
+    pub all_ran : (count : ℕ) (next : M) (w : MailView) (given : Status)
+        → (exact ≡ true → (state next).faults ≡ mail_counted (state media).faults w.journal) → length events ≤ count
+        → Going size state entry events count media next w → given ≡ good_status (is_good_mail w.journal)
         → PutWhole (mail_text w.journal) (change sink_state out last) → MailRan exact entry events (change state media next) (change sink_state out last) given
     all_ran count next w given exactly all going good put =
         ended AllDone next w given going.entry_is going.counted going.by_words exactly
@@ -230,7 +237,8 @@ module _ {M : Type 0} (size : M → ℕ) (state : M → MediaState) (entry : Ent
         (good, put) tt
 
     -- the sink failed behind an event
-    pub sink_ran : (count : ℕ) (next : M) (w : MailView) → (exact ≡ true → (state next).faults ≡ mail_counted (state media).faults w.journal) → Going size state entry events count media next w → PutPart (mail_text w.journal) (change sink_state out last)
+    pub sink_ran : (count : ℕ) (next : M) (w : MailView) → (exact ≡ true → (state next).faults ≡ mail_counted (state media).faults w.journal)
+        → Going size state entry events count media next w → PutPart (mail_text w.journal) (change sink_state out last)
         → EndsIn entry (Ok tt) PutsPart events w.journal (change state media next) (change sink_state out last)
         → MailRan exact entry events (change state media next) (change sink_state out last) status.SinkFault
     sink_ran count next w exactly going put each =
@@ -238,7 +246,9 @@ module _ {M : Type 0} (size : M → ℕ) (state : M → MediaState) (entry : Ent
         (λ start is. let t = going.told start is in (t.records, t.run.reads, record { count = count; run = t.run })) (refl, put) each
 
     -- no memory was left behind an event
-    pub short_ran : (count : ℕ) (next : M) (w : MailView) (given : Status) → (exact ≡ true → (state next).faults ≡ mail_counted (state media).faults w.journal) → Going size state entry events count media next w → PutShortMail w.journal (change sink_state out last) given
+    pub short_ran : (count : ℕ) (next : M) (w : MailView) (given : Status)
+        → (exact ≡ true → (state next).faults ≡ mail_counted (state media).faults w.journal) → Going size state entry events count media next w
+        → PutShortMail w.journal (change sink_state out last) given
         → EndsIn entry (Ok tt) (PutsFirst given) events w.journal (change state media next) (change sink_state out last)
         → MailRan exact entry events (change state media next) (change sink_state out last) given
     short_ran count next w given exactly going put each =
@@ -246,7 +256,9 @@ module _ {M : Type 0} (size : M → ℕ) (state : M → MediaState) (entry : Ent
         (λ start is. let t = going.told start is in (t.records, t.run.reads, inl record { count = count; run = t.run })) put (inl each)
 
     -- or in it
-    pub cut_ran : (count : ℕ) (here next : M) (v w : MailView) (given : Status) (e : MailEvent) (full : OutOfMemory) → (exact ≡ true → (state next).faults ≡ mail_counted (state media).faults w.journal) → Going size state entry events count media here v → Noted state here next v w
+    pub cut_ran : (count : ℕ) (here next : M) (v w : MailView) (given : Status) (e : MailEvent) (full : OutOfMemory)
+        → (exact ≡ true → (state next).faults ≡ mail_counted (state media).faults w.journal) → Going size state entry events count media here v
+        → Noted state here next v w
         → slice_get events count ≡ Some e
         → ((start : Image) (records : List (List ℕ)) (done : List MailEvent) → HasRunMail start records done v (state here).image → MailRunsOn start records done e w (state next).image (Err full))
         → PutShortMail w.journal (change sink_state out last) given → EndsIn entry (Err (record {})) (PutsFirst given) events w.journal (change state media next) (change sink_state out last)

@@ -55,7 +55,8 @@ serve_by (e ∷ rest) b same test =
     let some : nat_lt 0 (length (e ∷ rest)) ≡ true = grind (arith, nat_tests) in
     sym (ap (λ (c : Bool). cond c (e ∷ rest) []) (test ∙ ap (λ (c : Bool). c && same) some))
 
-pub serves_by : (kept : Option Kept) (k : Kept) (p : Params) (gate : ℕ) (b : Bool) → kept ≡ Some k → b ≡ (nat_lt 0 (length k.entries) && (is_same_params k.params p && nat_le (length k.entries) gate)) → used_by kept p gate ≡ cond b k.entries []
+pub serves_by : (kept : Option Kept) (k : Kept) (p : Params) (gate : ℕ) (b : Bool) → kept ≡ Some k
+    → b ≡ (nat_lt 0 (length k.entries) && (is_same_params k.params p && nat_le (length k.entries) gate)) → used_by kept p gate ≡ cond b k.entries []
 unfolding used_by
 serves_by kept k p gate b is test =
     ap (λ (o : Option Kept). used_by o p gate) is ∙ serve_by k.entries b (is_same_params k.params p && nat_le (length k.entries) gate) test

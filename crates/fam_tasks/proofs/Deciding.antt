@@ -27,7 +27,8 @@ pub decided : (t : Task) (cmd : Cmd) → t.phase ≡ at.Decide → t.cmd ≡ cmd
 decided t cmd phase is = ap (λ (p : Phase). turn_at p t 0) phase ∙ ap (λ (x : Cmd). decide_turn x t) is
 
 -- so what is told of that turn is told of this one
-pub decision_told : {E : Type 0} (r : Result Turn E) (t new : Task) (cmd : Cmd) → t.phase ≡ at.Decide → t.cmd ≡ cmd → IfOk r (λ turn. Tells (decide_turn cmd t) turn new) → IfOk r (λ turn. Tells (turn_of t None) turn new)
+pub decision_told : {E : Type 0} (r : Result Turn E) (t new : Task) (cmd : Cmd) → t.phase ≡ at.Decide → t.cmd ≡ cmd
+    → IfOk r (λ turn. Tells (decide_turn cmd t) turn new) → IfOk r (λ turn. Tells (turn_of t None) turn new)
 decision_told r t new cmd phase is = subst (λ (said : turns.Turn). IfOk r (λ turn. Tells said turn new)) (sym (decided t cmd phase is))
 
 -- so what it wants of memory
@@ -47,7 +48,8 @@ append_keeps r t new cmd is appends kept =
     done_so r (kept ∙ sym (keeps_other t None (λ class. appends_no_replay (sym appends ∙ ap class_of (sym is) ∙ class))))
 
 -- A task that has decided goes on with the same entries.
-pub decided_task : (t : Inside) (h : HistoryState) → IsTask t → t.phase ≡ at.Decide → IsReplayOf t.params t.gate h.replay → entries_in h.replay ≡ entries_in t.history.replay → h.kept ≡ t.history.kept → IsTask (record t { history = h })
+pub decided_task : (t : Inside) (h : HistoryState) → IsTask t → t.phase ≡ at.Decide → IsReplayOf t.params t.gate h.replay
+    → entries_in h.replay ≡ entries_in t.history.replay → h.kept ≡ t.history.kept → IsTask (record t { history = h })
 decided_task t h task phase fits same kept =
     let u : Inside = record t { history = h } in
     let looked : HasLooked (slots_told t.cmd t.params t.gate) t = subst (λ (p : Phase). IsInvariantAt p t) phase task.held in

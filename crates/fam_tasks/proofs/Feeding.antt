@@ -29,7 +29,8 @@ fed_told t new word p said w is same tells =
     subst (λ (x : turns.Turn). Tells x said new) (sym (phase_turn t word p is)) (subst (λ (v : ℕ). Tells (turn_at p t v) said new) same tells)
 
 -- a turn that no word changes
-pub alike_told : (t new : Task) (word : Option ℕ) (p : Phase) (said : Turn) → t.phase ≡ p → ((w : ℕ) → turn_at p t w ≡ turn_at p t 0) → Tells (turn_of t None) said new → Tells (turn_of t word) said new
+pub alike_told : (t new : Task) (word : Option ℕ) (p : Phase) (said : Turn) → t.phase ≡ p → ((w : ℕ) → turn_at p t w ≡ turn_at p t 0)
+    → Tells (turn_of t None) said new → Tells (turn_of t word) said new
 alike_told t new word p said is alike =
     subst (λ (x : turns.Turn). Tells x said new) (phase_turn t None p is ∙ sym (alike (unwrap_or word 0)) ∙ sym (phase_turn t word p is))
 
@@ -79,7 +80,8 @@ survey_checked t i is fsck = phase_turn t None (at.Check i) is ∙ surveyed_in (
 pub slot_checked : (t : Task) (i : ℕ) → t.phase ≡ at.Check i → is_fsck t.cmd ≡ false → turn_of t None ≡ slot_turn t i (entry_of t.params t.words i)
 slot_checked t i is other = phase_turn t None (at.Check i) is ∙ replayed_in (class_of t.cmd) t i other
 
-pub check_told : {E : Type 0} (r : Result (Option Reason) E) (t new : Task) (i : ℕ) (turn : turns.Turn) → turn_of t None ≡ turn → IfOk r (λ reason. Tells turn (slot_turn_by i reason) new) → IfOk r (λ reason. Tells (turn_of t None) (slot_turn_by i reason) new)
+pub check_told : {E : Type 0} (r : Result (Option Reason) E) (t new : Task) (i : ℕ) (turn : turns.Turn) → turn_of t None ≡ turn
+    → IfOk r (λ reason. Tells turn (slot_turn_by i reason) new) → IfOk r (λ reason. Tells (turn_of t None) (slot_turn_by i reason) new)
 check_told r t new i turn is = subst (λ (x : turns.Turn). IfOk r (λ reason. Tells x (slot_turn_by i reason) new)) (sym is)
 
 pub check_wants : {T E : Type 0} (r : Result T E) (t : Task) (turn : turns.Turn) → turn_of t None ≡ turn → OnErr r (WantsMemory t turn) → OnErr r (WantsMemory t (turn_of t None))

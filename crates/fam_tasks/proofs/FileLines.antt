@@ -129,11 +129,13 @@ same_proper (Some e) t u params proper = subst (λ (p : Params). Proper p e) (sy
 
 -- Turns.
 
-pub same_turn : (cmd : Cmd) (t : Task) (j : ℕ) → IsVerify cmd → line_difference t (content_used cmd) j ≡ None → file_turn cmd t j ≡ line_or (record t { words = [] }) File j (Ends (Same (length t.entries)))
+pub same_turn : (cmd : Cmd) (t : Task) (j : ℕ) → IsVerify cmd → line_difference t (content_used cmd) j ≡ None
+    → file_turn cmd t j ≡ line_or (record t { words = [] }) File j (Ends (Same (length t.entries)))
 same_turn (Verify path against) t j is none = ap (compare_turn t against j) none
 same_turn other t j is none = absurd is
 
-pub differs_turn : (cmd : Cmd) (t : Task) (j b : ℕ) → IsVerify cmd → line_difference t (content_used cmd) j ≡ Some b → file_turn cmd t j ≡ Ends (Differs (length t.entries) (64 * j + b) (byte_in t.words b) (content_byte (content_used cmd) (64 * j + b)))
+pub differs_turn : (cmd : Cmd) (t : Task) (j b : ℕ) → IsVerify cmd → line_difference t (content_used cmd) j ≡ Some b
+    → file_turn cmd t j ≡ Ends (Differs (length t.entries) (64 * j + b) (byte_in t.words b) (content_byte (content_used cmd) (64 * j + b)))
 differs_turn (Verify path against) t j b is some = ap (compare_turn t against j) some
 differs_turn other t j b is some = absurd is
 

@@ -32,7 +32,9 @@ line_within_image : (o : Option Entry) (t : Task) (j line : ℕ) → t.entry ≡
 line_within_image None t j line is super file at = absurd (subst (IsProperFor t) is file.proper)
 line_within_image (Some e) t j line is super file at = within_image t e j line is super file at
 
-module _ (t : Task) (j : ℕ) (line : LineNo) (words : List ℕ) (sound : IsSound t) (spelled : HasSpelledSlot t) (file : IsFileLine j t) (is : line.0 ≡ line_of t.entry j) (words_are : (k : ℕ) → k < 8 → slice_index words k ≡ slice_index (data_words t j) k) (within : line.0 < t.lines) where
+module _ (t : Task) (j : ℕ) (line : LineNo) (words : List ℕ) (sound : IsSound t) (spelled : HasSpelledSlot t) (file : IsFileLine j t)
+    (is : line.0 ≡ line_of t.entry j) (words_are : (k : ℕ) → k < 8 → slice_index words k ≡ slice_index (data_words t j) k)
+    (within : line.0 < t.lines) where
   -- before word k, and before the line's sending
   abbrev at_word : ℕ → Task
   at_word k = record t { phase = at.StoreData j k }
@@ -83,7 +85,8 @@ module _ (t : Task) (j : ℕ) (line : LineNo) (words : List ℕ) (sound : IsSoun
   words_stored : (n : ℕ) → n ≤ 6 → Stores line words (at_word 1) (at_word (suc n)) n
   words_stored zero few = begins
   words_stored (suc n) few =
-      stores (words_stored n (omega (arith, few))) (word_sound (suc n) (omega (arith, few))) (word_op (suc n) (omega (arith, few))) (word_within (suc n) (omega (arith, few))) (word_turn (suc n) (omega (arith, few)))
+      stores (words_stored n (omega (arith, few))) (word_sound (suc n) (omega (arith, few))) (word_op (suc n) (omega (arith, few)))
+      (word_within (suc n) (omega (arith, few))) (word_turn (suc n) (omega (arith, few)))
 
   pub line_due : IsFileLineDue line words (at_word 0)
   line_due = record { j = j; phase = refl; is = is; words_are = words_are; within = within }
@@ -101,7 +104,8 @@ module _ (t : Task) (j : ℕ) (line : LineNo) (words : List ℕ) (sound : IsSoun
     lines = refl;
   }
 
-module _ (t : Task) (j first n : ℕ) (lines : List (List ℕ)) (sound : IsSound t) (phase : t.phase ≡ at.StoreData j 0) (row : IsRow first j n t) (some : 0 < n) (words : (k : ℕ) → k < n → line_in lines k ≡ data_words t (j + k)) where
+module _ (t : Task) (j first n : ℕ) (lines : List (List ℕ)) (sound : IsSound t) (phase : t.phase ≡ at.StoreData j 0) (row : IsRow first j n t)
+    (some : 0 < n) (words : (k : ℕ) → k < n → line_in lines k ≡ data_words t (j + k)) where
   stands : IsSoundAt (at.StoreData j 0) t
   stands = subst (λ (p : Phase). IsSoundAt p t) phase sound.stands
 
@@ -143,7 +147,8 @@ module _ (t : Task) (j first n : ℕ) (lines : List (List ℕ)) (sound : IsSound
       (refl, same ∙ ap (λ (i : ℕ). record t { phase = cond (nat_lt i (lines_of (size_of t.entry))) (at.StoreData i 0) (at.StoreSlot 0 0) }) up)
 
 -- The lines that are handed out are those of the file from line j on, where this one is at hand.
-pub words_handed : (t : Task) (j size n taken : ℕ) (content : Content) (line : List ℕ) (lines : List (List ℕ)) → content ≡ content_of t.cmd → taken ≡ j + 1 → size ≡ size_of t.entry → line ≡ data_words t j
+pub words_handed : (t : Task) (j size n taken : ℕ) (content : Content) (line : List ℕ) (lines : List (List ℕ)) → content ≡ content_of t.cmd
+    → taken ≡ j + 1 → size ≡ size_of t.entry → line ≡ data_words t j
     → line_in lines 0 ≡ line → ((k : ℕ) → k + 1 < n → line_in lines (k + 1) ≡ content_line content size (taken + k)) → (k : ℕ) → k < n → line_in lines k ≡ data_words t (j + k)
 words_handed t j size n taken content line lines content_is taken_is size_is line_is first others zero below =
     let none_more : j ≡ j + 0 = omega arith in

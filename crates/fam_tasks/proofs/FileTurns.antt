@@ -58,19 +58,23 @@ module _ (t : Task) (j lines : ℕ) (turn : turns.Turn) (count : lines ≡ wante
 search_in : Content → ℕ → List ℕ → ℕ → Option ℕ
 search_in against j words size = find (λ b. not (byte_in words b == content_byte against (64 * j + b))) (range_with_len 0 (min 64 (size - 64 * j)))
 
-module _ (t : Task) (cmd : Cmd) (j size : ℕ) (found wanted : List ℕ) (is : IsVerify cmd) (words : found ≡ t.words) (sized : size ≡ size_of t.entry) (line : wanted ≡ content_line (content_used cmd) size j) (holds : HoldsBytes (content_used cmd)) where
-  same_search : (r : Option ℕ) → find (λ b. not (byte_in found b == content_byte (content_used cmd) (64 * j + b))) (range_with_len 0 (min 64 (size - 64 * j))) ≡ r → line_difference t (content_used cmd) j ≡ r
+module _ (t : Task) (cmd : Cmd) (j size : ℕ) (found wanted : List ℕ) (is : IsVerify cmd) (words : found ≡ t.words) (sized : size ≡ size_of t.entry)
+    (line : wanted ≡ content_line (content_used cmd) size j) (holds : HoldsBytes (content_used cmd)) where
+  same_search : (r : Option ℕ) → find (λ b. not (byte_in found b == content_byte (content_used cmd) (64 * j + b)))
+      (range_with_len 0 (min 64 (size - 64 * j))) ≡ r → line_difference t (content_used cmd) j ≡ r
   unfolding search_in
   same_search r searched =
       sym (ap (λ (w : List ℕ). search_in (content_used cmd) j w size) words ∙ ap (search_in (content_used cmd) j t.words) sized) ∙ searched
 
   -- a byte differs
-  pub differs_told : (o x y m : ℕ) (turn : Turn) (new : Task) → IsFirst found wanted (64 * j) size o x y → m ≡ length t.entries → turn ≡ Done (answer.Differs m o x y) → Tells (file_turn cmd t j) turn new
+  pub differs_told : (o x y m : ℕ) (turn : Turn) (new : Task) → IsFirst found wanted (64 * j) size o x y → m ≡ length t.entries
+      → turn ≡ Done (answer.Differs m o x y) → Tells (file_turn cmd t j) turn new
   differs_told o x y m turn new first count gives =
       let d : Differing found wanted (content_used cmd) size j holds line o x y = something_differs found wanted (content_used cmd) size j holds line o x y first in
       let place = d.place in
       let byte : byte_in found d.at ≡ byte_in t.words d.at = ap (λ (w : List ℕ). byte_in w d.at) words in
-      let same : answer.Differs m o x y ≡ answer.Differs (length t.entries) (64 * j + d.at) (byte_in t.words d.at) (content_byte (content_used cmd) (64 * j + d.at)) = cc (count, place, d.byte_found, byte, d.byte_wanted) in
+      let same : answer.Differs m o x y ≡ answer.Differs (length t.entries) (64 * j + d.at) (byte_in t.words d.at)
+      (content_byte (content_used cmd) (64 * j + d.at)) = cc (count, place, d.byte_found, byte, d.byte_wanted) in
       replies (file_turn cmd t j) turn new _ (answer.Differs m o x y) (differs_turn cmd t j d.at is (same_search (Some d.at) d.found)) gives (ap reply_of same)
 
   -- none does
@@ -79,7 +83,9 @@ module _ (t : Task) (cmd : Cmd) (j size : ℕ) (found wanted : List ℕ) (is : I
 
 -- A line that is read.
 
-pub bytes_told : (t : Task) (bytes : List ℕ) (first : ℕ) → length bytes ≡ wanted_end t.cmd (size_of t.entry) - wanted_start t.cmd → first ≡ wanted_start t.cmd % 64 → ((i : ℕ) → i < length bytes → get_or bytes i 0 ≡ byte_in t.words (first + i)) → bytes ≡ loaded_bytes t (wanted_start t.cmd)
+pub bytes_told : (t : Task) (bytes : List ℕ) (first : ℕ) → length bytes ≡ wanted_end t.cmd (size_of t.entry) - wanted_start t.cmd
+    → first ≡ wanted_start t.cmd % 64 → ((i : ℕ) → i < length bytes → get_or bytes i 0 ≡ byte_in t.words (first + i))
+    → bytes ≡ loaded_bytes t (wanted_start t.cmd)
 bytes_told t bytes first count at each =
     fill_by_all (λ i. byte_in t.words (wanted_start t.cmd % 64 + i)) bytes (wanted_end t.cmd (size_of t.entry) - wanted_start t.cmd) 0 count
     (λ k below. each k (omega arith) ∙ ap (λ (n : ℕ). byte_in t.words (n + k)) at)

@@ -12,7 +12,8 @@ use Rattle.fam_commands.specs.Task.{Task, first_line, size_of}
 use Rattle.fam_tasks.specs.Sound.{HasSuper, IsFileLine, IsProperFor, IsWantedLine}
 
 -- a line of a proper file is one of the image's
-pub line_within : (p : Params) (e : Entry) (j line lines : ℕ) → SoundParams p → Proper p e → p.device ≤ line_bytes * lines → line_bytes * j < e.size → line ≡ place e (line_bytes * j) / line_bytes → line < lines
+pub line_within : (p : Params) (e : Entry) (j line lines : ℕ) → SoundParams p → Proper p e → p.device ≤ line_bytes * lines → line_bytes * j < e.size
+    → line ≡ place e (line_bytes * j) / line_bytes → line < lines
 line_within p e j line lines sound proper device below is =
     omega (arith, is, place_before p e (line_bytes * j) sound proper below, div-mul-le_self p.device p.unit, device)
 

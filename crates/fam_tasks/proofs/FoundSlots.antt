@@ -67,7 +67,8 @@ module _ (t : Inside) (i first : ℕ) (lines : List (List ℕ)) (task : IsTask t
     kept = task.sound.kept;
   }
 
-  module _ (history : HistoryState) (phase : Phase) (other : is_fsck t.cmd ≡ false) (found : FindsNext t.params (words_in lines (geometry t.params).lines) (entries_in t.history.replay) (entries_in history.replay))
+  module _ (history : HistoryState) (phase : Phase) (other : is_fsck t.cmd ≡ false)
+      (found : FindsNext t.params (words_in lines (geometry t.params).lines) (entries_in t.history.replay) (entries_in history.replay))
       (kept : history.kept ≡ t.history.kept) (next : phase ≡ next_phase (i + 1) t.gate) where
     -- its words tell an entry that joins
     read : entry_of t.params words i ≡ Ok found.entry
@@ -78,7 +79,12 @@ module _ (t : Inside) (i first : ℕ) (lines : List (List ℕ)) (task : IsTask t
     behind : turns.slot_or_decide (task_of loaded) (i + 1) ≡ phase
     behind = ap (λ (b : Bool). next_phase (i + 1) (cond b t.params.slots t.gate)) other ∙ sym next
 
-    goes : record (task_of loaded) { entries = entries_in t.history.replay ++ found.entry ∷ []; words = []; phase = turns.slot_or_decide (task_of loaded) (i + 1) } ≡ task_of (record t { history = history; phase = phase })
+    goes : record (task_of loaded) {
+      entries = entries_in t.history.replay ++ found.entry ∷ [];
+      words = [];
+      phase =
+          turns.slot_or_decide (task_of loaded) (i + 1);
+    } ≡ task_of (record t { history = history; phase = phase })
     goes =
         ap₂ (λ (list : List Entry) (b : List ℕ). record (task_of loaded) { entries = list; words = b; phase = turns.slot_or_decide (task_of loaded) (i + 1) }) (sym found.added) (sym empty)
         ∙ ap₂ (λ (p : Phase) (k : Option Kept). record (task_of t) { entries = entries_in history.replay; phase = p; kept = k }) behind (sym kept)
@@ -87,7 +93,8 @@ module _ (t : Inside) (i first : ℕ) (lines : List (List ℕ)) (task : IsTask t
     found_slot is = record {
       loaded = task_of loaded;
       loads = slot_lines_loaded (task_of t) i first lines task.sound drops is (geometry t.params).lines (omega arith) (task_of loaded)
-          (ap (λ (b : Bool). record (task_of t) { words = words; phase = cond b (at.Drop (Slot i) (geometry t.params).lines) (at.Check i) }) (sym (le-ltb (geometry t.params).lines (geometry t.params).lines (omega arith))));
+          (ap (λ (b : Bool). record (task_of t) { words = words; phase = cond b (at.Drop (Slot i) (geometry t.params).lines) (at.Check i) })
+          (sym (le-ltb (geometry t.params).lines (geometry t.params).lines (omega arith))));
       sound = loaded_sound;
       phase = refl;
       turn = slot_checked (task_of loaded) i refl other ∙ ap (slot_turn (task_of loaded) i) read ∙ ap (join_turn (task_of loaded) i found.entry) found.joins ∙ ap Goes goes;

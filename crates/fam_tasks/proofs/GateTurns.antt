@@ -15,7 +15,8 @@ use Rattle.fam_tasks.specs.Tells.{Tells}
 use Rattle.fam_tasks.proofs.Phases.{next_phase, slots_are}
 
 -- what is loaded
-loaded_is : (t : Task) (n : ℕ) (p : Phase) (kept : Option Kept) (list : List Entry) → kept ≡ t.kept → list ≡ used t.kept t.cmd t.params n → p ≡ next_phase (length list) (slots_told t.cmd t.params n) → record t { kept = kept; gate = n; entries = list; phase = p } ≡ gate_loaded t n
+loaded_is : (t : Task) (n : ℕ) (p : Phase) (kept : Option Kept) (list : List Entry) → kept ≡ t.kept → list ≡ used t.kept t.cmd t.params n
+    → p ≡ next_phase (length list) (slots_told t.cmd t.params n) → record t { kept = kept; gate = n; entries = list; phase = p } ≡ gate_loaded t n
 loaded_is t n p kept list same entries phase =
     ap (λ (k : Option Kept). record t { kept = k; gate = n; entries = list; phase = p }) same
     ∙ ap (λ (q : Phase). record t { gate = n; entries = list; phase = q }) (phase ∙ sym (ap (λ (m : ℕ). next_phase (length list) m) (slots_are (record t { gate = n }))))
@@ -28,7 +29,8 @@ some_finds (Some w) n loaded new turn some is same = (is, same)
 none_goes : (o : Option Wish) (n : ℕ) (loaded new : Task) (turn : Turn) → o ≡ None → turn ≡ Go → new ≡ loaded → Tells (finds_or_goes o n loaded) turn new
 none_goes o n loaded new turn none is same = subst (λ (o : Option Wish). Tells (finds_or_goes o n loaded) turn new) (sym none) (is, same)
 
-module _ (t : Task) (n : ℕ) (p : Phase) (kept : Option Kept) (list : List Entry) (turn : Turn) (same : kept ≡ t.kept) (entries : list ≡ used t.kept t.cmd t.params n) (phase : p ≡ next_phase (length list) (slots_told t.cmd t.params n)) where
+module _ (t : Task) (n : ℕ) (p : Phase) (kept : Option Kept) (list : List Entry) (turn : Turn) (same : kept ≡ t.kept)
+    (entries : list ≡ used t.kept t.cmd t.params n) (phase : p ≡ next_phase (length list) (slots_told t.cmd t.params n)) where
   abbrev new : Task
   new = record t { kept = kept; gate = n; entries = list; phase = p }
 

@@ -13,7 +13,9 @@ use Rattle.fam_tasks.specs.Sound.{IsSoundAt}
 use Rattle.fam_tasks.proofs.Lines.{one_line}
 
 -- the line that is read is all that the task holds
-pub header_told : (t : Inside) (now : Task) (word : ℕ) (words line : List ℕ) (fault : Option LogFault) → IsTask t → task_of t ≡ now → now.phase ≡ at.Word Header 0 7 → words ≡ t.buffer ++ word ∷ [] → line ≡ slice_range words 0 8 → log_fault line t.params ≡ fault → log_fault (now.words ++ word ∷ []) now.params ≡ fault
+pub header_told : (t : Inside) (now : Task) (word : ℕ) (words line : List ℕ) (fault : Option LogFault) → IsTask t → task_of t ≡ now
+    → now.phase ≡ at.Word Header 0 7 → words ≡ t.buffer ++ word ∷ [] → line ≡ slice_range words 0 8 → log_fault line t.params ≡ fault
+    → log_fault (now.words ++ word ∷ []) now.params ≡ fault
 header_told t now word words line fault task view loaded pushed is told =
     let phase : t.phase ≡ at.Word Header 0 7 = ap (λ (u : Task). u.phase) view ∙ loaded in
     let stands : IsSoundAt (at.Word Header 0 7) (task_of t) = subst (λ (p : Phase). IsSoundAt p (task_of t)) phase task.sound.stands in

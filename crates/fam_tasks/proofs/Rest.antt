@@ -38,7 +38,9 @@ first_taken line words part j t phase rest =
     }
 
 -- one word more was taken
-pub next_taken : (line : LineNo) (words : List ℕ) (part : Part) (j k : ℕ) (t now next : Task) → IsSound now → k < 7 → next ≡ record (with_word now (slice_index words k)) { phase = at.Word part j (k + 1) } → turn_of now (Some (slice_index words k)) ≡ Goes next → Taken line words part j t now k → Taken line words part j t next (k + 1)
+pub next_taken : (line : LineNo) (words : List ℕ) (part : Part) (j k : ℕ) (t now next : Task) → IsSound now → k < 7
+    → next ≡ record (with_word now (slice_index words k)) { phase = at.Word part j (k + 1) } → turn_of now (Some (slice_index words k)) ≡ Goes next
+    → Taken line words part j t now k → Taken line words part j t next (k + 1)
 next_taken line words part j k t now next sound small is turn taken =
     let op : op_of now ≡ Load line k = load_next line part j k now taken.phase taken.is in
     record {
@@ -83,7 +85,9 @@ pub first_stored : (line : LineNo) (words : List ℕ) (phase_at : ℕ → Phase)
 first_stored line words phase_at t phase = record { stored = begins; same = ap (λ (p : Phase). record t { phase = p }) phase }
 
 -- one word more was stored
-pub more_stored : (line : LineNo) (words : List ℕ) (phase_at : ℕ → Phase) (n : ℕ) (t now next : Task) → IsStoreRest line words t → StoresAt line words phase_at t → IsSound now → n < 7 → turn_of now None ≡ Goes next → Stored line words phase_at t now n → Stores line words t next (suc n)
+pub more_stored : (line : LineNo) (words : List ℕ) (phase_at : ℕ → Phase) (n : ℕ) (t now next : Task) → IsStoreRest line words t
+    → StoresAt line words phase_at t → IsSound now → n < 7 → turn_of now None ≡ Goes next → Stored line words phase_at t now n
+    → Stores line words t next (suc n)
 more_stored line words phase_at n t now next rest at_words sound small turn stored =
     let op : op_of now ≡ Store line (suc n) (slice_index words (suc n)) = ap op_of stored.same ∙ at_words (suc n) (omega (arith, small)) in
     let within : line.0 < now.lines = subst (λ (u : Task). line.0 < u.lines) (sym stored.same) (rest_within line words t rest) in
@@ -121,7 +125,10 @@ pub slot_word_goes : (t : Task) (j k : ℕ) → t.phase ≡ at.StoreSlot j k →
 slot_word_goes t j k phase = turn_in t (at.StoreSlot j k) None phase
 
 -- one word more was stored, and the next one comes next
-pub next_stored : (line : LineNo) (words : List ℕ) (phase_at : ℕ → Phase) (send : Phase) (n k : ℕ) (t now next : Task) (turn : answer.Turn) → k ≡ suc n → k < 7 → IsStoreRest line words t → StoresAt line words phase_at t → IsSound now → turn_of now None ≡ Goes (record now { phase = store_or_send k (phase_at (k + 1)) send }) → Tells (turn_of now None) turn next → Stored line words phase_at t now n → Stored line words phase_at t next (suc n)
+pub next_stored : (line : LineNo) (words : List ℕ) (phase_at : ℕ → Phase) (send : Phase) (n k : ℕ) (t now next : Task) (turn : answer.Turn)
+    → k ≡ suc n → k < 7 → IsStoreRest line words t → StoresAt line words phase_at t → IsSound now
+    → turn_of now None ≡ Goes (record now { phase = store_or_send k (phase_at (k + 1)) send }) → Tells (turn_of now None) turn next
+    → Stored line words phase_at t now n → Stored line words phase_at t next (suc n)
 next_stored line words phase_at send n k t now next turn number small rest at_words sound wanted tells stored =
     let told = told_goes (turn_of now None) _ next turn wanted tells in
     let chosen : store_or_send k (phase_at (k + 1)) send ≡ phase_at (suc (suc n)) =
@@ -132,12 +139,16 @@ next_stored line words phase_at send n k t now next turn number small rest at_wo
     }
 
 -- the last word was stored
-pub last_stored : (line : LineNo) (words : List ℕ) (phase_at : ℕ → Phase) (mid : Task) (t now next : Task) (turn : answer.Turn) → IsStoreRest line words t → StoresAt line words phase_at t → IsSound now → turn_of now None ≡ Goes mid → Tells (turn_of now None) turn next → Stored line words phase_at t now 6 → Stores line words t next 7
+pub last_stored : (line : LineNo) (words : List ℕ) (phase_at : ℕ → Phase) (mid : Task) (t now next : Task) (turn : answer.Turn)
+    → IsStoreRest line words t → StoresAt line words phase_at t → IsSound now → turn_of now None ≡ Goes mid → Tells (turn_of now None) turn next
+    → Stored line words phase_at t now 6 → Stores line words t next 7
 last_stored line words phase_at mid t now next turn rest at_words sound wanted tells stored =
     more_stored line words phase_at 6 t now next rest at_words sound (omega arith) (told_goes (turn_of now None) mid next turn wanted tells).0 stored
 
 -- and the line of the file is sent next
-pub file_sent : (line : LineNo) (words : List ℕ) (j : ℕ) (t now next : Task) (turn : answer.Turn) → t.phase ≡ at.StoreData j 1 → IsStoreRest line words t → IsSound now → now.phase ≡ at.StoreData j 7 → Tells (turn_of now None) turn next → Stored line words (at.StoreData j) t now 6 → StoresFileRest line words j t next
+pub file_sent : (line : LineNo) (words : List ℕ) (j : ℕ) (t now next : Task) (turn : answer.Turn) → t.phase ≡ at.StoreData j 1
+    → IsStoreRest line words t → IsSound now → now.phase ≡ at.StoreData j 7 → Tells (turn_of now None) turn next
+    → Stored line words (at.StoreData j) t now 6 → StoresFileRest line words j t next
 file_sent line words j t now next turn phase rest sound last tells stored =
     let told = told_goes (turn_of now None) _ next turn (file_goes now j 7 last) tells in
     record {
@@ -146,7 +157,8 @@ file_sent line words j t now next turn phase rest sound last tells stored =
     }
 
 -- the last word of a line of a slot was taken
-pub last_taken : (line : LineNo) (words : List ℕ) (part : Part) (slot j : ℕ) (t now next : Task) (turn : answer.Turn) → part ≡ Slot slot → IsSound now → Tells (line_turn (with_word now (slice_index words 7)) (Slot slot) j) turn next → Taken line words part j t now 7 → Loads line words t next 7
+pub last_taken : (line : LineNo) (words : List ℕ) (part : Part) (slot j : ℕ) (t now next : Task) (turn : answer.Turn) → part ≡ Slot slot → IsSound now
+    → Tells (line_turn (with_word now (slice_index words 7)) (Slot slot) j) turn next → Taken line words part j t now 7 → Loads line words t next 7
 last_taken line words part slot j t now next turn is sound tells taken =
     let word : ℕ = slice_index words 7 in
     let phase : now.phase ≡ at.Word (Slot slot) j 7 = taken.phase ∙ ap (λ (p : Part). at.Word p j 7) is in

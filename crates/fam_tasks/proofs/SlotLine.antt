@@ -21,7 +21,9 @@ use Rattle.fam_tasks.proofs.Phases.{same_gate}
 use Rattle.fam_tasks.proofs.Rest.{first_taken, last_taken, next_taken, slot_goes, turn_in, word_goes}
 
 -- words that are added one by one
-pub eight_pushed : (held words : List ℕ) → (((((((held ++ slice_index words 0 ∷ []) ++ slice_index words 1 ∷ []) ++ slice_index words 2 ∷ []) ++ slice_index words 3 ∷ []) ++ slice_index words 4 ∷ []) ++ slice_index words 5 ∷ []) ++ slice_index words 6 ∷ []) ++ slice_index words 7 ∷ [] ≡ held ++ eight words
+pub eight_pushed : (held words : List ℕ)
+    → (((((((held ++ slice_index words 0 ∷ []) ++ slice_index words 1 ∷ []) ++ slice_index words 2 ∷ []) ++ slice_index words 3 ∷ [])
+    ++ slice_index words 4 ∷ []) ++ slice_index words 5 ∷ []) ++ slice_index words 6 ∷ []) ++ slice_index words 7 ∷ [] ≡ held ++ eight words
 eight_pushed [] words = refl
 eight_pushed (x ∷ held) words = ap (λ (more : List ℕ). x ∷ more) (eight_pushed held words)
 
@@ -137,5 +139,6 @@ module _ (line : LineNo) (words : List ℕ) (slot j : ℕ) (t : Task) (sound : I
   }
 
 -- the slot's next line is dropped behind one that isn't the last
-pub line_follows : (t : Task) (slot j : ℕ) → j + 1 < (geometry t.params).lines → cond (nat_lt (j + 1) (geometry t.params).lines) (at.Drop (Slot slot) (j + 1)) (at.Check slot) ≡ at.Drop (Slot slot) (j + 1)
+pub line_follows : (t : Task) (slot j : ℕ) → j + 1 < (geometry t.params).lines
+    → cond (nat_lt (j + 1) (geometry t.params).lines) (at.Drop (Slot slot) (j + 1)) (at.Check slot) ≡ at.Drop (Slot slot) (j + 1)
 line_follows t slot j below = rw (lt-ltb (j + 1) (geometry t.params).lines below) refl

@@ -62,13 +62,16 @@ module _ (t : Task) (slot first : ℕ) (lines : List (List ℕ)) (sound : IsSoun
   }
 
   -- one more line
-  line_more : (n : ℕ) → n < (geometry t.params).lines → (next : Task) → next ≡ record t { words = t.words ++ words_in lines (suc n); phase = phase_behind (suc n) } → LoadsSlotLine (line_no (first + n)) (line_at lines n) (mid n) next
+  line_more : (n : ℕ) → n < (geometry t.params).lines → (next : Task)
+      → next ≡ record t { words = t.words ++ words_in lines (suc n); phase = phase_behind (suc n) }
+      → LoadsSlotLine (line_no (first + n)) (line_at lines n) (mid n) next
   line_more n below next same =
       let number : suc n ≡ n + 1 = omega arith in
       slot_line_loaded (line_no (first + n)) (line_at lines n) slot n (mid n) (mid_sound n below) refl (mid_here n below) next
       (same ∙ ap₂ (λ (words : List ℕ) (p : Phase). record t { words = words; phase = p }) (sym (append_assoc t.words (words_in lines n) (line_at lines n))) (ap phase_behind number))
 
-  pub slot_lines_loaded : (n : ℕ) → n ≤ (geometry t.params).lines → (next : Task) → next ≡ record t { words = t.words ++ words_in lines n; phase = phase_behind n } → LoadsSlotLines first lines t next n
+  pub slot_lines_loaded : (n : ℕ) → n ≤ (geometry t.params).lines → (next : Task)
+      → next ≡ record t { words = t.words ++ words_in lines n; phase = phase_behind n } → LoadsSlotLines first lines t next n
   slot_lines_loaded zero few next same =
       let back : next ≡ t = same ∙ ap₂ (λ (words : List ℕ) (p : Phase). record t { words = words; phase = p }) (append-nil t.words) (goes_on 0 (omega (arith, stands.0.line.2)) ∙ sym phase) in
       subst (λ (task : Task). LoadsSlotLines first lines t task 0) (sym back) none

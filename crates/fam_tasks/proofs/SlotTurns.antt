@@ -31,7 +31,8 @@ use Rattle.fam_tasks.proofs.Phases.{held_by, next_phase, same_gate}
 use Rattle.fam_tasks.proofs.Slots.{some_line}
 
 -- the last word of a line was loaded that isn't the slot's last
-pub next_line : (t : Inside) (i j : ℕ) (words : List ℕ) → IsTask t → t.phase ≡ at.Word (Slot i) j 7 → length words ≡ length t.buffer + 1 → j + 1 < (geometry t.params).lines → IsTask (record t { phase = at.Drop (Slot i) (j + 1); buffer = words })
+pub next_line : (t : Inside) (i j : ℕ) (words : List ℕ) → IsTask t → t.phase ≡ at.Word (Slot i) j 7 → length words ≡ length t.buffer + 1
+    → j + 1 < (geometry t.params).lines → IsTask (record t { phase = at.Drop (Slot i) (j + 1); buffer = words })
 next_line t i j words task phase count below =
     let u : Inside = record t { phase = at.Drop (Slot i) (j + 1); buffer = words } in
     let stands : IsSoundAt (at.Word (Slot i) j 7) (task_of t) = subst (λ (p : Phase). IsSoundAt p (task_of t)) phase task.sound.stands in
@@ -54,7 +55,8 @@ next_line t i j words task phase count below =
     }
 
 -- that of its last line was
-pub all_lines : (t : Inside) (i j : ℕ) (words : List ℕ) → IsTask t → t.phase ≡ at.Word (Slot i) j 7 → length words ≡ length t.buffer + 1 → (geometry t.params).lines ≤ j + 1 → IsTask (record t { phase = at.Check i; buffer = words })
+pub all_lines : (t : Inside) (i j : ℕ) (words : List ℕ) → IsTask t → t.phase ≡ at.Word (Slot i) j 7 → length words ≡ length t.buffer + 1
+    → (geometry t.params).lines ≤ j + 1 → IsTask (record t { phase = at.Check i; buffer = words })
 all_lines t i j words task phase count last =
     let u : Inside = record t { phase = at.Check i; buffer = words } in
     let stands : IsSoundAt (at.Word (Slot i) j 7) (task_of t) = subst (λ (p : Phase). IsSoundAt p (task_of t)) phase task.sound.stands in
@@ -75,7 +77,10 @@ all_lines t i j words task phase count last =
     }
 
 -- a slot was looked at
-pub behind_slot : (t : Inside) (i n : ℕ) (phase : Phase) (history : HistoryState) (scan : Option Scan) (words : List ℕ) → IsTask t → t.phase ≡ at.Check i → phase ≡ next_phase (i + 1) n → n ≡ slots_told t.cmd t.params t.gate → history.kept ≡ t.history.kept → words ≡ [] → HasLooked (i + 1) (record t { phase = phase; history = history; scan = scan; buffer = words }) → IsTask (record t { phase = phase; history = history; scan = scan; buffer = words })
+pub behind_slot : (t : Inside) (i n : ℕ) (phase : Phase) (history : HistoryState) (scan : Option Scan) (words : List ℕ) → IsTask t
+    → t.phase ≡ at.Check i → phase ≡ next_phase (i + 1) n → n ≡ slots_told t.cmd t.params t.gate → history.kept ≡ t.history.kept → words ≡ []
+    → HasLooked (i + 1) (record t { phase = phase; history = history; scan = scan; buffer = words })
+    → IsTask (record t { phase = phase; history = history; scan = scan; buffer = words })
 behind_slot t i n phase history scan words task checked next told kept empty looked =
     let u : Inside = record t { phase = phase; history = history; scan = scan; buffer = words } in
     let stands : IsSoundAt (at.Check i) (task_of t) = subst (λ (p : Phase). IsSoundAt p (task_of t)) checked task.sound.stands in
@@ -113,7 +118,11 @@ stores_held t true held = tt
 stores_held t false held = held refl
 
 -- an entry is to be appended
-pub first_stores : (t : Inside) (e : Entry) (phase : Phase) (words : List ℕ) (contents : ContentsState) → IsTask t → t.phase ≡ at.Decide → IsSome (wish_of t.cmd) → t.gate < t.params.slots → Proper t.params e → phase ≡ first_store e.size → words ≡ spelling (geometry t.params) e t.gate → contents.content ≡ content_used t.cmd → (0 < e.size → contents.taken ≡ 1) → (0 < e.size → contents.line ≡ content_line (content_used t.cmd) e.size 0) → IsTask (record t { phase = phase; buffer = words; entry = Some e; contents = contents })
+pub first_stores : (t : Inside) (e : Entry) (phase : Phase) (words : List ℕ) (contents : ContentsState) → IsTask t → t.phase ≡ at.Decide
+    → IsSome (wish_of t.cmd) → t.gate < t.params.slots → Proper t.params e → phase ≡ first_store e.size
+    → words ≡ spelling (geometry t.params) e t.gate → contents.content ≡ content_used t.cmd → (0 < e.size → contents.taken ≡ 1)
+    → (0 < e.size → contents.line ≡ content_line (content_used t.cmd) e.size 0)
+    → IsTask (record t { phase = phase; buffer = words; entry = Some e; contents = contents })
 first_stores t e phase words contents task decides wish room proper first spelled content taken line =
     let u : Inside = record t { phase = phase; buffer = words; entry = Some e; contents = contents } in
     let stands : IsSoundAt at.Decide (task_of t) = subst (λ (p : Phase). IsSoundAt p (task_of t)) decides task.sound.stands in

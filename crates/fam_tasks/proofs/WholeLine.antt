@@ -117,7 +117,12 @@ module _ (line : LineNo) (words : List ℕ) (j : ℕ) (t : Task) (sound : IsSoun
   -- with the last word all of the line are
   all_read : (found : List ℕ) → found ≡ eight words → with_word due (slice_index words 7) ≡ record t { phase = at.Word File j 7; words = found }
   all_read found same =
-      ap (λ (held : List ℕ). record t { phase = at.Word File j 7; words = (((((((held ++ slice_index words 0 ∷ []) ++ slice_index words 1 ∷ []) ++ slice_index words 2 ∷ []) ++ slice_index words 3 ∷ []) ++ slice_index words 4 ∷ []) ++ slice_index words 5 ∷ []) ++ slice_index words 6 ∷ []) ++ slice_index words 7 ∷ [] }) none_held
+      ap (λ (held : List ℕ). record t {
+        phase = at.Word File j 7;
+        words =
+            (((((((held ++ slice_index words 0 ∷ []) ++ slice_index words 1 ∷ []) ++ slice_index words 2 ∷ []) ++ slice_index words 3 ∷ [])
+            ++ slice_index words 4 ∷ []) ++ slice_index words 5 ∷ []) ++ slice_index words 6 ∷ []) ++ slice_index words 7 ∷ [];
+      }) none_held
       ∙ ap (λ (held : List ℕ). record t { phase = at.Word File j 7; words = held }) (sym same)
 
   -- the drop alone
@@ -131,7 +136,9 @@ module _ (line : LineNo) (words : List ℕ) (j : ℕ) (t : Task) (sound : IsSoun
   }
 
   -- and all loads
-  pub line_compared : (found : List ℕ) (next : Task) (said : Turn) → found ≡ eight words → ((p : Phase) → Tells (file_turn t.cmd (record t { phase = p; words = found }) j) said next) → next.kept ≡ t.kept → ComparesLine line words t next said
+  pub line_compared : (found : List ℕ) (next : Task) (said : Turn) → found ≡ eight words
+      → ((p : Phase) → Tells (file_turn t.cmd (record t { phase = p; words = found }) j) said next) → next.kept ≡ t.kept
+      → ComparesLine line words t next said
   line_compared found next said same tells kept = record {
     dropped = dropped j t;
     drops = line_dropped;

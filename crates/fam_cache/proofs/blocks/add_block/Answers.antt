@@ -16,9 +16,24 @@ at_end c = omega (arith, c.len-place.ensures)
 
 pub returns-clause-kept : goal.returns-clause-kept
 returns-clause-kept c =
-    added_keeps c.args.cache.now (record { blocks = c.push_reserved.new.self; areas = c.enlist.new.cache.areas; room = c.saturating_sub-cache.result; greatest = c.max-cache.result }) c.requires.kept (block c) c.requires.none (items c)
+    added_keeps c.args.cache.now (record {
+      blocks = c.push_reserved.new.self;
+      areas = c.enlist.new.cache.areas;
+      room = c.saturating_sub-cache.result;
+      greatest = c.max-cache.result;
+    }) c.requires.kept (block c) c.requires.none (items c)
     c.len-place.result (at_end c) (record { marks = refl; words = refl }) c.enlist.ensures.put
-    (omega (arith, c.push_reserved.ensures.len, c.push_reserved.ensures.capacity, ap vec_len c.enlist.ensures.blocks, ap vec_capacity c.enlist.ensures.blocks, c.requires.kept.blocks, c.requires.room.blocks, c.enlist.ensures.same_room, c.saturating_sub-cache.ensures))
+    (omega (
+      arith,
+      c.push_reserved.ensures.len,
+      c.push_reserved.ensures.capacity,
+      ap vec_len c.enlist.ensures.blocks,
+      ap vec_capacity c.enlist.ensures.blocks,
+      c.requires.kept.blocks,
+      c.requires.room.blocks,
+      c.enlist.ensures.same_room,
+      c.saturating_sub-cache.ensures,
+    ))
     (omega (arith, c.enlist.ensures.one, c.enlist.ensures.capacity, c.requires.kept.areas, c.requires.room.areas, c.enlist.ensures.same_room, c.saturating_sub-cache.ensures))
     (omega (arith, c.push_reserved.ensures.len, ap vec_len c.enlist.ensures.blocks, c.requires.kept.few, c.requires.room.few, c.enlist.ensures.same_room, c.saturating_sub-cache.ensures))
     (omega (arith, c.enlist.ensures.same_greatest, c.max-cache.ensures)) (omega (arith, c.max-cache.ensures))
@@ -28,4 +43,9 @@ returns-clause-same c = ap cache_of (items c) ∙ added_empty c.args.cache.now.b
 
 pub returns-clause-stands : goal.returns-clause-stands
 returns-clause-stands c =
-    added_stands c.args.cache.now (record { blocks = c.push_reserved.new.self; areas = c.enlist.new.cache.areas; room = c.saturating_sub-cache.result; greatest = c.max-cache.result }) c.requires.kept (block c) c.requires.none (items c) c.len-place.result (at_end c)
+    added_stands c.args.cache.now (record {
+      blocks = c.push_reserved.new.self;
+      areas = c.enlist.new.cache.areas;
+      room = c.saturating_sub-cache.result;
+      greatest = c.max-cache.result;
+    }) c.requires.kept (block c) c.requires.none (items c) c.len-place.result (at_end c)

@@ -10,7 +10,8 @@ loop-at-preserved c = record {
   from_there = omega (arith, c.loop-at.invariant.from_there);
   before = λ i from below asked.
       elim (cases_eq i c.loop-at.at) [
-        | inl e ↦ false≢true (sym (c.is_asked_mark.ensures (get_or c.args.block.now.words c.loop-at.at []) ∙ c.if-is_asked_mark.false) ∙ sym (ap (λ (k : ℕ). is_asked (cell_in c.args.block.now k)) e) ∙ asked)
+        | inl e ↦ false≢true (sym (c.is_asked_mark.ensures (get_or c.args.block.now.words c.loop-at.at []) ∙ c.if-is_asked_mark.false)
+            ∙ sym (ap (λ (k : ℕ). is_asked (cell_in c.args.block.now k)) e) ∙ asked)
         | inr other ↦ c.loop-at.invariant.before i from (omega (arith, below, other)) asked
       ];
 }

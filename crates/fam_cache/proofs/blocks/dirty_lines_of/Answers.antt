@@ -17,7 +17,8 @@ counted c = c.dirty_in.ensures.count ∙ ap (λ (bs : List Block). count_by is_d
 pub returns : goal.returns
 returns c =
     let bs = c.args.cache.now.blocks.items in
-    c.loop-block.invariant ∙ dirty_whole bs c.loop-block.block-index (omega (arith, c.loop-block-test.false, c.deref-block-items.ensures.len)) ∙ dirty_counted bs c.requires.whole (alone c.args.cache.now c.requires)
+    c.loop-block.invariant ∙ dirty_whole bs c.loop-block.block-index (omega (arith, c.loop-block-test.false, c.deref-block-items.ensures.len))
+    ∙ dirty_counted bs c.requires.whole (alone c.args.cache.now c.requires)
 
 pub loop-block-init : goal.loop-block-init
 loop-block-init c = sym dirty_none
@@ -25,10 +26,25 @@ loop-block-init c = sym dirty_none
 pub loop-block-preserved : goal.loop-block-preserved
 loop-block-preserved c =
     let bs = c.args.cache.now.blocks.items in
-    omega (arith, c.loop-block.invariant, counted c, dirty_more bs c.loop-block.block-index (get_or bs c.loop-block.block-index no_block) (inside c) (get_or_default bs c.loop-block.block-index no_block _ (inside c)))
+    omega (
+      arith,
+      c.loop-block.invariant,
+      counted c,
+      dirty_more bs c.loop-block.block-index (get_or bs c.loop-block.block-index no_block) (inside c)
+          (get_or_default bs c.loop-block.block-index no_block _ (inside c)),
+    )
 
 pub overflow_add-count : goal.overflow_add-count
 overflow_add-count c =
     let bs = c.args.cache.now.blocks.items in
     let all = dirty_few bs (c.loop-block.block-index + 1) c.requires.whole (omega (arith, inside c)) in
-    omega (arith, all, c.loop-block.invariant, counted c, dirty_more bs c.loop-block.block-index (get_or bs c.loop-block.block-index no_block) (inside c) (get_or_default bs c.loop-block.block-index no_block _ (inside c)), c.requires.few, inside c)
+    omega (
+      arith,
+      all,
+      c.loop-block.invariant,
+      counted c,
+      dirty_more bs c.loop-block.block-index (get_or bs c.loop-block.block-index no_block)
+          (inside c) (get_or_default bs c.loop-block.block-index no_block _ (inside c)),
+      c.requires.few,
+      inside c,
+    )

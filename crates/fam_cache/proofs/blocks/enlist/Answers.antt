@@ -16,7 +16,9 @@ returns-clause-put c =
           omega (arith, here, w.if-index-number.false, b.from c.bisect-at.result (omega arith) within)
       | else-at-len w ↦ λ within. absurd (omega (arith, within, w.if-at-len.false, c.len.ensures))
     ] in
-    let items = c.insert.ensures.items ∙ ap (λ (b : Bool). cond b (insert es c.bisect-at.result (c.args.number / 64, set (replicate 64 0) (c.args.number % 64) c.args.place)) es) (c.insert.ensures.succeeds c.requires.room) in
+    let items = c.insert.ensures.items
+    ∙ ap (λ (b : Bool). cond b (insert es c.bisect-at.result (c.args.number / 64, set (replicate 64 0) (c.args.number % 64) c.args.place)) es)
+    (c.insert.ensures.succeeds c.requires.room) in
     subst (λ (new : Areas). IsEnlisted es new c.args.number c.args.place) (sym items)
     (enlisted_new es c.args.number c.args.place c.requires.kept.sorted c.requires.kept.wide c.bisect-at.result (replicate 64 0) b.within b.before after refl)
 
@@ -27,4 +29,5 @@ returns-then-index-number-clause-put c =
     let here = ap (λ (e : ℕ × List ℕ). e.0) (c.index.ensures ∙ get_or_default es c.bisect-at.result c.index.result.now no_area within) in
     let there = ap (λ (e : ℕ × List ℕ). e.0) (c.index_mut.ensures.value ∙ get_or_default es c.bisect-at.result c.index_mut.result.now no_area within) in
     let b = rw c.deref.ensures.value at c.bisect-at.ensures in
-    enlisted_there es c.args.number c.args.place c.requires.kept.sorted c.requires.kept.wide c.bisect-at.result c.index_mut.result.now within b.before c.index_mut.ensures.value (there ∙ sym here ∙ c.if-index-number.true)
+    enlisted_there es c.args.number c.args.place c.requires.kept.sorted c.requires.kept.wide c.bisect-at.result c.index_mut.result.now within b.before
+    c.index_mut.ensures.value (there ∙ sym here ∙ c.if-index-number.true)

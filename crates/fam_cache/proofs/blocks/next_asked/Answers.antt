@@ -20,14 +20,16 @@ loop-next-preserved c =
         | in-Some-find+in_default-asked_in w ↦
             let stands = w.in-Some-find.ensures in
             let is = w.index.ensures ∙ get_or_default now.blocks.items w.in-Some-find.at w.index.result.now no_block stands.within in
-            none_in_block now c.requires c.args.first c.loop-next.number c.in-Some.next v.none c.in-Some.ensures.skipped w.in-Some-find.at w.start_in.result stands w.start_in.ensures.here w.start_in.ensures.later
+            none_in_block now c.requires c.args.first c.loop-next.number c.in-Some.next v.none c.in-Some.ensures.skipped w.in-Some-find.at
+            w.start_in.result stands w.start_in.ensures.here w.start_in.ensures.later
             (λ i from below asked. w.in_default-asked_in.ensures.none refl i from below (subst (λ (b : Block). IsAsked (cell_in b i)) (sym is) asked))
         | in_default-find w ↦ none_there now c.requires c.args.first c.loop-next.number c.in-Some.next v.none c.in-Some.ensures.skipped w.in_default-find.ensures
       ];
     }
 
 pub returns-then-last-next-clause-none : goal.returns-then-last-next-clause-none
-returns-then-last-next-clause-none c = λ is. none_to c.args.cache.now c.requires c.args.first c.loop-next.number c.in-Some.next c.loop-next.invariant.none c.in-Some.ensures.skipped c.args.last c.if-last-next.true
+returns-then-last-next-clause-none c = λ is. none_to c.args.cache.now c.requires c.args.first c.loop-next.number c.in-Some.next
+    c.loop-next.invariant.none c.in-Some.ensures.skipped c.args.last c.if-last-next.true
 
 pub returns-in-Some-asked_in-clause-asked : goal.returns-in-Some-asked_in-clause-asked
 returns-in-Some-asked_in-clause-asked c =
@@ -36,7 +38,8 @@ returns-in-Some-asked_in-clause-asked c =
     let e = c.in-Some-asked_in.ensures in
     let stands = c.in-Some-find.ensures in
     let is = c.index.ensures ∙ get_or_default now.blocks.items c.in-Some-find.at c.index.result.now no_block stands.within in
-    first_here now c.requires c.args.first c.loop-next.number c.in-Some.next v.none c.in-Some.ensures.skipped c.in-Some-find.at c.start_in.result stands c.start_in.ensures.here c.start_in.ensures.later
+    first_here now c.requires c.args.first c.loop-next.number c.in-Some.next v.none c.in-Some.ensures.skipped c.in-Some-find.at c.start_in.result
+    stands c.start_in.ensures.here c.start_in.ensures.later
     (omega (arith, v.from_there, c.in-Some.ensures.from_there)) c.in-Some-asked_in.offset e.within e.from_there (subst (λ (b : Block). IsAsked (cell_in b c.in-Some-asked_in.offset)) is e.asked)
     (λ i from below asked. e.before i from below (subst (λ (b : Block). IsAsked (cell_in b i)) (sym is) asked))
 

@@ -8,13 +8,15 @@ use Rattle.fam_cache.proofs.copies.leak_copy.Goals as goal
 pub returns-in-Ok-clause-memory : goal.returns-in-Ok-clause-memory
 returns-in-Ok-clause-memory g c =
     on_ok_weaker c.write.result
-    (leaked_image (g.M.Media.state c.args.media.now).image (g.M.Media.state c.read.new.self).image (g.M.Media.state c.write.new.self).image c.args.line.0 c.args.mask.0 c.in-Dirty.words c.in-Ok.memory c.masked_line.result c.args.copy
+    (leaked_image (g.M.Media.state c.args.media.now).image (g.M.Media.state c.read.new.self).image (g.M.Media.state c.write.new.self).image
+    c.args.line.0 c.args.mask.0 c.in-Dirty.words c.in-Ok.memory c.masked_line.result c.args.copy
     c.in-Ok.ensures.same c.in-Ok.ensures.words c.masked_line.ensures c.in-Dirty.is) c.write.ensures.written
 
 pub returns-in-Ok-clause-torn : goal.returns-in-Ok-clause-torn
 returns-in-Ok-clause-torn g c =
     on_err_weaker c.write.result
-    (torn_leak (g.M.Media.state c.args.media.now).image (g.M.Media.state c.read.new.self).image (g.M.Media.state c.write.new.self).image c.args.line.0 c.args.mask.0 c.in-Dirty.words c.in-Ok.memory c.masked_line.result c.args.copy
+    (torn_leak (g.M.Media.state c.args.media.now).image (g.M.Media.state c.read.new.self).image (g.M.Media.state c.write.new.self).image c.args.line.0
+    c.args.mask.0 c.in-Dirty.words c.in-Ok.memory c.masked_line.result c.args.copy
     c.in-Ok.ensures.same c.in-Ok.ensures.words c.masked_line.ensures c.in-Dirty.is) c.write.ensures.torn
 
 pub returns-in-Err-clause-torn : goal.returns-in-Err-clause-torn

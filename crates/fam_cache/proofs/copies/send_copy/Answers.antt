@@ -4,7 +4,8 @@ use Rattle.fam_cache.proofs.copies.send_copy.Goals as goal
 
 pub returns-in-Dirty-clause-torn : goal.returns-in-Dirty-clause-torn
 returns-in-Dirty-clause-torn g c =
-    on_err_weaker c.write.result (torn_send (g.M.Media.state c.args.media.now).image (g.M.Media.state c.write.new.self).image c.args.line.0 c.in-Dirty.words c.args.copy c.in-Dirty.is) c.write.ensures.torn
+    on_err_weaker c.write.result (torn_send (g.M.Media.state c.args.media.now).image (g.M.Media.state c.write.new.self).image c.args.line.0
+    c.in-Dirty.words c.args.copy c.in-Dirty.is) c.write.ensures.torn
 
 pub returns-in-Absent-clause-memory : goal.returns-in-Absent-clause-memory
 returns-in-Absent-clause-memory g c =

@@ -21,22 +21,31 @@ loop-at-init g c = record {
 pub send_run-requires-clause-within : goal.send_run-requires-clause-within
 send_run-requires-clause-within g c = λ line asked.
     let v = c.loop-at.invariant in
-    omega (arith, c.requires.within line (still_asked c.args.first c.args.last _ (over (g.M.Media.state c.loop-at.media).image (lines_of c.loop-at.places)) c.requires.range v.sent line asked), v.steady.size)
+    omega (
+      arith,
+      c.requires.within line
+          (still_asked c.args.first c.args.last _ (over (g.M.Media.state c.loop-at.media).image (lines_of c.loop-at.places)) c.requires.range v.sent
+          line asked),
+      v.steady.size,
+    )
 
 pub returns-in-Err-clause-failed : goal.returns-in-Err-clause-failed
 returns-in-Err-clause-failed g c =
     let v = c.loop-at.invariant in
-    run_fails _ _ c.loop-at.from c.args.last c.in-Some.number v.sent v.range c.in-Some.ensures.asked c.in-Err.fault.0 (over (g.M.Media.state c.send_run.new.media).image (lines_of c.send_run.new.places)) c.in-Err.ensures.failed
+    run_fails _ _ c.loop-at.from c.args.last c.in-Some.number v.sent v.range c.in-Some.ensures.asked c.in-Err.fault.0
+    (over (g.M.Media.state c.send_run.new.media).image (lines_of c.send_run.new.places)) c.in-Err.ensures.failed
 
 pub returns-in-Err-clause-err : goal.returns-in-Err-clause-err
 returns-in-Err-clause-err g c =
     let v = c.loop-at.invariant in
-    fails_cleans _ _ c.loop-at.from c.args.last c.in-Some.number v.sent v.range c.in-Some.ensures.asked c.in-Err.fault.0 (over (g.M.Media.state c.send_run.new.media).image (lines_of c.send_run.new.places)) c.in-Err.ensures.failed
+    fails_cleans _ _ c.loop-at.from c.args.last c.in-Some.number v.sent v.range c.in-Some.ensures.asked c.in-Err.fault.0
+    (over (g.M.Media.state c.send_run.new.media).image (lines_of c.send_run.new.places)) c.in-Err.ensures.failed
 
 pub returns-in-Err-clause-line : goal.returns-in-Err-clause-line
 returns-in-Err-clause-line g c =
     let v = c.loop-at.invariant in
-    fails_asked _ _ c.loop-at.from c.args.last c.in-Some.number v.sent v.range c.in-Some.ensures.asked c.in-Err.fault.0 (over (g.M.Media.state c.send_run.new.media).image (lines_of c.send_run.new.places)) c.in-Err.ensures.failed
+    fails_asked _ _ c.loop-at.from c.args.last c.in-Some.number v.sent v.range c.in-Some.ensures.asked c.in-Err.fault.0
+    (over (g.M.Media.state c.send_run.new.media).image (lines_of c.send_run.new.places)) c.in-Err.ensures.failed
 
 pub returns-in-Err-clause-idle : goal.returns-in-Err-clause-idle
 returns-in-Err-clause-idle g c = λ none. absurd (none c.in-Err.fault.0.0 (returns-in-Err-clause-line g c))
@@ -56,7 +65,9 @@ loop-at-preserved g c =
       kept = e.kept;
       range = run_within _ _ c.loop-at.from c.args.last c.in-Some.number v.sent v.range c.in-Some.ensures.asked c.in-Ok.count now e.sent;
       sent = run_sent _ _ c.loop-at.from c.args.last c.in-Some.number v.sent v.range c.in-Some.ensures.asked c.in-Ok.count now e.sent;
-      same = λ none. absurd (none c.in-Some.number (still_asked c.args.first c.args.last _ (over (g.M.Media.state c.loop-at.media).image (lines_of c.loop-at.places)) c.requires.range v.sent c.in-Some.number c.in-Some.ensures.asked.asked));
+      same = λ none. absurd (none c.in-Some.number
+          (still_asked c.args.first c.args.last _ (over (g.M.Media.state c.loop-at.media).image (lines_of c.loop-at.places)) c.requires.range v.sent
+          c.in-Some.number c.in-Some.ensures.asked.asked));
       steady = record { size = e.size ∙ v.steady.size; later = omega (arith, e.cause.later, v.steady.later) };
       quiet = λ exact. e.counted exact ∙ v.quiet exact;
       room = e.room ∙ v.room;

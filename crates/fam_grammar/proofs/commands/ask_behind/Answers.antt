@@ -13,14 +13,16 @@ returns-in-Logplay-clause-short c = c.ended.ensures.short
 
 pub returns-in-Mount-clause-value : goal.returns-in-Mount-clause-value
 returns-in-Mount-clause-value c =
-    subst (λ (w : CommandWord). Tells c.args.line (words_left c.ended-in-Mount.new.self) c.ended-in-Mount.result (ask_behind c.args.line.end w (words_left c.args.words.now))) (sym c.in-Mount.is) c.ended-in-Mount.ensures.value
+    subst (λ (w : CommandWord). Tells c.args.line (words_left c.ended-in-Mount.new.self) c.ended-in-Mount.result
+    (ask_behind c.args.line.end w (words_left c.args.words.now))) (sym c.in-Mount.is) c.ended-in-Mount.ensures.value
 
 pub returns-in-Mount-clause-short : goal.returns-in-Mount-clause-short
 returns-in-Mount-clause-short c = c.ended-in-Mount.ensures.short
 
 pub returns-in-Fsck-clause-value : goal.returns-in-Fsck-clause-value
 returns-in-Fsck-clause-value c =
-    subst (λ (w : CommandWord). Tells c.args.line (words_left c.ended-in-Fsck.new.self) c.ended-in-Fsck.result (ask_behind c.args.line.end w (words_left c.args.words.now))) (sym c.in-Fsck.is) c.ended-in-Fsck.ensures.value
+    subst (λ (w : CommandWord). Tells c.args.line (words_left c.ended-in-Fsck.new.self) c.ended-in-Fsck.result
+    (ask_behind c.args.line.end w (words_left c.args.words.now))) (sym c.in-Fsck.is) c.ended-in-Fsck.ensures.value
 
 pub returns-in-Fsck-clause-short : goal.returns-in-Fsck-clause-short
 returns-in-Fsck-clause-short c = c.ended-in-Fsck.ensures.short
@@ -48,7 +50,8 @@ returns-in-Cp-clause-short c = c.cp.ensures.short
 
 pub returns-in-Verify-clause-value : goal.returns-in-Verify-clause-value
 returns-in-Verify-clause-value c =
-    subst (λ (w : CommandWord). Tells c.args.line (words_left c.verify.new.words) c.verify.result (ask_behind c.args.line.end w (words_left c.args.words.now))) (sym c.in-Verify.is) c.verify.ensures.value
+    subst (λ (w : CommandWord). Tells c.args.line (words_left c.verify.new.words) c.verify.result
+    (ask_behind c.args.line.end w (words_left c.args.words.now))) (sym c.in-Verify.is) c.verify.ensures.value
 
 pub returns-in-Verify-clause-short : goal.returns-in-Verify-clause-short
 returns-in-Verify-clause-short c = c.verify.ensures.short

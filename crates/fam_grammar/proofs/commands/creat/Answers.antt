@@ -12,7 +12,8 @@ use Rattle.fam_grammar.proofs.commands.creat.Goals as goal
 pub returns-in_err-path-clause-value : goal.returns-in_err-path-clause-value
 returns-in_err-path-clause-value c =
     let p = err_from_is_err_and c.from_residual.result c.from_residual.ensures.1 in
-    rw (p.1, p.2) (stopped c.args.line c.in_err-path.field-0.0 (word_of path_of c.args.line.end (words_left c.args.words.now)) (creat_line c.args.line.end (words_left c.args.words.now)) (λ column is. rw is refl) c.in_err-path.ensures.value)
+    rw (p.1, p.2) (stopped c.args.line c.in_err-path.field-0.0 (word_of path_of c.args.line.end (words_left c.args.words.now))
+    (creat_line c.args.line.end (words_left c.args.words.now)) (λ column is. rw is refl) c.in_err-path.ensures.value)
 
 pub returns-in_err-path-clause-short : goal.returns-in_err-path-clause-short
 returns-in_err-path-clause-short c = c.path.ensures.short
@@ -20,7 +21,9 @@ returns-in_err-path-clause-short c = c.path.ensures.short
 pub returns-in_err-size-clause-value : goal.returns-in_err-size-clause-value
 returns-in_err-size-clause-value c =
     let p = err_from_is_err_and c.from_residual-in_err-size.result c.from_residual-in_err-size.ensures.1 in
-    rw (p.1, p.2) (stopped c.args.line c.in_err-size.field-0.0 (word_of size_of_text c.args.line.end (words_left c.path.new.self)) (creat_line c.args.line.end (words_left c.args.words.now)) (λ column is. rw (c.in_ok-path.ensures.value, is) refl) c.in_err-size.ensures.value)
+    rw (p.1, p.2) (stopped c.args.line c.in_err-size.field-0.0 (word_of size_of_text c.args.line.end (words_left c.path.new.self))
+    (creat_line c.args.line.end (words_left c.args.words.now)) (λ column is. rw (c.in_ok-path.ensures.value, is) refl)
+    c.in_err-size.ensures.value)
 
 pub returns-in_err-size-clause-short : goal.returns-in_err-size-clause-short
 returns-in_err-size-clause-short c = c.size.ensures.short
@@ -28,7 +31,9 @@ returns-in_err-size-clause-short c = c.size.ensures.short
 pub returns-in_err-options-clause-value : goal.returns-in_err-options-clause-value
 returns-in_err-options-clause-value c =
     let p = err_from_is_err_and c.from_residual-in_err-options.result c.from_residual-in_err-options.ensures.1 in
-    rw (p.1, p.2) (stopped c.args.line c.in_err-options.field-0.0 (file_options creat_takes no_file_options (words_left c.size.new.self)) (creat_line c.args.line.end (words_left c.args.words.now)) (λ column is. rw (c.in_ok-path.ensures.value, c.in_ok-size.ensures.value, is) refl) c.in_err-options.ensures.value)
+    rw (p.1, p.2) (stopped c.args.line c.in_err-options.field-0.0 (file_options creat_takes no_file_options (words_left c.size.new.self))
+    (creat_line c.args.line.end (words_left c.args.words.now)) (λ column is. rw (c.in_ok-path.ensures.value, c.in_ok-size.ensures.value, is) refl)
+    c.in_err-options.ensures.value)
 
 pub returns-in_err-options-clause-short : goal.returns-in_err-options-clause-short
 returns-in_err-options-clause-short c = c.file_options.ensures.short

@@ -41,7 +41,8 @@ returns-in-Step-clause-short c = c.step.ensures.short
 
 pub returns-in-Finish-clause-value : goal.returns-in-Finish-clause-value
 returns-in-Finish-clause-value c =
-    subst (λ (w : EventWord). Tells c.args.line (words_left c.finish.new.words) c.finish.result (event_behind c.args.line.end w (words_left c.args.words.now))) (sym c.in-Finish.is) c.finish.ensures.value
+    subst (λ (w : EventWord). Tells c.args.line (words_left c.finish.new.words) c.finish.result
+    (event_behind c.args.line.end w (words_left c.args.words.now))) (sym c.in-Finish.is) c.finish.ensures.value
 
 pub returns-in-Finish-clause-short : goal.returns-in-Finish-clause-short
 returns-in-Finish-clause-short c = c.finish.ensures.short
@@ -62,7 +63,8 @@ returns-in-Halt-clause-short c = c.halt.ensures.short
 
 pub returns-in-Umount-clause-value : goal.returns-in-Umount-clause-value
 returns-in-Umount-clause-value c =
-    subst (λ (w : EventWord). Tells c.args.line (words_left c.umount.new.words) c.umount.result (event_behind c.args.line.end w (words_left c.args.words.now))) (sym c.in-Umount.is) c.umount.ensures.value
+    subst (λ (w : EventWord). Tells c.args.line (words_left c.umount.new.words) c.umount.result
+    (event_behind c.args.line.end w (words_left c.args.words.now))) (sym c.in-Umount.is) c.umount.ensures.value
 
 pub returns-in-Umount-clause-short : goal.returns-in-Umount-clause-short
 returns-in-Umount-clause-short c = c.umount.ensures.short

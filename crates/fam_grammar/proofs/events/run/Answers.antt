@@ -10,7 +10,8 @@ use Rattle.fam_grammar.proofs.events.run.Goals as goal
 pub returns-in_err-name-clause-value : goal.returns-in_err-name-clause-value
 returns-in_err-name-clause-value c =
     let p = err_from_is_err_and c.from_residual.result c.from_residual.ensures.1 in
-    rw (p.1, p.2) (stopped c.args.line c.in_err-name.field-0.0 (word_of name_of c.args.line.end (words_left c.args.words.now)) (run_line c.args.line.end (words_left c.args.words.now)) (λ column is. rw is refl) c.in_err-name.ensures.value)
+    rw (p.1, p.2) (stopped c.args.line c.in_err-name.field-0.0 (word_of name_of c.args.line.end (words_left c.args.words.now))
+    (run_line c.args.line.end (words_left c.args.words.now)) (λ column is. rw is refl) c.in_err-name.ensures.value)
 
 pub returns-in_err-name-clause-short : goal.returns-in_err-name-clause-short
 returns-in_err-name-clause-short c = c.name.ensures.short
@@ -18,7 +19,8 @@ returns-in_err-name-clause-short c = c.name.ensures.short
 pub returns-in_err-asked-clause-value : goal.returns-in_err-asked-clause-value
 returns-in_err-asked-clause-value c =
     let p = err_from_is_err_and c.from_residual-in_err-asked.result c.from_residual-in_err-asked.ensures.1 in
-    rw (p.1, p.2) (stopped c.args.line c.in_err-asked.field-0.0 (ask_line c.args.line.end (words_left c.name.new.self)) (run_line c.args.line.end (words_left c.args.words.now)) (λ column is. rw (c.in_ok-name.ensures.value, is) refl) c.in_err-asked.ensures.value)
+    rw (p.1, p.2) (stopped c.args.line c.in_err-asked.field-0.0 (ask_line c.args.line.end (words_left c.name.new.self))
+    (run_line c.args.line.end (words_left c.args.words.now)) (λ column is. rw (c.in_ok-name.ensures.value, is) refl) c.in_err-asked.ensures.value)
 
 pub returns-in_err-asked-clause-short : goal.returns-in_err-asked-clause-short
 returns-in_err-asked-clause-short c = c.ask.ensures.short

@@ -7,7 +7,9 @@ use Rattle.fam_grammar.proofs.spellings.path_of.Goals as goal
 
 pub returns-in_err-byte : goal.returns-in_err-byte
 returns-in_err-byte c =
-    c.from_residual.ensures ∙ no_path c.args.word.now (read_none c.args.word.now (take c.loop-rest.count c.loop-rest.field) (unescaped c.loop-rest.rest.now) c.loop-rest.invariant.0 c.in_err-byte.ensures.cases)
+    c.from_residual.ensures ∙ no_path c.args.word.now
+    (read_none c.args.word.now (take c.loop-rest.count c.loop-rest.field) (unescaped c.loop-rest.rest.now) c.loop-rest.invariant.0
+    c.in_err-byte.ensures.cases)
 
 pub returns-then-count-eq-PATH_LIMIT : goal.returns-then-count-eq-PATH_LIMIT
 returns-then-count-eq-PATH_LIMIT c =
@@ -18,7 +20,8 @@ returns-then-count-eq-PATH_LIMIT c =
 pub loop-rest-preserved : goal.loop-rest-preserved
 loop-rest-preserved c =
     let within : c.loop-rest.count < length c.loop-rest.field = omega (arith, c.loop-rest.invariant.1, c.loop-rest.invariant.2, c.if-count-eq-PATH_LIMIT.false) in (
-      read_on c.args.word.now (take c.loop-rest.count c.loop-rest.field) c.in_ok-byte.byte (unescaped c.loop-rest.rest.now) (unescaped c.in_ok-byte.more.now) c.loop-rest.invariant.0 c.in_ok-byte.ensures.cases
+      read_on c.args.word.now (take c.loop-rest.count c.loop-rest.field) c.in_ok-byte.byte (unescaped c.loop-rest.rest.now)
+          (unescaped c.in_ok-byte.more.now) c.loop-rest.invariant.0 c.in_ok-byte.ensures.cases
           ∙ ap (λ (l : List ℕ). behind l (unescaped c.in_ok-byte.more.now)) (sym (take_more_set c.loop-rest.field c.loop-rest.count c.in_ok-byte.byte within)),
       omega (arith, within, length-set c.loop-rest.field c.loop-rest.count c.in_ok-byte.byte),
       length-set c.loop-rest.field c.loop-rest.count c.in_ok-byte.byte ∙ c.loop-rest.invariant.2,

@@ -30,7 +30,8 @@ fault_is : (e f : OperationFault) → IsErrOf {T = Turn} (Err e) f → e ≡ f
 fault_is e f is = cc
 
 -- where a task counts, nothing is asked of cache and memory
-counted : (a : Around) (turn : Turn) → a.task.phase ≡ at.Count → a.new ≡ a.old → a.left ≡ a.told → turn ≡ mail_turn 0 a.task → (ends_mail_task turn ≡ false → a.next ≡ next_task 0 a.task) → IsTaskDone a turn
+counted : (a : Around) (turn : Turn) → a.task.phase ≡ at.Count → a.new ≡ a.old → a.left ≡ a.told → turn ≡ mail_turn 0 a.task
+    → (ends_mail_task turn ≡ false → a.next ≡ next_task 0 a.task) → IsTaskDone a turn
 counted a turn is new left turned goes =
     let op : task_op a.place a.task ≡ Digest = ap (λ (p : Phase). phase_op p a.place a.task) is in
     record {

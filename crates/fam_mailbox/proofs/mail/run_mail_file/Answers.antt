@@ -59,7 +59,8 @@ returns-in-Ok-find_box-clause-ends g c =
         at = found.found;
         ran = ran_before g.M.Media.exact entry c.in-Ok.events.items (g.M.Media.state c.args.media.now) (g.M.Media.state c.find_box.new.media) (g.M.Media.state c.run_mail.new.media)
             (change g.K.Sink.state c.args.out.now c.run_mail.new.out) c.run_mail.result look.same look.steady.later found.quiet
-            (subst (λ (es : List MailEvent). MailRan g.M.Media.exact entry es (change g.M.Media.state c.find_box.new.media c.run_mail.new.media) (change g.K.Sink.state c.args.out.now c.run_mail.new.out)
+            (subst (λ (es : List MailEvent). MailRan g.M.Media.exact entry es (change g.M.Media.state c.find_box.new.media c.run_mail.new.media)
+            (change g.K.Sink.state c.args.out.now c.run_mail.new.out)
             c.run_mail.result) c.as_slice.ensures.value c.run_mail.ensures.ran);
       });
       later = record {

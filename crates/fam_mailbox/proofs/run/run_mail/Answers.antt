@@ -148,7 +148,8 @@ returns g c =
     let inv = c.events.invariant in
     record {
       ran =
-          all_ran g.M.Media.size g.M.Media.state c.args.entry.now c.args.events.now c.args.media.now g.K.Sink.state c.args.out.now c.events.out g.M.Media.exact c.events.event-index c.events.media c.events.world
+          all_ran g.M.Media.size g.M.Media.state c.args.entry.now c.args.events.now c.args.media.now g.K.Sink.state c.args.out.now c.events.out
+          g.M.Media.exact c.events.event-index c.events.media c.events.world
           c.end_status.result (λ exact. counted_whole _ _ _ (inv.exactly exact)) (omega (arith, c.events-test.false)) inv.going c.end_status.ensures inv.put;
       steady = record { size = inv.going.size_is; later = inv.going.later };
       later = inv.later;

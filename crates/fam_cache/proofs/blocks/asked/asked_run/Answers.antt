@@ -41,14 +41,28 @@ some c =
 
 pub returns-clause-some : goal.returns-clause-some
 returns-clause-some c =
-    omega (arith, some c, c.loop-end.invariant.within, mid_length (c.args.line % 16) (c.loop-end.end - c.args.line % 16) c.index-block.result.now.words (omega (arith, some c, words_16 c, c.loop-end.invariant.within)))
+    omega (
+      arith,
+      some c,
+      c.loop-end.invariant.within,
+      mid_length (c.args.line % 16) (c.loop-end.end - c.args.line % 16) c.index-block.result.now.words
+          (omega (arith, some c, words_16 c, c.loop-end.invariant.within)),
+    )
 
 pub returns-clause-within : goal.returns-clause-within
 returns-clause-within c =
-    omega (arith, some c, c.loop-end.invariant.within, mid_length (c.args.line % 16) (c.loop-end.end - c.args.line % 16) c.index-block.result.now.words (omega (arith, some c, words_16 c, c.loop-end.invariant.within)))
+    omega (
+      arith,
+      some c,
+      c.loop-end.invariant.within,
+      mid_length (c.args.line % 16) (c.loop-end.end - c.args.line % 16) c.index-block.result.now.words
+          (omega (arith, some c, words_16 c, c.loop-end.invariant.within)),
+    )
 
 -- of a line behind it
-copy_behind : (c : goal.After-result-1) (k : ℕ) → k < c.loop-end.end - c.args.line % 16 → IsAskedLine (lines_of c.args.cache.now) c.args.line (mid_of (c.args.line % 16) (c.loop-end.end - c.args.line % 16) c.index-block.result.now.words) k
+copy_behind : (c : goal.After-result-1) (k : ℕ) → k < c.loop-end.end - c.args.line % 16
+    → IsAskedLine (lines_of c.args.cache.now) c.args.line
+    (mid_of (c.args.line % 16) (c.loop-end.end - c.args.line % 16) c.index-block.result.now.words) k
 copy_behind c k below =
     let from = c.args.line % 16 in
     let len = c.loop-end.end - from in
@@ -65,4 +79,10 @@ copy_behind c k below =
     }
 
 pub returns-clause-asked : goal.returns-clause-asked
-returns-clause-asked c = λ k below. copy_behind c k (omega (arith, below, mid_length (c.args.line % 16) (c.loop-end.end - c.args.line % 16) c.index-block.result.now.words (omega (arith, some c, words_16 c, c.loop-end.invariant.within))))
+returns-clause-asked c = λ k below.
+    copy_behind c k (omega (
+      arith,
+      below,
+      mid_length (c.args.line % 16) (c.loop-end.end - c.args.line % 16) c.index-block.result.now.words
+          (omega (arith, some c, words_16 c, c.loop-end.invariant.within)),
+    ))

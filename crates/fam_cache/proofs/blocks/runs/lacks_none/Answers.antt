@@ -8,7 +8,8 @@ use Rattle.fam_cache.proofs.blocks.runs.lacks_none.Goals as goal
 use Rattle.fam_cache.proofs.blocks.runs.lacks_none.Goals.{After-dirty_in}
 
 -- what is said of lines of the block is said of those that are asked for
-of_lines : (c : After-dirty_in) → ((k : ℕ) → k < c.args.count → ¬ (IsDirty (cell_in c.index-block.result.now (c.args.first % 16 + k)))) → LacksNone (lines_of c.args.cache.now) c.args.first c.args.count
+of_lines : (c : After-dirty_in) → ((k : ℕ) → k < c.args.count → ¬ (IsDirty (cell_in c.index-block.result.now (c.args.first % 16 + k))))
+    → LacksNone (lines_of c.args.cache.now) c.args.first c.args.count
 of_lines c clean = λ k below dirty.
     let at = c.args.first + k in
     let same_block : at / 16 ≡ c.args.first / 16 = omega (arith, below, c.requires.within) in

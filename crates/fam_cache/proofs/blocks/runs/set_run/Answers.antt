@@ -12,7 +12,12 @@ returns-clause-cache c =
     let from = c.args.first % 16 in
     let n = from + length c.args.lines.now - from in
     let whole : IsWhole block = b_whole c.args.cache.now c.requires.kept c.args.at c.args.first c.requires.stands block c.index_mut-block.ensures.value in
-    let count : length (take n (drop from block.marks)) ≡ length c.args.lines.now = omega (arith, length-take-le n (drop from block.marks) (omega (arith, length-drop from block.marks, whole.marks, c.requires.within)), length-drop from block.marks) in
+    let count : length (take n (drop from block.marks)) ≡ length c.args.lines.now =
+    omega (
+      arith,
+      length-take-le n (drop from block.marks) (omega (arith, length-drop from block.marks, whole.marks, c.requires.within)),
+      length-drop from block.marks,
+    ) in
     run_cache c.args.cache.now c.requires.kept c.args.at c.args.first c.requires.stands block c.index_mut-block.ensures.value
     n c.fill.new.self c.copy_from_slice.new.self c.args.lines.now (omega arith) c.requires.within
     (c.fill.ensures.after (λ y same. same) ∙ ap (λ (k : ℕ). replicate k Fresh) count) c.copy_from_slice.ensures.after

@@ -6,7 +6,8 @@ use Rattle.fam_cache.proofs.cache.HostCache.store.Goals as goal
 pub returns-in-Ok-clause-cache : goal.returns-in-Ok-clause-cache
 returns-in-Ok-clause-cache g c =
     rw (← c.self.view_is)
-    (stored_after c.args.line.0 c.args.word c.args.value (lines_of c.self.inside.places) (lines_of c.bring.new.places) (lines_of c.set_word.new.cache) (g.M.Media.state c.args.media.now).image c.in-Ok.ensures.cache c.set_word.ensures.cache)
+    (stored_after c.args.line.0 c.args.word c.args.value (lines_of c.self.inside.places) (lines_of c.bring.new.places) (lines_of c.set_word.new.cache)
+    (g.M.Media.state c.args.media.now).image c.in-Ok.ensures.cache c.set_word.ensures.cache)
 
 pub invariant_of-self : goal.invariant_of-self
 invariant_of-self g c = (

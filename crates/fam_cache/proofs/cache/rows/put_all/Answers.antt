@@ -9,7 +9,9 @@ pub unreachable-requires : goal.unreachable-requires
 unreachable-requires c =
     let line = c.args.first + c.loop-done.done in
     stands_clean c.loop-done.places.blocks.items line c.in-None.ensures
-    (subst (λ (cache : Cache). IsClean (cell_at cache line)) (sym c.loop-done.invariant.cache) (clean_behind c.args.first c.args.lines.now c.loop-done.done c.args.count (lines_of c.args.places.now) c.requires.clean c.loop-done-test.true))
+    (subst (λ (cache : Cache). IsClean (cell_at cache line)) (sym c.loop-done.invariant.cache)
+    (clean_behind c.args.first c.args.lines.now c.loop-done.done c.args.count (lines_of c.args.places.now) c.requires.clean
+    c.loop-done-test.true))
 
 pub loop-done-preserved : goal.loop-done-preserved
 loop-done-preserved c =
@@ -18,7 +20,8 @@ loop-done-preserved c =
     record {
       few = omega (arith, c.part_of-part.ensures.most, v.few);
       kept = c.set_run.ensures.kept;
-      cache = row_put c.args.first c.args.lines.now c.loop-done.done part (c.loop-done.done + part - c.loop-done.done) (lines_of c.args.places.now) (lines_of c.loop-done.places) (lines_of c.set_run.new.cache)
+      cache = row_put c.args.first c.args.lines.now c.loop-done.done part (c.loop-done.done + part - c.loop-done.done) (lines_of c.args.places.now)
+          (lines_of c.loop-done.places) (lines_of c.set_run.new.cache)
           (omega arith) (omega (arith, c.part_of-part.ensures.most, v.few, c.requires.few)) v.cache c.set_run.ensures.cache;
       room = c.set_run.ensures.room ∙ v.room;
     }

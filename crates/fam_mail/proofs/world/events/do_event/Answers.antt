@@ -116,7 +116,8 @@ pub returns-in-Writer-clause-counted : goal.returns-in-Writer-clause-counted
 returns-in-Writer-clause-counted g c exact = declared_counted c.in-Writer.name c.args.world.now c.host.new.self _ true c.host.result c.host.ensures.answered c.host.ensures.err
 
 pub returns-in-Reader-clause-counted : goal.returns-in-Reader-clause-counted
-returns-in-Reader-clause-counted g c exact = declared_counted c.in-Reader.name c.args.world.now c.host-in-Reader.new.self _ false c.host-in-Reader.result c.host-in-Reader.ensures.answered c.host-in-Reader.ensures.err
+returns-in-Reader-clause-counted g c exact = declared_counted c.in-Reader.name c.args.world.now c.host-in-Reader.new.self _ false
+    c.host-in-Reader.result c.host-in-Reader.ensures.answered c.host-in-Reader.ensures.err
 
 pub returns-in-Begin-clause-counted : goal.returns-in-Begin-clause-counted
 returns-in-Begin-clause-counted g c exact = begun_counted c.in-Begin.name c.args.world.now c.begin.new.self _ c.in-Begin.ask c.begin.result c.begin.ensures.answered c.begin.ensures.err

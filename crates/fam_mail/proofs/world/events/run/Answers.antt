@@ -41,7 +41,8 @@ returns-in-Err-OutOfMemory-clause-says g c =
 
 pub returns-in-Ok-clause-counted : goal.returns-in-Ok-clause-counted
 returns-in-Ok-clause-counted g c exact =
-    both_counted _ _ _ _ _ _ (begun_counted c.args.name.now c.args.world.now c.begin.new.self _ c.args.ask.now c.begin.result c.begin.ensures.answered c.begin.ensures.err) (c.finish.ensures.counted exact)
+    both_counted _ _ _ _ _ _ (begun_counted c.args.name.now c.args.world.now c.begin.new.self _ c.args.ask.now c.begin.result c.begin.ensures.answered
+    c.begin.ensures.err) (c.finish.ensures.counted exact)
 
 pub returns-in-Err-Refused-clause-counted : goal.returns-in-Err-Refused-clause-counted
 returns-in-Err-Refused-clause-counted g c exact = begun_counted c.args.name.now c.args.world.now c.begin.new.self _ c.args.ask.now c.begin.result c.begin.ensures.answered c.begin.ensures.err

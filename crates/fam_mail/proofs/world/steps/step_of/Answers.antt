@@ -23,7 +23,18 @@ kept_is turn left next goes = go (ends_mail_task turn) refl
 -- an operation that the media served, with the notes of its turn
 module _ (entry : Entry) (name : List ℕ) (h next : MailHost) (t left : MailTask) (told : MediaChange) (turn : Turn) (over : Bool) where
   served : h.task ≡ Some t → told.old.faults ≤ told.new.faults → over ≡ ends_mail_task turn
-      → IsTaskDone (record { place = file_line entry; task = t; next = left; old = h.cache; new = next.cache; told = told.old.image; left = told.new.image; before = told.old.faults; now = told.new.faults }) turn
+      → IsTaskDone (record {
+        place = file_line entry;
+        task = t;
+        next = left;
+        old = h.cache;
+        new = next.cache;
+        told = told.old.image;
+        left =
+            told.new.image;
+        before = told.old.faults;
+        now = told.new.faults;
+      }) turn
       → next ≡ record h { cache = next.cache; task = kept_task turn left } → HostOperates entry name h told over next (notes_of_turn name turn)
   served is later ends d next_is = record {
     task = t;

@@ -9,7 +9,8 @@ use Rattle.fam_mail.proofs.world.steps.steps_of.Given as goal
 
 abbrev pub invariant-loop-done : goal.invariant-loop-done
 invariant-loop-done g l = record {
-  stays : (s : HostNotes (HostStays (g.M.Media.size l.fn.media) l.entry l.name (mail_host l.fn.host) (change g.M.Media.state l.fn.media l.media) (mail_host l.host)) l.fn.journal.items l.journal.items) × (s.does.count ≡ l._done);
+  stays : (s : HostNotes (HostStays (g.M.Media.size l.fn.media) l.entry l.name (mail_host l.fn.host) (change g.M.Media.state l.fn.media l.media)
+      (mail_host l.host)) l.fn.journal.items l.journal.items) × (s.does.count ≡ l._done);
   runs : is_some l.host.task ≡ true;
   fits : MailHostFits (g.M.Media.size l.fn.media) (capacity_of l.entry.size) (mail_host l.host);
   size : g.M.Media.size l.media ≡ g.M.Media.size l.fn.media;

@@ -26,8 +26,10 @@ returns-clause-turn c =
     c.slot_or_decide-self-inside.ensures ∙ ap (λ n. next_phase c.begin_history-first.result n) c.slots_told.ensures ∙ ap (λ i. next_phase i (slots_told t.cmd t.params c.args.gate)) count in
     rw (← c.self.view_is)
     (elim c.if-appends.branch [
-      | then-appends w ↦ gate_finds t c.args.gate c.slot_or_decide-self-inside.result c.begin_history-first.new.history.kept list c.if-appends.result c.begin_history-first.ensures.kept c.begin_history-first.ensures.entries phase w.if-appends.ensures.writer w.result-is
-      | else-appends w ↦ gate_goes t c.args.gate c.slot_or_decide-self-inside.result c.begin_history-first.new.history.kept list c.if-appends.result c.begin_history-first.ensures.kept c.begin_history-first.ensures.entries phase w.if-appends.ensures.reader w.result-is
+      | then-appends w ↦ gate_finds t c.args.gate c.slot_or_decide-self-inside.result c.begin_history-first.new.history.kept list c.if-appends.result
+          c.begin_history-first.ensures.kept c.begin_history-first.ensures.entries phase w.if-appends.ensures.writer w.result-is
+      | else-appends w ↦ gate_goes t c.args.gate c.slot_or_decide-self-inside.result c.begin_history-first.new.history.kept list c.if-appends.result
+          c.begin_history-first.ensures.kept c.begin_history-first.ensures.entries phase w.if-appends.ensures.reader w.result-is
     ])
 
 pub invariant_of-self : goal.invariant_of-self

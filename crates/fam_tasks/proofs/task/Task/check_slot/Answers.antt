@@ -5,7 +5,9 @@ use Rattle.fam_tasks.proofs.task.Task.check_slot.Goals as goal
 
 pub returns-then-is_fsck-clause-turn : goal.returns-then-is_fsck-clause-turn
 returns-then-is_fsck-clause-turn c =
-    check_told c.show_slot.result c.args.self.now c.show_slot.new.self c.args.slot _ (survey_checked c.args.self.now c.args.slot c.requires (ap is_fsck (sym c.command.ensures) ∙ sym c.is_fsck.ensures ∙ c.if-is_fsck.true)) c.show_slot.ensures.turn
+    check_told c.show_slot.result c.args.self.now c.show_slot.new.self c.args.slot _
+    (survey_checked c.args.self.now c.args.slot c.requires (ap is_fsck (sym c.command.ensures) ∙ sym c.is_fsck.ensures ∙ c.if-is_fsck.true))
+    c.show_slot.ensures.turn
 
 pub returns-then-is_fsck-clause-kept : goal.returns-then-is_fsck-clause-kept
 returns-then-is_fsck-clause-kept c =
@@ -13,7 +15,9 @@ returns-then-is_fsck-clause-kept c =
 
 pub returns-clause-turn : goal.returns-clause-turn
 returns-clause-turn c =
-    check_told c.read_slot.result c.args.self.now c.read_slot.new.self c.args.slot _ (slot_checked c.args.self.now c.args.slot c.requires (ap is_fsck (sym c.command.ensures) ∙ sym c.is_fsck.ensures ∙ c.if-is_fsck.false)) c.read_slot.ensures.turn
+    check_told c.read_slot.result c.args.self.now c.read_slot.new.self c.args.slot _
+    (slot_checked c.args.self.now c.args.slot c.requires (ap is_fsck (sym c.command.ensures) ∙ sym c.is_fsck.ensures ∙ c.if-is_fsck.false))
+    c.read_slot.ensures.turn
 
 pub returns-clause-kept : goal.returns-clause-kept
 returns-clause-kept c =
@@ -21,4 +25,6 @@ returns-clause-kept c =
 
 pub returns-clause-want : goal.returns-clause-want
 returns-clause-want c =
-    check_wants c.read_slot.result c.args.self.now _ (slot_checked c.args.self.now c.args.slot c.requires (ap is_fsck (sym c.command.ensures) ∙ sym c.is_fsck.ensures ∙ c.if-is_fsck.false)) c.read_slot.ensures.want
+    check_wants c.read_slot.result c.args.self.now _
+    (slot_checked c.args.self.now c.args.slot c.requires (ap is_fsck (sym c.command.ensures) ∙ sym c.is_fsck.ensures ∙ c.if-is_fsck.false))
+    c.read_slot.ensures.want

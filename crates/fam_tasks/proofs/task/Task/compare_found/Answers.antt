@@ -42,12 +42,14 @@ invariant_of-self-then-line-lines c =
         least = sound.least;
         most = sound.most;
         stands = (
-          wanted_line u (c.args.line + 1) sound.command (same_gate t u refl refl refl line.found) line.looks (same_proper c.self.inside.entry t u refl line.file.proper) (omega (arith, lines, ap (wanted_lines c.self.inside.cmd) size)),
+          wanted_line u (c.args.line + 1) sound.command (same_gate t u refl refl refl line.found) line.looks
+              (same_proper c.self.inside.entry t u refl line.file.proper) (omega (arith, lines, ap (wanted_lines c.self.inside.cmd) size)),
           stands.1 ∙ verify_kept c.self.inside.cmd c.args.line is ∙ sym (verify_kept c.self.inside.cmd (c.args.line + 1) is),
         );
         kept = sound.kept;
       };
-      held = verify_held c.self.inside.cmd _ (c.args.line + 1) is (ap (λ (s : ContentsState). s.content) c.take.ensures.new ∙ holds.0) (ap (λ (s : ContentsState). s.taken) c.take.ensures.new ∙ ap (λ (n : ℕ). n + 1) holds.1);
+      held = verify_held c.self.inside.cmd _ (c.args.line + 1) is (ap (λ (s : ContentsState). s.content) c.take.ensures.new ∙ holds.0)
+          (ap (λ (s : ContentsState). s.taken) c.take.ensures.new ∙ ap (λ (n : ℕ). n + 1) holds.1);
     }
 
 pub returns-in-Some-clause-turn : goal.returns-in-Some-clause-turn
@@ -61,7 +63,9 @@ returns-in-Some-clause-turn c phase =
     let used : c.self.inside.contents.content ≡ content_used c.args.self.now.cmd = holds.0 ∙ ap (λ (u : Task). content_used u.cmd) c.self.view_is in
     let bytes : HoldsBytes (content_used c.args.self.now.cmd) = subst HoldsBytes used c.take.ensures.bytes in
     let wanted : c.line.result.now ≡ content_line (content_used c.args.self.now.cmd) c.file_size-size.result c.args.line =
-    c.line.ensures ∙ ap (λ (s : ContentsState). s.line) c.take.ensures.new ∙ ap (λ (x : Content). content_line x c.file_size-size.result c.self.inside.contents.taken) used ∙ ap (content_line (content_used c.args.self.now.cmd) c.file_size-size.result) holds.1 in
+    c.line.ensures ∙ ap (λ (s : ContentsState). s.line) c.take.ensures.new
+    ∙ ap (λ (x : Content). content_line x c.file_size-size.result c.self.inside.contents.taken) used
+    ∙ ap (content_line (content_used c.args.self.now.cmd) c.file_size-size.result) holds.1 in
     let count : c.count-m.result ≡ length c.args.self.now.entries = c.count-m.ensures ∙ ap (λ (u : Task). length u.entries) c.self.view_is in
     let loaded : Task = record c.args.self.now { phase = phase; words = c.args.found.now } in
     let first : IsFirst c.args.found.now c.line.result.now (64 * c.args.line) c.file_size-size.result c.in-Some.offset c.in-Some.found c.in-Some.wanted = c.in-Some.ensures in
@@ -79,7 +83,9 @@ returns-then-line-lines-clause-turn c phase =
     let used : c.self.inside.contents.content ≡ content_used c.args.self.now.cmd = holds.0 ∙ ap (λ (u : Task). content_used u.cmd) c.self.view_is in
     let bytes : HoldsBytes (content_used c.args.self.now.cmd) = subst HoldsBytes used c.take.ensures.bytes in
     let wanted : c.line.result.now ≡ content_line (content_used c.args.self.now.cmd) c.file_size-size.result c.args.line =
-    c.line.ensures ∙ ap (λ (s : ContentsState). s.line) c.take.ensures.new ∙ ap (λ (x : Content). content_line x c.file_size-size.result c.self.inside.contents.taken) used ∙ ap (content_line (content_used c.args.self.now.cmd) c.file_size-size.result) holds.1 in
+    c.line.ensures ∙ ap (λ (s : ContentsState). s.line) c.take.ensures.new
+    ∙ ap (λ (x : Content). content_line x c.file_size-size.result c.self.inside.contents.taken) used
+    ∙ ap (content_line (content_used c.args.self.now.cmd) c.file_size-size.result) holds.1 in
     let count : c.count-m.result ≡ length c.args.self.now.entries = c.count-m.ensures ∙ ap (λ (u : Task). length u.entries) c.self.view_is in
     let loaded : Task = record c.args.self.now { phase = phase; words = c.args.found.now } in
     let lines : c.wanted_lines-lines.result ≡ wanted_lines c.args.self.now.cmd (size_of c.args.self.now.entry) =
@@ -105,7 +111,9 @@ returns-else-line-lines-clause-turn c phase =
     let used : c.self.inside.contents.content ≡ content_used c.args.self.now.cmd = holds.0 ∙ ap (λ (u : Task). content_used u.cmd) c.self.view_is in
     let bytes : HoldsBytes (content_used c.args.self.now.cmd) = subst HoldsBytes used c.take.ensures.bytes in
     let wanted : c.line.result.now ≡ content_line (content_used c.args.self.now.cmd) c.file_size-size.result c.args.line =
-    c.line.ensures ∙ ap (λ (s : ContentsState). s.line) c.take.ensures.new ∙ ap (λ (x : Content). content_line x c.file_size-size.result c.self.inside.contents.taken) used ∙ ap (content_line (content_used c.args.self.now.cmd) c.file_size-size.result) holds.1 in
+    c.line.ensures ∙ ap (λ (s : ContentsState). s.line) c.take.ensures.new
+    ∙ ap (λ (x : Content). content_line x c.file_size-size.result c.self.inside.contents.taken) used
+    ∙ ap (content_line (content_used c.args.self.now.cmd) c.file_size-size.result) holds.1 in
     let count : c.count-m.result ≡ length c.args.self.now.entries = c.count-m.ensures ∙ ap (λ (u : Task). length u.entries) c.self.view_is in
     let loaded : Task = record c.args.self.now { phase = phase; words = c.args.found.now } in
     let lines : c.wanted_lines-lines.result ≡ wanted_lines c.args.self.now.cmd (size_of c.args.self.now.entry) =

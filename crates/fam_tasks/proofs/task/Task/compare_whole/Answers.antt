@@ -14,4 +14,5 @@ returns c =
     let both : at.Drop File c.requires.compared.j ≡ at.Drop c.in-Drop.part c.in-Drop.number = sym c.requires.compared.phase ∙ here in
     let file : c.in-Drop.part ≡ File = cc in
     let phase : c.args.self.now.phase ≡ at.Drop File c.in-Drop.number = here ∙ ap (λ (p : Part). at.Drop p c.in-Drop.number) file in
-    line_compared c.args.line (eight c.args.words.now) c.in-Drop.number c.args.self.now c.is_sound.ensures phase c.requires.compared _ c.compare_found.new.self c.compare_found.new.turn refl c.compare_found.ensures.turn c.compare_found.ensures.kept
+    line_compared c.args.line (eight c.args.words.now) c.in-Drop.number c.args.self.now c.is_sound.ensures phase c.requires.compared _
+    c.compare_found.new.self c.compare_found.new.turn refl c.compare_found.ensures.turn c.compare_found.ensures.kept

@@ -28,4 +28,5 @@ returns-clause-found c = λ _.
     let new : Inside = record t { history = c.find_slot.new.self; phase = c.slot_or_decide-self-inside.result } in
     subst (λ (n : ℕ). FindsSlot d.first c.args.lines.now n d.slot c.args.self.now (task_of new)) (sym lines)
     (subst (λ (u : Task). FindsSlot d.first c.args.lines.now wide d.slot u (task_of new)) c.self.view_is
-    (found_slot t d.slot d.first c.args.lines.now c.self.invariant drops c.find_slot.new.self c.slot_or_decide-self-inside.result other found c.find_slot.ensures.kept c.slot_or_decide-self-inside.ensures first))
+    (found_slot t d.slot d.first c.args.lines.now c.self.invariant drops c.find_slot.new.self c.slot_or_decide-self-inside.result other found
+    c.find_slot.ensures.kept c.slot_or_decide-self-inside.ensures first))

@@ -6,7 +6,8 @@ use Rattle.fam_tasks.proofs.task.Task.load_line_of_slot.Goals as goal
 
 pub returns-clause-loads : goal.returns-clause-loads
 returns-clause-loads c =
-    slot_line_loaded c.args.line (eight c.args.words.now) c.args.due.slot c.args.due.line c.args.self.now c.is_sound.ensures c.requires.due c.requires.line c.take_line_of_slot.new.self c.take_line_of_slot.ensures
+    slot_line_loaded c.args.line (eight c.args.words.now) c.args.due.slot c.args.due.line c.args.self.now c.is_sound.ensures c.requires.due
+    c.requires.line c.take_line_of_slot.new.self c.take_line_of_slot.ensures
 
 pub returns-clause-next : goal.returns-clause-next
 returns-clause-next c = λ below.

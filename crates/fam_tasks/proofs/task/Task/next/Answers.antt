@@ -63,7 +63,8 @@ returns-in-SendData-clause-within c = c.file_line.ensures.within
 
 pub returns-in-SendSlot-clause-op : goal.returns-in-SendSlot-clause-op
 returns-in-SendSlot-clause-op c =
-    ap (λ (l : ℕ). WriteBack (line_no l)) (c.line_of_slot.ensures ∙ ap (λ (u : Task). slot_line u.params u.gate c.in-SendSlot.line) c.self.view_is) ∙ op_in (task_of c.self.inside) c.args.self.now (at.SendSlot c.in-SendSlot.line) c.self.view_is c.in-SendSlot.is
+    ap (λ (l : ℕ). WriteBack (line_no l)) (c.line_of_slot.ensures ∙ ap (λ (u : Task). slot_line u.params u.gate c.in-SendSlot.line) c.self.view_is)
+    ∙ op_in (task_of c.self.inside) c.args.self.now (at.SendSlot c.in-SendSlot.line) c.self.view_is c.in-SendSlot.is
 
 pub returns-in-StoreGate-clause-op : goal.returns-in-StoreGate-clause-op
 returns-in-StoreGate-clause-op c =

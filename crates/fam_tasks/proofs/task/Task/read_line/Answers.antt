@@ -36,7 +36,14 @@ invariant_of-self c =
         most = sound.most;
         stands = (
           wanted_line u (c.args.line + 1) sound.command (same_gate t u refl refl refl line.found) line.looks (same_proper c.self.inside.entry t u refl line.file.proper) (omega (arith, lines)),
-          omega (arith, ap length c.push.ensures, length-append c.self.inside.buffer (c.args.word ∷ []), stands.2, read_kept c.self.inside.cmd c.args.line is, read_kept c.self.inside.cmd (c.args.line + 1) is),
+          omega (
+            arith,
+            ap length c.push.ensures,
+            length-append c.self.inside.buffer (c.args.word ∷ []),
+            stands.2,
+            read_kept c.self.inside.cmd c.args.line is,
+            read_kept c.self.inside.cmd (c.args.line + 1) is,
+          ),
         );
         kept = sound.kept;
       };
@@ -54,7 +61,8 @@ returns-clause-turn c =
     let count : c.count-m.result ≡ length c.args.self.now.entries = c.count-m.ensures ∙ ap (λ (x : Task). length x.entries) c.self.view_is in
     let bytes : List ℕ = c.copy_bytes.new.bytes in
     let room : length c.replace-bytes.result.items ≡ wanted_end u.cmd (size_of u.entry) - wanted_start u.cmd =
-    ap (λ v. length v.items) c.replace-bytes.ensures.value ∙ read_holds c.self.inside.cmd c.self.inside c.args.line is held ∙ ap (λ (x : Task). wanted_end x.cmd (size_of x.entry) - wanted_start x.cmd) c.self.view_is in
+    ap (λ v. length v.items) c.replace-bytes.ensures.value ∙ read_holds c.self.inside.cmd c.self.inside c.args.line is held
+    ∙ ap (λ (x : Task). wanted_end x.cmd (size_of x.entry) - wanted_start x.cmd) c.self.view_is in
     let long : length bytes ≡ length c.replace-bytes.result.items = c.copy_bytes.ensures.count ∙ ap length c.as_mut_slice.ensures.value in
     let taken : c.new-2.result ≡ bytes =
     c.new-2.ensures ∙ take-append-le c.replace-bytes.result.len bytes _ (omega (arith, c.copy_bytes.ensures.count, c.as_mut_slice.ensures.len))
@@ -62,7 +70,9 @@ returns-clause-turn c =
     let words : c.push.new.self ≡ u.words = c.push.ensures ∙ ap (λ (x : Task). x.words ++ c.args.word ∷ []) c.self.view_is in
     let first : c.wanted_start-first.result % 64 ≡ wanted_start u.cmd % 64 = ap (λ (n : ℕ). n % 64) (c.wanted_start-first.ensures ∙ ap (λ (x : Task). wanted_start x.cmd) c.self.view_is) in
     let told : bytes ≡ loaded_bytes u (wanted_start u.cmd) =
-    bytes_told u bytes (c.wanted_start-first.result % 64) (long ∙ room) first (λ i below. c.copy_bytes.ensures.each i (omega (arith, c.copy_bytes.ensures.count)) ∙ ap (λ (w : List ℕ). byte_in w (c.wanted_start-first.result % 64 + i)) words) in
+    bytes_told u bytes (c.wanted_start-first.result % 64) (long ∙ room) first
+    (λ i below. c.copy_bytes.ensures.each i (omega (arith, c.copy_bytes.ensures.count))
+    ∙ ap (λ (w : List ℕ). byte_in w (c.wanted_start-first.result % 64 + i)) words) in
     replies _ c.done.result _ (Bytes (length c.args.self.now.entries) (loaded_bytes u (wanted_start u.cmd))) (answer.Bytes c.count-m.result c.new-2.result)
     (read_turn u.cmd u c.args.line c.requires.read ∙ last_line u c.args.line c.wanted_lines-lines.result _ lines c.if-line-lines.false)
     c.done.ensures.turn (ap (λ (n : ℕ). Some (Bytes n c.new-2.result)) count ∙ ap (λ (x : List ℕ). Some (Bytes (length c.args.self.now.entries) x)) (taken ∙ told))

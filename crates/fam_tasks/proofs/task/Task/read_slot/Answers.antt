@@ -22,7 +22,8 @@ invariant_of-self-in-None c =
     let told : t.gate ≡ slots_told t.cmd t.params t.gate = sym (ap (λ (b : Bool). cond b t.params.slots t.gate) other) in
     let found : FindsNext t.params c.as_slice-words.result.now old (entries_in c.read_slot.new.self.replay) =
     subst (λ (r : Option Reason). ReadsNext r t.params c.as_slice-words.result.now old (entries_in c.read_slot.new.self.replay)) c.in-None.is c.in_ok-reason.ensures.reads in
-    behind_slot t c.args.slot t.gate c.slot_or_decide-self-inside.result c.read_slot.new.self t.scan c.clear.new.self c.self.invariant phase c.slot_or_decide-self-inside.ensures told c.in_ok-reason.ensures.kept c.clear.ensures
+    behind_slot t c.args.slot t.gate c.slot_or_decide-self-inside.result c.read_slot.new.self t.scan c.clear.new.self c.self.invariant phase
+    c.slot_or_decide-self-inside.ensures told c.in_ok-reason.ensures.kept c.clear.ensures
     (record {
       replay = c.in_ok-reason.ensures.fits;
       scan = held.scan;

@@ -16,7 +16,8 @@ invariant_of-self-2 c =
     let fsck : is_fsck t.cmd ≡ true = ap (λ (u : Task). is_fsck u.cmd) c.self.view_is ∙ c.requires.fsck in
     let held : HasLooked c.args.slot t = subst (λ (p : Phase). IsInvariantAt p t) phase c.self.invariant.held in
     let told : t.params.slots ≡ slots_told t.cmd t.params t.gate = sym (ap (λ (b : Bool). cond b t.params.slots t.gate) fsck) in
-    behind_slot t c.args.slot t.params.slots c.slot_or_decide-self-inside.result t.history c.show.new.scan c.clear.new.self c.self.invariant phase c.slot_or_decide-self-inside.ensures told refl c.clear.ensures
+    behind_slot t c.args.slot t.params.slots c.slot_or_decide-self-inside.result t.history c.show.new.scan c.clear.new.self c.self.invariant phase
+    c.slot_or_decide-self-inside.ensures told refl c.clear.ensures
     (record {
       replay = held.replay;
       scan = c.in_ok-show.ensures.fits;

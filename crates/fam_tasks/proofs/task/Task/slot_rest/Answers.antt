@@ -35,6 +35,7 @@ returns c =
       j = c.args.line;
       phase = c.requires;
       is = c.line_of_slot.ensures ∙ ap (λ (u : Task). slot_line u.params u.gate c.args.line) c.self.view_is;
-      words_are = λ k below. ap (λ (w : List ℕ). slice_index w k) c.line-words.ensures ∙ word_of_eight t.words (8 * c.args.line) k below long ∙ ap (λ (u : Task). slice_index u.words (8 * c.args.line + k)) c.self.view_is;
+      words_are = λ k below. ap (λ (w : List ℕ). slice_index w k) c.line-words.ensures ∙ word_of_eight t.words (8 * c.args.line) k below long
+          ∙ ap (λ (u : Task). slice_index u.words (8 * c.args.line + k)) c.self.view_is;
       within = omega (arith, c.line_of_slot.ensures, within, ap (λ (u : Task). u.lines) c.self.view_is);
     }

@@ -36,7 +36,9 @@ returns-then-line-lines_of c =
     c.hand_out.ensures.first c.hand_out.ensures.others)
     n (omega arith) _
     (ap (λ (u : Task). record u { phase = at.StoreData line 0 }) c.self.view_is
-    ∙ ap (λ (p : Phase). record c.args.self.now { phase = p }) (next_line c.args.self.now c.args.number n line c.lines_of.result c.file_size-size.result at_line c.lines_of.ensures.value c.file_size-size.ensures c.if-line-lines_of.true))
+    ∙ ap (λ (p : Phase). record c.args.self.now { phase = p })
+    (next_line c.args.self.now c.args.number n line c.lines_of.result c.file_size-size.result at_line c.lines_of.ensures.value
+    c.file_size-size.ensures c.if-line-lines_of.true))
 
 pub returns-else-line-lines_of : goal.returns-else-line-lines_of
 returns-else-line-lines_of c =
@@ -53,4 +55,6 @@ returns-else-line-lines_of c =
     c.hand_out.ensures.first c.hand_out.ensures.others)
     n (omega arith) _
     (ap (λ (u : Task). record u { phase = at.StoreSlot 0 0 }) c.self.view_is
-    ∙ ap (λ (p : Phase). record c.args.self.now { phase = p }) (no_line c.args.self.now c.args.number n line c.lines_of.result c.file_size-size.result at_line c.lines_of.ensures.value c.file_size-size.ensures c.if-line-lines_of.false))
+    ∙ ap (λ (p : Phase). record c.args.self.now { phase = p })
+    (no_line c.args.self.now c.args.number n line c.lines_of.result c.file_size-size.result at_line c.lines_of.ensures.value
+    c.file_size-size.ensures c.if-line-lines_of.false))

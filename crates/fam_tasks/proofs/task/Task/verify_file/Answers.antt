@@ -25,7 +25,8 @@ invariant_of-self-2 c =
         least = sound.least;
         most = sound.most;
         stands = (
-          wanted_line _ 0 sound.command (same_gate (task_of c.self.inside) _ refl refl refl gate) (verify_looks c.self.inside.cmd is) proper (verify_some c.self.inside.cmd c.args.entry.now.size is some),
+          wanted_line _ 0 sound.command (same_gate (task_of c.self.inside) _ refl refl refl gate) (verify_looks c.self.inside.cmd is) proper
+              (verify_some c.self.inside.cmd c.args.entry.now.size is some),
           ap length c.clear.ensures ∙ sym (none_kept c.self.inside.cmd),
         );
         kept = sound.kept;
