@@ -26,7 +26,17 @@ module _ (line : LineNo) (t : Task) (modelled : Option Image) (old : Cache) (sou
   first_within = subst (IsWithin t.lines) (sym op) (small, omega arith)
 
   -- the media failed in it, behind other operations
-  pub not_brought : (first : Task) (start : Cache) → Led modelled first start t old → (size before now : ℕ) (new : Cache) (shown : Option Image) → shown ≡ modelled → new ≡ old → Rose before now → line.0 < size → HasBrokenOff (record { task = first; next = t; old = start; new = new; lines = size; media = record { old = record { image = modelled; faults = before }; new = record { image = shown; faults = now } } }) line
+  pub not_brought : (first : Task) (start : Cache) → Led modelled first start t old → (size before now : ℕ) (new : Cache) (shown : Option Image)
+      → shown ≡ modelled → new ≡ old → Rose before now → line.0 < size
+      → HasBrokenOff (record {
+        task = first;
+        next = t;
+        old = start;
+        new = new;
+        lines = size;
+        media =
+            record { old = record { image = modelled; faults = before }; new = record { image = shown; faults = now } };
+      }) line
   not_brought first start led size before now new shown same copies rose inside = record {
     task = t;
     held = old;
@@ -41,7 +51,9 @@ module _ (line : LineNo) (t : Task) (modelled : Option Image) (old : Cache) (sou
   }
 
   -- the copy is there, with these words
-  pub brings : (words : List ℕ) (begun : Task) → turn_of t (Some (slice_index words 0)) ≡ Goes begun → IfModelled modelled (λ image. eight words ≡ line_at image line.0) → KeepsMemory modelled t old begun (with_cell line.0 (Clean (eight words)) old)
+  pub brings : (words : List ℕ) (begun : Task) → turn_of t (Some (slice_index words 0)) ≡ Goes begun
+      → IfModelled modelled (λ image. eight words ≡ line_at image line.0)
+      → KeepsMemory modelled t old begun (with_cell line.0 (Clean (eight words)) old)
   brings words begun turn from =
       let full : Cache = with_cell line.0 (Clean (eight words)) old in
       let full_cell : cell_at full line.0 ≡ Clean (eight words) = cell_at-with_cell_same line.0 (Clean (eight words)) old in

@@ -29,7 +29,8 @@ use Rattle.fam_run.proofs.Left.{left}
 use Rattle.fam_run.proofs.Running.{kept_on}
 
 -- loads of a line that the cache holds
-pub loads_held : (line : LineNo) (words : List ℕ) (t next : Task) (held : Cache) {n : ℕ} → IsHeld (cell_at held line.0) → words ≡ words_of (cell_at held line.0) → Loads line words t next n → CachedRun t held next held n
+pub loads_held : (line : LineNo) (words : List ℕ) (t next : Task) (held : Cache) {n : ℕ} → IsHeld (cell_at held line.0)
+    → words ≡ words_of (cell_at held line.0) → Loads line words t next n → CachedRun t held next held n
 loads_held line words t _ held there same rest.none = none
 loads_held line words t next held there same (rest.more {mid = mid} before sound k op within turn) =
     let word : Some (slice_index words k) ≡ word_of (op_of mid) held = ap (λ (w : List ℕ). Some (slice_index w k)) same ∙ sym (ap (λ (o : Op). word_of o held) op) in
@@ -52,7 +53,8 @@ held_still_stored line words held (suc n) there =
     let cell : Cell = Dirty false (slice_set (words_of (cell_at now line.0)) (suc n) (slice_index words (suc n))) in
     subst IsHeld {x = cell} (sym (cell_at-with_cell_same line.0 cell now)) refl
 
-stores_run : (line : LineNo) (words : List ℕ) (t next : Task) (held : Cache) (n : ℕ) → IsHeld (cell_at held line.0) → Stores line words t next n → CachedRun t held next (stored_words line words held n) n
+stores_run : (line : LineNo) (words : List ℕ) (t next : Task) (held : Cache) (n : ℕ) → IsHeld (cell_at held line.0) → Stores line words t next n
+    → CachedRun t held next (stored_words line words held n) n
 unfolding stored_words
 stores_run line words t _ held _ there rest.begins = none
 stores_run line words t next held _ there (rest.stores {mid = mid} {n = n} before sound op within turn) =
@@ -63,7 +65,8 @@ stores_run line words t next held _ there (rest.stores {mid = mid} {n = n} befor
     (ap (λ (o : Op). turn_of mid (word_of o now)) op ∙ turn)
 
 -- one store behind another is both into the words of one copy
-store_behind : (line : LineNo) (k value : ℕ) (words : List ℕ) (held : Cache) → cached_after (Store line k value) (with_cell line.0 (Dirty false words) held) ≡ with_cell line.0 (Dirty false (slice_set words k value)) held
+store_behind : (line : LineNo) (k value : ℕ) (words : List ℕ) (held : Cache)
+    → cached_after (Store line k value) (with_cell line.0 (Dirty false words) held) ≡ with_cell line.0 (Dirty false (slice_set words k value)) held
 store_behind line k value words held =
     ap (λ (cell : Cell). with_cell line.0 (Dirty false (slice_set (words_of cell) k value)) (with_cell line.0 (Dirty false words) held)) (cell_at-with_cell_same line.0 (Dirty false words) held)
     ∙ with_cell_twice line.0 (Dirty false words) (Dirty false (slice_set words k value)) held
@@ -73,7 +76,8 @@ set_words : List ℕ → List ℕ → ℕ → List ℕ
 set_words words old zero = old
 set_words words old (suc n) = slice_set (set_words words old n) (suc n) (slice_index words (suc n))
 
-stored_are : (line : LineNo) (words : List ℕ) (held : Cache) (n : ℕ) → stored_words line words held (suc n) ≡ with_cell line.0 (Dirty false (set_words words (words_of (cell_at held line.0)) (suc n))) held
+stored_are : (line : LineNo) (words : List ℕ) (held : Cache) (n : ℕ)
+    → stored_words line words held (suc n) ≡ with_cell line.0 (Dirty false (set_words words (words_of (cell_at held line.0)) (suc n))) held
 unfolding stored_words set_words
 stored_are line words held zero = refl
 stored_are line words held (suc n) =
@@ -86,7 +90,9 @@ all_set words (a ∷ b ∷ c ∷ d ∷ e ∷ f ∷ g ∷ h ∷ []) count = refl
 all_set words old count = absurd cc
 
 -- the seven stores of a line that the cache holds
-pub stores_held : (line : LineNo) (words : List ℕ) (t next : Task) (held after : Cache) → IsHeld (cell_at held line.0) → length (words_of (cell_at held line.0)) ≡ 8 → after ≡ with_cell line.0 (Dirty false (rest_stored words (words_of (cell_at held line.0)))) held → Stores line words t next 7 → CachedRun t held next after 7
+pub stores_held : (line : LineNo) (words : List ℕ) (t next : Task) (held after : Cache) → IsHeld (cell_at held line.0)
+    → length (words_of (cell_at held line.0)) ≡ 8 → after ≡ with_cell line.0 (Dirty false (rest_stored words (words_of (cell_at held line.0)))) held
+    → Stores line words t next 7 → CachedRun t held next after 7
 stores_held line words t next held after there whole is run =
     subst (λ (c : Cache). CachedRun t held next c 7)
     (stored_are line words held 6 ∙ ap (λ (w : List ℕ). with_cell line.0 (Dirty false w) held) (all_set words (words_of (cell_at held line.0)) whole) ∙ sym is)

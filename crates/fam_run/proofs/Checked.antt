@@ -22,14 +22,24 @@ pub digest_next : (t : Task) (slot : ℕ) → t.phase ≡ at.Check slot → op_o
 digest_next t slot phase = ap (op_at t) phase
 
 -- and does it
-pub checked : (t next : Task) (slot lines : ℕ) (turn : Turn) (cache : Cache) (media : MediaState) → t.phase ≡ at.Check slot → IsSound t → Tells (turn_of t None) turn next → Keeps t (turn_of t None) next
+pub checked : (t next : Task) (slot lines : ℕ) (turn : Turn) (cache : Cache) (media : MediaState) → t.phase ≡ at.Check slot → IsSound t
+    → Tells (turn_of t None) turn next → Keeps t (turn_of t None) next
     → IsDone (record { task = t; next = next; old = cache; new = cache; lines = lines; media = record { old = media; new = media } }) turn
 checked t next slot lines turn cache media phase sound told kept =
     let a : TaskChange = record { task = t; next = next; old = cache; new = cache; lines = lines; media = record { old = media; new = media } } in
     done a Digest (sym (digest_next t slot phase)) sound tt None turn (λ image is. record { image = is; cache = refl }) (λ image is. refl) refl refl told kept
 
 -- behind operations that left memory's image it may be done too
-pub checked_behind : (a : TaskChange) → a.media.new.image ≡ a.media.old.image → HasDone a Go → (next : Task) (turn : Turn) → IsChecked (record { task = a.next; next = next; old = a.new; new = a.new; lines = a.lines; media = record { old = a.media.new; new = a.media.new } }) turn
+pub checked_behind : (a : TaskChange) → a.media.new.image ≡ a.media.old.image → HasDone a Go → (next : Task) (turn : Turn)
+    → IsChecked (record {
+      task = a.next;
+      next = next;
+      old = a.new;
+      new = a.new;
+      lines = a.lines;
+      media =
+          record { old = a.media.new; new = a.media.new };
+    }) turn
     → HasDone (record a { next = next }) turn
 checked_behind a same before next turn (did last) =
     done_then a same before next a.new a.media.new.image a.media.new.faults a.lines a.media.new.faults turn

@@ -30,7 +30,8 @@ done_quiet a same done = record {
   turned = subst (λ (left : Option Image). IfModelled a.media.old.image (λ image. HasTurned done.task (machine image done.held) Go a.next left a.new)) same done.turned;
 }
 
-quiet_done : (a : TaskChange) → a.media.new.image ≡ a.media.old.image → (task : Task) (held : Cache) → Led a.media.old.image a.task a.old task held → KeepsMemory a.media.old.image task held a.next a.new → HasDone a Go
+quiet_done : (a : TaskChange) → a.media.new.image ≡ a.media.old.image → (task : Task) (held : Cache) → Led a.media.old.image a.task a.old task held
+    → KeepsMemory a.media.old.image task held a.next a.new → HasDone a Go
 quiet_done a same task held led quiet = record {
   task = task;
   held = held;
@@ -49,11 +50,37 @@ done_led a same done = more done.led (done_quiet a same done)
 
 module _ (modelled shown : Option Image) (same : shown ≡ modelled) (size before now : ℕ) where
   -- of one and those behind it the last one was done
-  pub led_done : (t task mid next : Task) (old held here new : Cache) → Led modelled t old task held → KeepsMemory modelled task held mid here → Led modelled mid here next new → HasDone (record { task = t; next = next; old = old; new = new; lines = size; media = record { old = record { image = modelled; faults = before }; new = record { image = shown; faults = now } } }) Go
+  pub led_done : (t task mid next : Task) (old held here new : Cache) → Led modelled t old task held → KeepsMemory modelled task held mid here
+      → Led modelled mid here next new
+      → HasDone (record {
+        task = t;
+        next = next;
+        old = old;
+        new = new;
+        lines = size;
+        media =
+            record { old = record { image = modelled; faults = before }; new = record { image = shown; faults = now } };
+      }) Go
   led_done t task mid _ old held here _ led quiet none =
-      quiet_done (record { task = t; next = mid; old = old; new = here; lines = size; media = record { old = record { image = modelled; faults = before }; new = record { image = shown; faults = now } } }) same task held led quiet
+      quiet_done (record {
+        task = t;
+        next = mid;
+        old = old;
+        new = here;
+        lines = size;
+        media =
+            record { old = record { image = modelled; faults = before }; new = record { image = shown; faults = now } };
+      }) same task held led quiet
   led_done t task mid next old held here new led quiet (more {mid = u} {now = v} others last) =
-      quiet_done (record { task = t; next = next; old = old; new = new; lines = size; media = record { old = record { image = modelled; faults = before }; new = record { image = shown; faults = now } } }) same u v
+      quiet_done (record {
+        task = t;
+        next = next;
+        old = old;
+        new = new;
+        lines = size;
+        media =
+            record { old = record { image = modelled; faults = before }; new = record { image = shown; faults = now } };
+      }) same u v
       (led_both modelled t mid u old here v (more led quiet) others) last
 
 -- a count of faults that rose later
@@ -69,7 +96,15 @@ module _ (a : TaskChange) (same : a.media.new.image ≡ a.media.old.image) (done
 
   -- what comes behind, from what the media tells of its image then
   abbrev behind_on : Option Image → TaskChange
-  behind_on image = record { task = a.next; next = next; old = a.new; new = new; lines = size; media = record { old = record { image = image; faults = before }; new = record { image = left; faults = now } } }
+  behind_on image = record {
+    task = a.next;
+    next = next;
+    old = a.new;
+    new = new;
+    lines = size;
+    media =
+        record { old = record { image = image; faults = before }; new = record { image = left; faults = now } };
+  }
 
   abbrev behind : TaskChange
   behind = behind_on a.media.new.image

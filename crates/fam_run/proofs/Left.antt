@@ -232,7 +232,9 @@ pieces_left : (m i n : ℕ) → i < n → m * (n - i) ≡ m * (n - (i + 1)) + m
 pieces_left m i n below = let same : m * (n - i) ≡ m * (n - (i + 1) + 1) = ap (λ (k : ℕ). m * k) (omega arith) in omega (arith, same)
 
 -- the next slot or the decision, whichever it is
-slot_falls : (next : Task) (i n : ℕ) (b : Bool) → (slots_told next.cmd next.params next.gate ≤ next.lines → from_slot next i ≤ n) → behind_decision < n → IsSoundAt (cond b (at.Drop (part.Slot i) 0) at.Decide) next → left_at (cond b (at.Drop (part.Slot i) 0) at.Decide) next < n
+slot_falls : (next : Task) (i n : ℕ) (b : Bool) → (slots_told next.cmd next.params next.gate ≤ next.lines → from_slot next i ≤ n)
+    → behind_decision < n → IsSoundAt (cond b (at.Drop (part.Slot i) 0) at.Decide) next
+    → left_at (cond b (at.Drop (part.Slot i) 0) at.Decide) next < n
 slot_falls next i n true below more h =
     let line : IsLine (part.Slot i) 0 next = h.0.line in
     let steps : ℕ = slot_steps (geometry next.params) in
@@ -342,7 +344,8 @@ decide_keeps (Verify path against) t is = found_keeps t (finmap.get (replay t.en
 decide_keeps (Read path offset count) t is = found_keeps t (finmap.get (replay t.entries) path) (λ e. bytes_turn t e offset) (λ e. bytes_keeps t e offset)
 decide_keeps other t is = tt
 
-data_falls : (t next : Task) (j k : ℕ) (b : Bool) → next.params ≡ t.params → next.entry ≡ t.entry → k < 8 → left_at (cond b (at.StoreData j (k + 1)) (at.SendData j)) next < left_at (at.StoreData j k) t
+data_falls : (t next : Task) (j k : ℕ) (b : Bool) → next.params ≡ t.params → next.entry ≡ t.entry → k < 8
+    → left_at (cond b (at.StoreData j (k + 1)) (at.SendData j)) next < left_at (at.StoreData j k) t
 data_falls t next j k true params entry small = omega (arith, ap (λ (p : Params). (geometry p).lines) params, ap (λ (e : Option Entry). lines_of (size_of e)) entry)
 data_falls t next j k false params entry small = omega (arith, ap (λ (p : Params). (geometry p).lines) params, ap (λ (e : Option Entry). lines_of (size_of e)) entry)
 
@@ -350,7 +353,8 @@ data_falls t next j k false params entry small = omega (arith, ap (λ (p : Param
 line_of_file : (size j : ℕ) → 64 * j < size → j < lines_of size
 line_of_file size j below = omega (arith, (div_ceil_times size 64 (omega arith)).0)
 
-sent_falls : (t : Task) (j : ℕ) (b : Bool) → IsSoundAt (cond b (at.StoreData (j + 1) 0) (at.StoreSlot 0 0)) t → left_at (cond b (at.StoreData (j + 1) 0) (at.StoreSlot 0 0)) t < left_at (at.SendData j) t
+sent_falls : (t : Task) (j : ℕ) (b : Bool) → IsSoundAt (cond b (at.StoreData (j + 1) 0) (at.StoreSlot 0 0)) t
+    → left_at (cond b (at.StoreData (j + 1) 0) (at.StoreSlot 0 0)) t < left_at (at.SendData j) t
 sent_falls t j true h = omega (arith, line_of_file (size_of t.entry) (j + 1) h.1.below)
 sent_falls t j false h = omega (arith, (shape t.params).lines)
 

@@ -31,7 +31,9 @@ pub of_some : (o : Option (List ℕ)) (words : List ℕ) (P : List ℕ → Type 
 of_some o words P is holds = subst (λ (x : Option (List ℕ)). IfSome x P) is holds
 
 -- Its words are read.
-module _ (line : LineNo) (words : List ℕ) (t next : Task) (said : Turn) (modelled : Option Image) (old : Cache) (normal : IsNormal modelled) (sound : IsSound t) (compares : ComparesLine line (eight words) t next said) (clean : ¬ (IsDirty (cell_at old line.0))) (from : IfModelled modelled (λ image. eight words ≡ line_at image line.0)) where
+module _ (line : LineNo) (words : List ℕ) (t next : Task) (said : Turn) (modelled : Option Image) (old : Cache) (normal : IsNormal modelled)
+    (sound : IsSound t) (compares : ComparesLine line (eight words) t next said) (clean : ¬ (IsDirty (cell_at old line.0)))
+    (from : IfModelled modelled (λ image. eight words ≡ line_at image line.0)) where
   -- the copy is there
   abbrev full : Cache
   full = with_cell line.0 (Clean (eight words)) old
@@ -64,7 +66,16 @@ module _ (line : LineNo) (words : List ℕ) (t next : Task) (said : Turn) (model
   after_last : (image : Image) → modelled ≡ Some image → operated (op_of compares.due) (machine image full) ≡ machine image full
   after_last image modelled_is = ap (λ (o : Op). operated o (machine image full)) compares.last ∙ machine_after (Load line 7) image full (subst IsNormal modelled_is normal) there
 
-  pub line_matched : (size before now : ℕ) (new : Cache) (shown : Option Image) → shown ≡ modelled → new ≡ full → HasDone (record { task = t; next = next; old = old; new = new; lines = size; media = record { old = record { image = modelled; faults = before }; new = record { image = shown; faults = now } } }) said
+  pub line_matched : (size before now : ℕ) (new : Cache) (shown : Option Image) → shown ≡ modelled → new ≡ full
+      → HasDone (record {
+        task = t;
+        next = next;
+        old = old;
+        new = new;
+        lines = size;
+        media =
+            record { old = record { image = modelled; faults = before }; new = record { image = shown; faults = now } };
+      }) said
   line_matched size before now new shown same copy = record {
     task = compares.due;
     held = full;

@@ -25,7 +25,10 @@ use Rattle.fam_run.proofs.Running.{lines_kept, no_fault}
 
 module _ (a : TaskChange) (op : Op) (is : op ≡ op_of a.task) (sound : IsSound a.task) (within : IsWithin a.task.lines op) where
   -- it was done, and the task was told its word
-  pub done : (word : Option ℕ) (turn : Turn) → IfModelled a.media.old.image (λ image. IsMachine (operated op (machine image a.old)) a.media.new.image a.new) → IfModelled a.media.old.image (λ image. word ≡ given op (machine image a.old)) → LeavesCache op a.media.old.image a.old a.new → word ≡ word_of op a.new → Tells (turn_of a.task word) turn a.next → Keeps a.task (turn_of a.task word) a.next → IsDone a turn
+  pub done : (word : Option ℕ) (turn : Turn)
+      → IfModelled a.media.old.image (λ image. IsMachine (operated op (machine image a.old)) a.media.new.image a.new)
+      → IfModelled a.media.old.image (λ image. word ≡ given op (machine image a.old)) → LeavesCache op a.media.old.image a.old a.new
+      → word ≡ word_of op a.new → Tells (turn_of a.task word) turn a.next → Keeps a.task (turn_of a.task word) a.next → IsDone a turn
   done word turn does gives leaves word_is tells keeps =
       let goes = goes_by_word a.task a.next op word turn a.new is word_is tells in
       record {
@@ -40,7 +43,10 @@ module _ (a : TaskChange) (op : Op) (is : op ≡ op_of a.task) (sound : IsSound 
       }
 
   -- the media failed in it, or no memory was found
-  pub failed : (f : OperationFault) → a.next ≡ a.task → LeavesFailed op a.old a.new → IfMediaFault f (λ line. IfModelled a.media.old.image (λ image. HasFailed op (machine image a.old) line a.media.new.image a.new)) → IfMediaFault f (λ line. IsAtLine op line a.old) → IfMediaFault f (λ line. line.0 < a.lines) → IfMediaFault f (λ line. Rose a.media.old.faults a.media.new.faults) → (f ≡ fault.OutOfMemory → IsUndone a) → Operated a (Err f)
+  pub failed : (f : OperationFault) → a.next ≡ a.task → LeavesFailed op a.old a.new
+      → IfMediaFault f (λ line. IfModelled a.media.old.image (λ image. HasFailed op (machine image a.old) line a.media.new.image a.new))
+      → IfMediaFault f (λ line. IsAtLine op line a.old) → IfMediaFault f (λ line. line.0 < a.lines)
+      → IfMediaFault f (λ line. Rose a.media.old.faults a.media.new.faults) → (f ≡ fault.OutOfMemory → IsUndone a) → Operated a (Err f)
   failed (fault.MediaFault line) same copies fails at inside rose undone = record {
     sound = sound;
     within = subst (IsWithin a.task.lines) is within;
@@ -56,7 +62,19 @@ module _ (a : TaskChange) (op : Op) (is : op ≡ op_of a.task) (sound : IsSound 
 -- one operation is none and one behind it
 pub alone : (a : TaskChange) (r : Result Turn OperationFault) → Operated a r → Advanced a r
 alone a (Ok turn) x = record { task = a.task; held = a.old; led = none; sound = x.sound; within = x.within; leaves = x.leaves; goes = x.goes; kept = x.kept; turned = x.turned; own = x.own }
-alone a (Err (fault.MediaFault line)) x = record { task = a.task; held = a.old; led = none; sound = x.sound; within = x.within; kept = ap (λ (t : Task). t.kept) x.task; copies = x.copies; failed = x.failed; rose = x.rose; inside = x.inside }
+alone a (Err (fault.MediaFault line)) x =
+    record {
+      task = a.task;
+      held = a.old;
+      led = none;
+      sound = x.sound;
+      within = x.within;
+      kept = ap (λ (t : Task). t.kept) x.task;
+      copies = x.copies;
+      failed = x.failed;
+      rose = x.rose;
+      inside = x.inside;
+    }
 alone a (Err fault.OutOfMemory) x = x
 
 -- what came from where nothing was done before

@@ -14,13 +14,17 @@ use Rattle.fam_tasks.specs.Tells.{Tells}
 use Rattle.fam_run.specs.Operation.{GoesOn, HasTurned}
 
 -- an operation that was done, and whose word the task was told
-pub turned : (task new : Task) (op : Op) (word : Option ℕ) (turn : Turn) (modelled left : Option Image) (old held : Cache) → op ≡ op_of task → IfModelled modelled (λ image. IsMachine (operated op (machine image old)) left held) → IfModelled modelled (λ image. word ≡ given op (machine image old)) → Tells (turn_of task word) turn new → IfModelled modelled (λ image. HasTurned task (machine image old) turn new left held)
+pub turned : (task new : Task) (op : Op) (word : Option ℕ) (turn : Turn) (modelled left : Option Image) (old held : Cache) → op ≡ op_of task
+    → IfModelled modelled (λ image. IsMachine (operated op (machine image old)) left held)
+    → IfModelled modelled (λ image. word ≡ given op (machine image old)) → Tells (turn_of task word) turn new
+    → IfModelled modelled (λ image. HasTurned task (machine image old) turn new left held)
 turned task new op word turn modelled left old held is done gives tells image modelled_is = record {
   is = subst (λ (o : Op). IsMachine (operated o (machine image old)) left held) is (done image modelled_is);
   tells = subst (λ (w : Option ℕ). Tells (turn_of task w) turn new) (gives image modelled_is ∙ ap (λ (o : Op). given o (machine image old)) is) tells;
 }
 
 -- over any media
-pub goes_by_word : (task new : Task) (op : Op) (word : Option ℕ) (turn : Turn) (held : Cache) → op ≡ op_of task → word ≡ word_of op held → Tells (turn_of task word) turn new → GoesOn task held turn new
+pub goes_by_word : (task new : Task) (op : Op) (word : Option ℕ) (turn : Turn) (held : Cache) → op ≡ op_of task → word ≡ word_of op held
+    → Tells (turn_of task word) turn new → GoesOn task held turn new
 goes_by_word task new op word turn held is gives tells =
     subst (λ (w : Option ℕ). Tells (turn_of task w) turn new) (gives ∙ ap (λ (o : Op). word_of o held) is) tells

@@ -54,7 +54,8 @@ held_by : (op : Op) (modelled : Option Image) (old new : Cache) → LeavesCache 
 held_by (Store line k value) modelled old new leaves = held_after_store modelled line.0 k value old new leaves
 held_by other modelled old new leaves = tt
 
-pub takes : (op : Op) (modelled : Option Image) (cache after : CacheState) → cache.spare ≤ after.spare + 1 → (BringsNone op cache.lines → cache.spare ≤ after.spare) → LeavesCache op modelled cache.lines after.lines → Takes op cache after
+pub takes : (op : Op) (modelled : Option Image) (cache after : CacheState) → cache.spare ≤ after.spare + 1
+    → (BringsNone op cache.lines → cache.spare ≤ after.spare) → LeavesCache op modelled cache.lines after.lines → Takes op cache after
 takes op modelled cache after one none leaves = record {
   one = one;
   none = none;
@@ -68,7 +69,8 @@ KeptBy turn after = IfSome (task_after turn) (λ next. HasPlaces next after)
 -- Phase by phase.
 
 module _ (t : Task) (cache after : CacheState) where
-  data_next : (b : Bool) (j k : ℕ) → append_places t.params ≤ after.spare → IsHeld (cell_at after.lines (line_of t.entry j)) → HasPlaces (record t { phase = cond b (at.StoreData j (k + 1)) (at.SendData j) }) after
+  data_next : (b : Bool) (j k : ℕ) → append_places t.params ≤ after.spare → IsHeld (cell_at after.lines (line_of t.entry j))
+      → HasPlaces (record t { phase = cond b (at.StoreData j (k + 1)) (at.SendData j) }) after
   data_next true j k room held = (room, λ _. held)
   data_next false j k room held = room
 
@@ -80,7 +82,8 @@ module _ (t : Task) (cache after : CacheState) where
     held = λ some. absurd (omega (arith, some));
   }
 
-  slot_next : (b : Bool) (i k : ℕ) → slot_places t.params ≤ after.spare + i → IsHeld (cell_at after.lines (slot_line t.params t.gate i)) → HasPlaces (record t { phase = cond b (at.StoreSlot i (k + 1)) (at.SendSlot i) }) after
+  slot_next : (b : Bool) (i k : ℕ) → slot_places t.params ≤ after.spare + i → IsHeld (cell_at after.lines (slot_line t.params t.gate i))
+      → HasPlaces (record t { phase = cond b (at.StoreSlot i (k + 1)) (at.SendSlot i) }) after
   slot_next true i k room held = record {
     begun = room;
     first = λ none. absurd (omega (arith, none));
@@ -104,7 +107,8 @@ module _ (t : Task) (cache after : CacheState) where
         | inr none ↦ ready (omega arith)
       ]
 
-  slot_room : (i k : ℕ) → HasPlacesAt (at.StoreSlot i k) t cache → cache.spare ≤ after.spare + 1 → (IsHeld (cell_at cache.lines (slot_line t.params t.gate i)) → cache.spare ≤ after.spare) → slot_places t.params ≤ after.spare + i
+  slot_room : (i k : ℕ) → HasPlacesAt (at.StoreSlot i k) t cache → cache.spare ≤ after.spare + 1
+      → (IsHeld (cell_at cache.lines (slot_line t.params t.gate i)) → cache.spare ≤ after.spare) → slot_places t.params ≤ after.spare + i
   slot_room i k has one none =
       elim (cases_lt 0 k) [
         | inl some ↦ (let kept : cache.spare ≤ after.spare = none (has.held some) in omega (arith, has.begun, kept))
@@ -131,7 +135,9 @@ module _ (t : Task) (cache after : CacheState) where
 
 -- Of the operation that comes next.
 
-pub kept : (t next : Task) (op : Op) (word : Option ℕ) (turn : Turn) (modelled : Option Image) (cache after : CacheState) → op ≡ op_of t → IsSound t → cache.spare ≤ after.spare + 1 → (BringsNone op cache.lines → cache.spare ≤ after.spare) → LeavesCache op modelled cache.lines after.lines → Tells (turn_of t word) turn next → ended turn ≡ None → IsReadyAt t.phase t cache → HasPlaces t cache → HasPlaces next after
+pub kept : (t next : Task) (op : Op) (word : Option ℕ) (turn : Turn) (modelled : Option Image) (cache after : CacheState) → op ≡ op_of t → IsSound t
+    → cache.spare ≤ after.spare + 1 → (BringsNone op cache.lines → cache.spare ≤ after.spare) → LeavesCache op modelled cache.lines after.lines
+    → Tells (turn_of t word) turn next → ended turn ≡ None → IsReadyAt t.phase t cache → HasPlaces t cache → HasPlaces next after
 kept t next op word turn modelled cache after is sound one none leaves tells on ready has =
     let place : Takes (op_of t) cache after = subst (λ (o : Op). Takes o cache after) is (takes op modelled cache after one none leaves) in
     subst (λ (o : Option Task). IfSome o (λ next. HasPlaces next after)) (goes_on (turn_of t word) turn next on tells)
@@ -175,7 +181,8 @@ abbrev pub with_places : Cache → ℕ → CacheState
 with_places lines spare = record { lines = lines; spare = spare }
 
 -- one operation that takes no place
-held_step : (t next : Task) (now after : Cache) (spare : ℕ) (word : Option ℕ) → IsSound t → IsCached (op_of t) now → IsHeldBy (op_of t) after → turn_of t word ≡ turns.Goes next → HasPlaces t (with_places now spare) → HasPlaces next (with_places after spare)
+held_step : (t next : Task) (now after : Cache) (spare : ℕ) (word : Option ℕ) → IsSound t → IsCached (op_of t) now → IsHeldBy (op_of t) after
+    → turn_of t word ≡ turns.Goes next → HasPlaces t (with_places now spare) → HasPlaces next (with_places after spare)
 held_step t next now after spare word sound of held turn has =
     let place : Takes (op_of t) (with_places now spare) (with_places after spare) = record {
       one = omega arith;
@@ -216,7 +223,8 @@ sent_ready other t cache is = tt
 
 -- A line of the file that is stored whole. Its stores are as those into a copy, which takes no place.
 
-stores_kept : (line : LineNo) (words : List ℕ) (t next : Task) (n : ℕ) (lines : Cache) (spare : ℕ) → IsHeld (cell_at lines line.0) → Stores line words t next n → HasPlaces t (with_places lines spare) → HasPlaces next (with_places lines spare)
+stores_kept : (line : LineNo) (words : List ℕ) (t next : Task) (n : ℕ) (lines : Cache) (spare : ℕ) → IsHeld (cell_at lines line.0)
+    → Stores line words t next n → HasPlaces t (with_places lines spare) → HasPlaces next (with_places lines spare)
 stores_kept line words t _ _ lines spare held rest.begins has = has
 stores_kept line words t next _ lines spare held (rest.stores {mid = mid} {n = n} before sound op within turn) has =
     held_step mid next lines lines spare None sound (subst (λ (o : Op). IsCached o lines) (sym op) held) (subst (λ (o : Op). IsHeldBy o lines) (sym op) held) turn
@@ -226,7 +234,8 @@ module _ (line : LineNo) (words : List ℕ) (t : Task) (cache : CacheState) (due
   enough : HasPlaces t cache → append_places t.params ≤ cache.spare
   enough has = (let at_line : HasPlacesAt (at.StoreData due.j 0) t cache = subst (λ (p : Phase). HasPlacesAt p t cache) due.phase has in at_line.0)
 
-  pub put_kept : (sent next : Task) (after : CacheState) → IsSound t → IsSound sent → StoresFileLine line words t sent → cache.spare ≤ after.spare → Tells (turn_of sent None) Go next → HasPlaces t cache → HasPlaces next after
+  pub put_kept : (sent next : Task) (after : CacheState) → IsSound t → IsSound sent → StoresFileLine line words t sent → cache.spare ≤ after.spare
+      → Tells (turn_of sent None) Go next → HasPlaces t cache → HasPlaces next after
   put_kept sent next after sound sound_sent stores le tells has =
       let cell : Cell = Dirty false words in
       let lines : Cache = with_cell line.0 cell cache.lines in
@@ -277,7 +286,8 @@ quiet t next word turn cache tells on has =
 
 -- Places that are made before operations are kept by them.
 
-pub made : (t next : Task) (cache mid after : CacheState) (r : Result Turn OperationFault) → (IsFirstStore t ⊎ HasPlaces t cache → HasPlaces t mid) → PlacesKept t mid next after r → PlacesMade t cache next after r
+pub made : (t next : Task) (cache mid after : CacheState) (r : Result Turn OperationFault) → (IsFirstStore t ⊎ HasPlaces t cache → HasPlaces t mid)
+    → PlacesKept t mid next after r → PlacesMade t cache next after r
 made t next cache mid after (Ok turn) ready kept = λ on has. kept on (ready has)
 made t next cache mid after (Err (fault.MediaFault line)) ready kept = tt
 made t next cache mid after (Err fault.OutOfMemory) ready kept = λ has. kept (ready (inr has))
@@ -317,5 +327,6 @@ ready_kept t next cache after (Ok turn) ready kept = λ goes has. let k = kept g
 ready_kept t next cache after (Err (fault.MediaFault line)) ready kept = tt
 ready_kept t next cache after (Err fault.OutOfMemory) ready kept = kept
 
-pub other_kept : (t next : Task) (cache after : CacheState) (said : Result Turn OperationFault) → ((j : ℕ) → t.phase ≡ at.StoreData j 0 → ⊥) → ReadyPlacesKept t cache next after said → PlacesKept t cache next after said
+pub other_kept : (t next : Task) (cache after : CacheState) (said : Result Turn OperationFault) → ((j : ℕ) → t.phase ≡ at.StoreData j 0 → ⊥)
+    → ReadyPlacesKept t cache next after said → PlacesKept t cache next after said
 other_kept t next cache after said other = ready_kept t next cache after said (ready_at t.phase t cache other)

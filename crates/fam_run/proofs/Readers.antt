@@ -213,7 +213,8 @@ drop_word : (t : Task) (part : Part) (j : ℕ) (real shown : Cache) → HasSame 
 drop_word t Superblock j real shown same = same
 drop_word t other j real shown same = same
 
-word_word : (t : Task) (word : ℕ) (part : Part) (j k : ℕ) (real shown : Cache) → HasSame (op_at t (at.Word part j k)) real shown → WantsSame (op_of (record (with_word t word) { phase = at.Word part j (k + 1) })) real shown
+word_word : (t : Task) (word : ℕ) (part : Part) (j k : ℕ) (real shown : Cache) → HasSame (op_at t (at.Word part j k)) real shown
+    → WantsSame (op_of (record (with_word t word) { phase = at.Word part j (k + 1) })) real shown
 word_word t word Superblock j k real shown same = same
 word_word t word other j k real shown same = same
 

@@ -22,7 +22,8 @@ use Rattle.fam_run.proofs.Stored.{cached_led}
 abbrev pub without : LineNo → Cache → Cache
 without line held = with_cell line.0 Absent held
 
-module _ (line : LineNo) (t dropped : Task) (modelled : Option Image) (old : Cache) (normal : IsNormal modelled) (sound : IsSound t) (drops : DropsLine line t dropped) (clean : ¬ (IsDirty (cell_at old line.0))) where
+module _ (line : LineNo) (t dropped : Task) (modelled : Option Image) (old : Cache) (normal : IsNormal modelled) (sound : IsSound t)
+    (drops : DropsLine line t dropped) (clean : ¬ (IsDirty (cell_at old line.0))) where
   pub led_dropped : Led modelled t old dropped (without line old)
   led_dropped = cached_led modelled normal t dropped old (without line old) t old none (drop_held line t dropped old sound drops clean)
 
@@ -33,11 +34,23 @@ module _ (line : LineNo) (t dropped : Task) (modelled : Option Image) (old : Cac
   dropped_small = subst (λ (n : ℕ). line.0 < n) (sym drops.lines) drops.within
 
   -- the line can't be brought
-  pub line_unread : (dropped_sound : IsSound dropped) (size before now : ℕ) (new : Cache) (shown : Option Image) → shown ≡ modelled → new ≡ without line old → Rose before now → line.0 < size → HasBrokenOff (record { task = t; next = dropped; old = old; new = new; lines = size; media = record { old = record { image = modelled; faults = before }; new = record { image = shown; faults = now } } }) line
+  pub line_unread : (dropped_sound : IsSound dropped) (size before now : ℕ) (new : Cache) (shown : Option Image) → shown ≡ modelled
+      → new ≡ without line old → Rose before now → line.0 < size
+      → HasBrokenOff (record {
+        task = t;
+        next = dropped;
+        old = old;
+        new = new;
+        lines = size;
+        media =
+            record { old = record { image = modelled; faults = before }; new = record { image = shown; faults = now } };
+      }) line
   line_unread dropped_sound = not_brought line dropped modelled (without line old) dropped_sound drops.loads dropped_small none_there t old led_dropped
 
   -- its words are read
-  pub renews : (dropped_sound : IsSound dropped) (words : List ℕ) (begun : Task) → turn_of dropped (Some (slice_index words 0)) ≡ Goes begun → IfModelled modelled (λ image. eight words ≡ line_at image line.0) → KeepsMemory modelled dropped (without line old) begun (with_cell line.0 (Clean (eight words)) old)
+  pub renews : (dropped_sound : IsSound dropped) (words : List ℕ) (begun : Task) → turn_of dropped (Some (slice_index words 0)) ≡ Goes begun
+      → IfModelled modelled (λ image. eight words ≡ line_at image line.0)
+      → KeepsMemory modelled dropped (without line old) begun (with_cell line.0 (Clean (eight words)) old)
   renews dropped_sound words begun turn from =
       subst (λ (c : Cache). KeepsMemory modelled dropped (without line old) begun c) (with_cell_twice line.0 Absent (Clean (eight words)) old)
       (brings line dropped modelled (without line old) dropped_sound drops.loads dropped_small none_there words begun turn from)

@@ -73,7 +73,8 @@ none_written : (first : ℕ) (lines : List (List ℕ)) (modelled : Option Image)
 none_written first lines None = refl
 none_written first lines (Some image) = refl
 
-one_more : (first : ℕ) (lines : List (List ℕ)) (k : ℕ) (modelled : Option Image) → run_written first lines (suc k) modelled ≡ option_map (with_line (first + k) (line_in lines k)) (run_written first lines k modelled)
+one_more : (first : ℕ) (lines : List (List ℕ)) (k : ℕ) (modelled : Option Image)
+    → run_written first lines (suc k) modelled ≡ option_map (with_line (first + k) (line_in lines k)) (run_written first lines k modelled)
 one_more first lines k None = refl
 one_more first lines k (Some image) = refl
 
@@ -93,7 +94,10 @@ module _ (first : ℕ) (lines : List (List ℕ)) (modelled : Option Image) (old 
   absent_up_to n = (k : ℕ) → k < n → cell_at old (first + k) ≡ Absent
 
   -- one line of the run
-  one_sent : (k : ℕ) (mid sending next : Task) → cell_at old (first + k) ≡ Absent → StoresNext first lines k mid sending → Tells (turn_of sending None) Go next → (size before now : ℕ) (new : Cache) (shown : Option Image) → new ≡ old → shown ≡ run_written first lines (suc k) modelled → HasDone (around mid next old new (run_written first lines k modelled) shown size before now) Go
+  one_sent : (k : ℕ) (mid sending next : Task) → cell_at old (first + k) ≡ Absent → StoresNext first lines k mid sending
+      → Tells (turn_of sending None) Go next → (size before now : ℕ) (new : Cache) (shown : Option Image) → new ≡ old
+      → shown ≡ run_written first lines (suc k) modelled
+      → HasDone (around mid next old new (run_written first lines k modelled) shown size before now) Go
   one_sent k mid sending next absent s tells size before now new shown same written =
       line_sent (line_no (first + k)) (line_in lines k) mid sending (run_written first lines k modelled) old (normal_written first lines k modelled normal) s.stores absent s.sound s.sending_sound
       size before now next new shown same (written ∙ one_more first lines k modelled) tells
@@ -112,7 +116,9 @@ module _ (first : ℕ) (lines : List (List ℕ)) (modelled : Option Image) (old 
       })
 
   -- the last line of a run was sent, and those before it
-  pub run_done : (t next : Task) (n : ℕ) → 0 < n → StoresRun first lines t next n → absent_up_to n → (size before now : ℕ) (new : Cache) (shown : Option Image) → new ≡ old → shown ≡ run_written first lines n modelled → HasRun (around t next old new modelled shown size before now) Go
+  pub run_done : (t next : Task) (n : ℕ) → 0 < n → StoresRun first lines t next n → absent_up_to n
+      → (size before now : ℕ) (new : Cache) (shown : Option Image) → new ≡ old → shown ≡ run_written first lines n modelled
+      → HasRun (around t next old new modelled shown size before now) Go
   run_done t _ _ some row.none absent size before now new shown same written = absurd (omega (arith, some))
   run_done t next _ some (row.more {mid = mid} {sending = sending} {n = n} earlier s tells) absent size before now new shown same written = record {
     mid = run_written first lines n modelled;
@@ -138,7 +144,10 @@ begins_line first lines t next _ k (row.more {mid = mid} {sending = sending} {n 
     ]
 
 module _ (first : ℕ) (lines : List (List ℕ)) (modelled : Option Image) (old : Cache) (normal : IsNormal modelled) where
-  pub run_torn : (t next : Task) (n k : ℕ) → StoresRun first lines t next n → k < n → ((j : ℕ) → j < n → cell_at old (first + j) ≡ Absent) → (size before now : ℕ) (after : Task) (new : Cache) (shown : Option Image) → after.kept ≡ t.kept → new ≡ with_cell (first + k) (Dirty false (eight (line_in lines k))) old → IsRunTorn modelled shown first lines k → Rose before now → first + k < size → HasRunOff (around t after old new modelled shown size before now) (line_no (first + k))
+  pub run_torn : (t next : Task) (n k : ℕ) → StoresRun first lines t next n → k < n → ((j : ℕ) → j < n → cell_at old (first + j) ≡ Absent)
+      → (size before now : ℕ) (after : Task) (new : Cache) (shown : Option Image) → after.kept ≡ t.kept
+      → new ≡ with_cell (first + k) (Dirty false (eight (line_in lines k))) old → IsRunTorn modelled shown first lines k → Rose before now
+      → first + k < size → HasRunOff (around t after old new modelled shown size before now) (line_no (first + k))
   run_torn t next n k chain below absent size before now after new shown keeps same torn rose inside =
       let b = begins_line first lines t next n k chain below in
       record {
@@ -146,7 +155,8 @@ module _ (first : ℕ) (lines : List (List ℕ)) (modelled : Option Image) (old 
         task = b.mid;
         held = old;
         sent = run_sent first lines modelled old normal t b.mid k b.earlier b.next.sound (λ j under. absent j (omega (arith, under, below)));
-        broken = line_torn (line_no (first + k)) (line_in lines k) b.mid b.sending (run_written first lines k modelled) old (normal_written first lines k modelled normal) b.next.stores (absent k below) b.next.sound b.next.sending_sound
+        broken = line_torn (line_no (first + k)) (line_in lines k) b.mid b.sending (run_written first lines k modelled) old
+            (normal_written first lines k modelled normal) b.next.stores (absent k below) b.next.sound b.next.sending_sound
             size before now after new shown (keeps ∙ sym (sending_kept first lines k b.mid b.sending b.next ∙ chain_kept first lines t b.mid k b.earlier)) same torn rose inside;
       }
 
@@ -156,7 +166,8 @@ run_kept_here first lines t _ _ cache row.none = λ has. has
 run_kept_here first lines t next _ cache (row.more {mid = mid} {sending = sending} {n = n} before s tells) = λ has.
     put_kept (line_no (first + n)) (line_in lines n) mid cache s.due sending next cache s.sound s.sending_sound s.stores (omega arith) tells (run_kept_here first lines t mid n cache before has)
 
-pub run_kept : (first : ℕ) (lines : List (List ℕ)) (t next : Task) (n : ℕ) (cache after : CacheState) → 0 < n → StoresRun first lines t next n → cache.spare ≤ after.spare → KeepsPlaces t cache next after
+pub run_kept : (first : ℕ) (lines : List (List ℕ)) (t next : Task) (n : ℕ) (cache after : CacheState) → 0 < n → StoresRun first lines t next n
+    → cache.spare ≤ after.spare → KeepsPlaces t cache next after
 run_kept first lines t _ _ cache after some row.none le = absurd (omega (arith, some))
 run_kept first lines t next _ cache after some (row.more {mid = mid} {sending = sending} {n = n} before s tells) le = λ has.
     put_kept (line_no (first + n)) (line_in lines n) mid cache s.due sending next after s.sound s.sending_sound s.stores le tells (run_kept_here first lines t mid n cache before has)

@@ -117,7 +117,8 @@ shown_done a turn shown x on =
         };
         own = x.own;
       };
-      on = λ goes. on_both x.task a.next (unwrap_or (word_of (op_of x.task) a.new) 0) a.new s.after l.on.reads (goes_on (turn_of x.task (word_of (op_of x.task) a.new)) turn a.next goes x.goes) s.shed s.same;
+      on = λ goes. on_both x.task a.next (unwrap_or (word_of (op_of x.task) a.new) 0) a.new s.after l.on.reads
+          (goes_on (turn_of x.task (word_of (op_of x.task) a.new)) turn a.next goes x.goes) s.shed s.same;
     }
 
 -- an operation at one line that fails leaves the cache
@@ -153,10 +154,12 @@ shown_off a line shown x on =
 
 never_sent : (told mid left : Option Image) (t here next : Task) (held now after : Cache) → Sent told t held mid here now → SendsOne mid here now left next after → IsBeforeWrites t.phase → ⊥
 never_sent told _ left t _ next held _ after sends.none one before = subst IsBeforeWrites one.at before
-never_sent told mid left t here next held now after (sends.more {mid = mid_before} {here = here_before} {now = now_before} first prior) one before = never_sent told mid_before mid t here_before here held now_before now first prior before
+never_sent told mid left t here next held now after (sends.more {mid = mid_before} {here = here_before} {now = now_before} first prior) one before =
+    never_sent told mid_before mid t here_before here held now_before now first prior before
 
 -- so of one that reads none were sent
-pub none_sent : (told mid : Option Image) (t task : Task) (held now : Cache) → Sent told t held mid task now → IsBeforeWrites t.phase → (P : Option Image → Task → Cache → Type 0) → P mid task now → P told t held
+pub none_sent : (told mid : Option Image) (t task : Task) (held now : Cache) → Sent told t held mid task now → IsBeforeWrites t.phase
+    → (P : Option Image → Task → Cache → Type 0) → P mid task now → P told t held
 none_sent told _ t _ held _ sends.none before P p = p
 none_sent told left t next held after (sends.more {mid = mid} {here = here} {now = now} first one) before P p = absurd (never_sent told mid left t here next held now after first one before)
 

@@ -75,7 +75,8 @@ module _ (first : ℕ) (lines : List (List ℕ)) (modelled shown : Option Image)
       (λ image is. read image is n (omega arith)) refl same
 
   -- all that were loaded are done
-  pub run_loaded : (n : ℕ) (next : Task) → LoadsSlotLines first lines t next (suc n) → LacksNone old first (suc n) → Read (suc n) → HasDone (change size before now modelled shown t old next (brought_run first lines (suc n) old)) Go
+  pub run_loaded : (n : ℕ) (next : Task) → LoadsSlotLines first lines t next (suc n) → LacksNone old first (suc n) → Read (suc n)
+      → HasDone (change size before now modelled shown t old next (brought_run first lines (suc n) old)) Go
   run_loaded zero next (more none sound loads) absent read = line_more 0 t next sound loads absent read
   run_loaded (suc n) next (more {mid = mid} run sound loads) absent read =
       done_both (change size before now modelled shown t old mid (brought_run first lines (suc n) old)) same
@@ -91,23 +92,28 @@ module _ (first : ℕ) (lines : List (List ℕ)) (modelled shown : Option Image)
       line_unread (line_no (first + n)) mid dropped modelled (brought_run first lines n old) normal sound drops (clean_next n clean) dropped_sound size before now
       (with_cell (first + n) Absent (brought_run first lines n old)) shown same refl rose inside
 
-  pub run_breaks : (n : ℕ) (mid dropped : Task) → LoadsSlotLines first lines t mid n → IsSound mid → DropsLine (line_no (first + n)) mid dropped → IsSound dropped → LacksNone old first (suc n) → Read n → Rose before now → first + n < size →
+  pub run_breaks : (n : ℕ) (mid dropped : Task) → LoadsSlotLines first lines t mid n → IsSound mid → DropsLine (line_no (first + n)) mid dropped
+      → IsSound dropped → LacksNone old first (suc n) → Read n → Rose before now → first + n < size →
       HasBrokenOff (change size before now modelled shown t old dropped (with_cell (first + n) Absent (brought_run first lines n old))) (line_no (first + n))
   run_breaks zero mid dropped none sound drops dropped_sound clean read rose inside = line_breaks 0 t dropped sound drops dropped_sound clean rose inside
   run_breaks (suc n) mid dropped run sound drops dropped_sound clean read rose inside =
       broken_behind (change size before now modelled shown t old mid (brought_run first lines (suc n) old)) same
       (run_loaded n mid run (λ k below. clean k (omega (arith, below))) read)
       dropped (with_cell (first + suc n) Absent (brought_run first lines (suc n) old)) shown now size before (line_no (first + suc n)) (omega arith) refl
-      (subst (λ (m : Option Image). HasBrokenOff (change size before now m shown mid (brought_run first lines (suc n) old) dropped (with_cell (first + suc n) Absent (brought_run first lines (suc n) old))) (line_no (first + suc n))) (sym same)
+      (subst (λ (m : Option Image). HasBrokenOff
+      (change size before now m shown mid (brought_run first lines (suc n) old) dropped
+      (with_cell (first + suc n) Absent (brought_run first lines (suc n) old))) (line_no (first + suc n))) (sym same)
       (line_breaks (suc n) mid dropped sound drops dropped_sound clean rose inside))
 
   -- the same of a cache that is the one behind them
-  pub run_done : (count : ℕ) → 0 < count → (next : Task) → LoadsSlotLines first lines t next count → LacksNone old first count → Read count → (new : Cache) → new ≡ brought_run first lines count old → HasDone (change size before now modelled shown t old next new) Go
+  pub run_done : (count : ℕ) → 0 < count → (next : Task) → LoadsSlotLines first lines t next count → LacksNone old first count → Read count
+      → (new : Cache) → new ≡ brought_run first lines count old → HasDone (change size before now modelled shown t old next new) Go
   run_done zero some next run absent read new is = absurd (omega (arith, some))
   run_done (suc n) some next run absent read new is =
       subst (λ (c : Cache). HasDone (change size before now modelled shown t old next c) Go) (sym is) (run_loaded n next run absent read)
 
-  pub run_failed : (n : ℕ) (mid dropped : Task) (line : LineNo) → line.0 ≡ first + n → LoadsSlotLines first lines t mid n → IsSound mid → DropsLine line mid dropped → IsSound dropped → LacksNone old first (suc n) → Read n → Rose before now → line.0 < size →
+  pub run_failed : (n : ℕ) (mid dropped : Task) (line : LineNo) → line.0 ≡ first + n → LoadsSlotLines first lines t mid n → IsSound mid
+      → DropsLine line mid dropped → IsSound dropped → LacksNone old first (suc n) → Read n → Rose before now → line.0 < size →
       (new : Cache) → new ≡ with_cell (first + n) Absent (brought_run first lines n old) → HasBrokenOff (change size before now modelled shown t old dropped new) line
   run_failed n mid dropped line at run sound drops dropped_sound absent read rose inside new is =
       subst (λ (l : LineNo). HasBrokenOff (change size before now modelled shown t old dropped new) l) (sym (ap line_no at))

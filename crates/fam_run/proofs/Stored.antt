@@ -32,7 +32,8 @@ use Rattle.fam_run.specs.TaskChange.{TaskChange}
 use Rattle.fam_run.proofs.Cached.{cached_goes, cached_leaves, cached_turned, stores_held, tells_go}
 
 -- operations on a line that is held leave memory
-pub cached_led : (modelled : Option Image) → IsNormal modelled → (t next : Task) (now after : Cache) (u : Task) (before : Cache) {n : ℕ} → Led modelled u before t now → CachedRun t now next after n → Led modelled u before next after
+pub cached_led : (modelled : Option Image) → IsNormal modelled → (t next : Task) (now after : Cache) (u : Task) (before : Cache) {n : ℕ}
+    → Led modelled u before t now → CachedRun t now next after n → Led modelled u before next after
 cached_led modelled normal t _ now _ u before led held.none = led
 cached_led modelled normal t next now after u before led (held.more {mid = mid} {now = mid_held} run sound within of is turn) =
     more (cached_led modelled normal t mid now mid_held u before led run) (record {
@@ -47,7 +48,8 @@ cached_led modelled normal t next now after u before led (held.more {mid = mid} 
 words_stored : (words memory : List ℕ) → rest_stored words (slice_set (eight memory) 0 (slice_index words 0)) ≡ eight words
 words_stored words memory = refl
 
-module _ (line : LineNo) (words : List ℕ) (t u : Task) (modelled : Option Image) (old : Cache) (normal : IsNormal modelled) (stores : StoresFileLine line words t u) (absent : cell_at old line.0 ≡ Absent) (sound : IsSound t) where
+module _ (line : LineNo) (words : List ℕ) (t u : Task) (modelled : Option Image) (old : Cache) (normal : IsNormal modelled)
+    (stores : StoresFileLine line words t u) (absent : cell_at old line.0 ≡ Absent) (sound : IsSound t) where
   -- memory's words, as far as it is modelled
   from : FromMemory modelled line.0 (λ memory. ⊤)
   from = from_any modelled line.0 (λ memory. ⊤) (λ memory. tt)

@@ -31,24 +31,30 @@ returns-in-Checked-clause-advanced g c =
 pub returns-in-Slot-clause-advanced : goal.returns-in-Slot-clause-advanced
 returns-in-Slot-clause-advanced g c =
     let m = g.M.Media in
-    run_alone (task_change m.size m.state c.args.task.now c.load_slot.new.task c.args.cache.now c.load_slot.new.cache c.args.media.now c.load_slot.new.media) (said_of c.load_slot.result c.load_slot.new.turn) c.load_slot.ensures.advanced
+    run_alone (task_change m.size m.state c.args.task.now c.load_slot.new.task c.args.cache.now c.load_slot.new.cache c.args.media.now
+    c.load_slot.new.media) (said_of c.load_slot.result c.load_slot.new.turn) c.load_slot.ensures.advanced
 
 pub returns-in-Compared-clause-advanced : goal.returns-in-Compared-clause-advanced
 returns-in-Compared-clause-advanced g c =
     let m = g.M.Media in
-    run_alone (task_change m.size m.state c.args.task.now c.compare_line.new.task c.args.cache.now c.compare_line.new.cache c.args.media.now c.compare_line.new.media) (said_of c.compare_line.result c.compare_line.new.turn) c.compare_line.ensures.advanced
+    run_alone (task_change m.size m.state c.args.task.now c.compare_line.new.task c.args.cache.now c.compare_line.new.cache c.args.media.now
+    c.compare_line.new.media) (said_of c.compare_line.result c.compare_line.new.turn) c.compare_line.ensures.advanced
 
 pub returns-in-Slot-clause-places : goal.returns-in-Slot-clause-places
 returns-in-Slot-clause-places g c =
-    none_kept c.args.task.now c.load_slot.new.task c.args.cache.now c.load_slot.new.cache (said_of c.load_slot.result c.load_slot.new.turn) (no_places _ c.args.task.now c.args.cache.now c.in-Slot.ensures.0 (λ has. has))
+    none_kept c.args.task.now c.load_slot.new.task c.args.cache.now c.load_slot.new.cache (said_of c.load_slot.result c.load_slot.new.turn)
+    (no_places _ c.args.task.now c.args.cache.now c.in-Slot.ensures.0 (λ has. has))
 
 pub returns-in-Compared-clause-places : goal.returns-in-Compared-clause-places
 returns-in-Compared-clause-places g c =
-    none_kept c.args.task.now c.compare_line.new.task c.args.cache.now c.compare_line.new.cache (said_of c.compare_line.result c.compare_line.new.turn) (no_places _ c.args.task.now c.args.cache.now c.in-Compared.ensures.phase (λ has. has))
+    none_kept c.args.task.now c.compare_line.new.task c.args.cache.now c.compare_line.new.cache
+    (said_of c.compare_line.result c.compare_line.new.turn)
+    (no_places _ c.args.task.now c.args.cache.now c.in-Compared.ensures.phase (λ has. has))
 
 pub returns-in-Checked-clause-places : goal.returns-in-Checked-clause-places
 returns-in-Checked-clause-places g c =
-    none_kept c.args.task.now c.check_slot.new.task c.args.cache.now c.args.cache.now (said_of c.check_slot.result c.check_slot.new.turn) (no_places _ c.args.task.now c.args.cache.now c.in-Checked.ensures (λ has. has))
+    none_kept c.args.task.now c.check_slot.new.task c.args.cache.now c.args.cache.now (said_of c.check_slot.result c.check_slot.new.turn)
+    (no_places _ c.args.task.now c.args.cache.now c.in-Checked.ensures (λ has. has))
 
 pub returns-in-Other-clause-places : goal.returns-in-Other-clause-places
 returns-in-Other-clause-places g c =

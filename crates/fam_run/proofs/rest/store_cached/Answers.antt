@@ -8,7 +8,8 @@ use Rattle.fam_run.proofs.rest.store_cached.Goals as goal
 pub returns-then-store_rest-clause-run : goal.returns-then-store_rest-clause-run
 returns-then-store_rest-clause-run c =
     let e = c.if-store_rest.ensures in
-    stores_held c.in-Some.rest.0 c.in-Some.rest.1 c.args.task.now c.store_rest-then-store_rest.new.self c.args.cache.now.lines c.store_rest.new.self.lines (e.held refl) (e.whole refl) (e.stored refl) c.store_rest-then-store_rest.ensures
+    stores_held c.in-Some.rest.0 c.in-Some.rest.1 c.args.task.now c.store_rest-then-store_rest.new.self c.args.cache.now.lines
+    c.store_rest.new.self.lines (e.held refl) (e.whole refl) (e.stored refl) c.store_rest-then-store_rest.ensures
 
 pub returns-else-store_rest-clause-run : goal.returns-else-store_rest-clause-run
 returns-else-store_rest-clause-run c =

@@ -35,5 +35,11 @@ slots-preserved c =
       params = e.params ∙ v.params;
       gate = e.gate ∙ v.gate;
       next = λ below. next_drop c.find_slot.new.self.phase d.slot k c.slots.task.gate (omega (arith, below, v.gate, c.requires.gate)) (e.next found);
-      place = omega (arith, v.place, c.requires.count, slot_line_next c.args.task.now.params (d.slot + k), ap (λ (i : ℕ). slot_line c.args.task.now.params i 0) (let number : d.slot + k + 1 ≡ d.slot + (k + 1) = omega arith in number));
+      place = omega (
+        arith,
+        v.place,
+        c.requires.count,
+        slot_line_next c.args.task.now.params (d.slot + k),
+        ap (λ (i : ℕ). slot_line c.args.task.now.params i 0) (let number : d.slot + k + 1 ≡ d.slot + (k + 1) = omega arith in number),
+      );
     }

@@ -15,7 +15,8 @@ returns-in-Ok-true-clause-loaded g c = λ _.
     let old = m.state c.args.media.now in
     let new = m.state c.bring_run.new.media in
     let same : length c.bring_run.new.lines ≡ length c.args.lines.now = e.len in
-    run_done c.args.due.first c.bring_run.new.lines old.image new.image e.image (g.met.M.Media.normal c.args.media.now) (m.size c.args.media.now) old.faults new.faults c.args.cache.now.lines c.args.task.now
+    run_done c.args.due.first c.bring_run.new.lines old.image new.image e.image (g.met.M.Media.normal c.args.media.now)
+    (m.size c.args.media.now) old.faults new.faults c.args.cache.now.lines c.args.task.now
     (length c.bring_run.new.lines) (omega (arith, same, c.requires.all, c.requires.some)) c.load_lines_of_slot.new.self c.load_lines_of_slot.ensures.loads
     (subst (LacksNone c.args.cache.now.lines c.args.due.first) (sym same) (e.clean is))
     (subst (λ (n : ℕ). IfModelled old.image (λ image. AreRead image c.args.due.first c.bring_run.new.lines n)) (sym same) (e.words is))
@@ -33,7 +34,8 @@ returns-in-Err-clause-failed g c =
     let at : line.0 ≡ c.args.due.first + n =
     slot_line_is mid.new.self line c.args.due.slot c.args.due.first n (mid.ensures.next (omega (arith, e.before, c.requires.all)))
     (c.requires.first ∙ ap (λ (p : Params). slot_line p c.args.due.slot 0) (sym mid.ensures.params)) c.line_of_slot_due-line.ensures in
-    run_failed c.args.due.first c.bring_run.new.lines old.image new.image e.image (g.met.M.Media.normal c.args.media.now) (m.size c.args.media.now) old.faults new.faults c.args.cache.now.lines c.args.task.now
+    run_failed c.args.due.first c.bring_run.new.lines old.image new.image e.image (g.met.M.Media.normal c.args.media.now)
+    (m.size c.args.media.now) old.faults new.faults c.args.cache.now.lines c.args.task.now
     n mid.new.self c.drop_line_of_slot.new.self line at mid.ensures.loads c.is_sound.ensures c.drop_line_of_slot.ensures c.is_sound-in-Err.ensures
     (λ k below. e.failed_clean k (omega (arith, below, e.before))) e.failed_words e.failed
     (omega (arith, at, e.before, c.requires.all, c.if-due-size.false, c.if-due-size-2.false, c.lines-size.ensures.count))

@@ -64,8 +64,16 @@ returns-in-Ok-false-clause-advanced g c =
     let a : TaskChange = task_change m.size m.state c.args.task.now c.operate.new.task c.args.cache.now c.operate.new.cache c.args.media.now c.operate.new.media in
     let cache : c.load_line.new.cache ≡ c.args.cache.now = b.ensures.other_cache b.field-0-test in
     let media : c.load_line.new.media ≡ c.args.media.now = b.ensures.other b.field-0-test in
-    from_same a (said_of c.operate.result c.operate.new.turn) c.load_line.new.task c.load_line.new.cache.lines (m.state c.load_line.new.media) (m.size c.load_line.new.media) (b.ensures.other_task b.field-0-test) (ap (λ (s : CacheState). s.lines) cache) (ap m.state media) (ap m.size media)
-    (alone (record a { task = c.load_line.new.task; old = c.load_line.new.cache.lines; lines = m.size c.load_line.new.media; media = record { old = m.state c.load_line.new.media; new = a.media.new } }) (said_of c.operate.result c.operate.new.turn) c.operate.ensures.operated)
+    from_same a (said_of c.operate.result c.operate.new.turn) c.load_line.new.task c.load_line.new.cache.lines (m.state c.load_line.new.media)
+    (m.size c.load_line.new.media) (b.ensures.other_task b.field-0-test) (ap (λ (s : CacheState). s.lines) cache) (ap m.state media)
+    (ap m.size media)
+    (alone (record a {
+      task = c.load_line.new.task;
+      old = c.load_line.new.cache.lines;
+      lines = m.size c.load_line.new.media;
+      media =
+          record { old = m.state c.load_line.new.media; new = a.media.new };
+    }) (said_of c.operate.result c.operate.new.turn) c.operate.ensures.operated)
 
 pub returns-in-Ok-false-load_line-clause-advanced : goal.returns-in-Ok-false-load_line-clause-advanced
 returns-in-Ok-false-load_line-clause-advanced g c =
@@ -93,4 +101,6 @@ returns-in-Err-OutOfMemory-clause-advanced g c =
 pub returns-clause-advanced : goal.returns-clause-advanced
 returns-clause-advanced g c =
     let m = g.M.Media in
-    subst (λ (said : Turn). HasDone (task_change m.size m.state c.args.task.now c.lines.task c.args.cache.now c.lines.cache c.args.media.now c.lines.media) said) (sym c.requires.go) c.lines.invariant.done
+    subst (λ (said : Turn). HasDone
+    (task_change m.size m.state c.args.task.now c.lines.task c.args.cache.now c.lines.cache c.args.media.now c.lines.media) said)
+    (sym c.requires.go) c.lines.invariant.done

@@ -16,8 +16,10 @@ returns-in-Ok-Some-clause-loaded g c = λ _.
     let clean : ¬ (IsDirty (cell_at c.args.cache.now.lines line.0)) = of_some b.field-0 b.words _ b.field-0-is b.ensures.clean in
     let words : IfModelled (g.M.Media.state c.args.media.now).image (λ image. eight b.words ≡ line_at image line.0) = of_some b.field-0 b.words _ b.field-0-is b.ensures.words in
     let copy : c.renew_line.new.self.lines ≡ with_cell line.0 (Clean (eight b.words)) c.args.cache.now.lines = of_some b.field-0 b.words _ b.field-0-is b.ensures.cache in
-    slot_line_read line b.words c.args.task.now c.load_line_of_slot.new.self (g.M.Media.state c.args.media.now).image (g.M.Media.state c.renew_line.new.media).image c.args.cache.now.lines c.renew_line.new.self.lines
-    (g.M.Media.size c.args.media.now) (g.M.Media.state c.args.media.now).faults (g.M.Media.state c.renew_line.new.media).faults (g.met.M.Media.normal c.args.media.now) c.is_sound.ensures c.load_line_of_slot.ensures.loads clean words copy b.ensures.image
+    slot_line_read line b.words c.args.task.now c.load_line_of_slot.new.self (g.M.Media.state c.args.media.now).image
+    (g.M.Media.state c.renew_line.new.media).image c.args.cache.now.lines c.renew_line.new.self.lines
+    (g.M.Media.size c.args.media.now) (g.M.Media.state c.args.media.now).faults (g.M.Media.state c.renew_line.new.media).faults
+    (g.met.M.Media.normal c.args.media.now) c.is_sound.ensures c.load_line_of_slot.ensures.loads clean words copy b.ensures.image
 
 pub returns-in-Err-Failed-clause-failed : goal.returns-in-Err-Failed-clause-failed
 returns-in-Err-Failed-clause-failed g c =
@@ -25,7 +27,8 @@ returns-in-Err-Failed-clause-failed g c =
     let is = ap Err c.in-Err-Failed.field-0-is in
     let line = c.line_of_slot_due-line.result in
     let within : line.0 < g.M.Media.size c.args.media.now = subst (λ (n : ℕ). line.0 < n) c.requires.lines c.line_of_slot_due-line.ensures.within in
-    line_unread line c.args.task.now c.drop_line_of_slot.new.self (g.M.Media.state c.args.media.now).image c.args.cache.now.lines (g.met.M.Media.normal c.args.media.now) c.is_sound.ensures c.drop_line_of_slot.ensures (f.failed_clean is) c.is_sound-in-Err-Failed.ensures
+    line_unread line c.args.task.now c.drop_line_of_slot.new.self (g.M.Media.state c.args.media.now).image c.args.cache.now.lines
+    (g.met.M.Media.normal c.args.media.now) c.is_sound.ensures c.drop_line_of_slot.ensures (f.failed_clean is) c.is_sound-in-Err-Failed.ensures
     _ _ _ c.renew_line.new.self.lines (g.M.Media.state c.renew_line.new.media).image f.image (f.failed_lines is) (f.failed is) within
 
 pub returns-in-Ok-None-clause-image : goal.returns-in-Ok-None-clause-image

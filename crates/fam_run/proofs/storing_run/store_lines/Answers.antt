@@ -6,7 +6,8 @@ use Rattle.fam_run.proofs.storing_run.store_lines.Goals as goal
 pub returns-then-not-makes_run-clause-advanced : goal.returns-then-not-makes_run-clause-advanced
 returns-then-not-makes_run-clause-advanced g c =
     let m = g.M.Media in
-    run_alone (task_change m.size m.state c.args.task.now c.store_line.new.task c.args.cache.now c.store_line.new.cache c.args.media.now c.store_line.new.media) (said_of c.store_line.result c.store_line.new.turn) c.store_line.ensures.advanced
+    run_alone (task_change m.size m.state c.args.task.now c.store_line.new.task c.args.cache.now c.store_line.new.cache c.args.media.now
+    c.store_line.new.media) (said_of c.store_line.result c.store_line.new.turn) c.store_line.ensures.advanced
 
 pub returns-then-not-makes_run-clause-want : goal.returns-then-not-makes_run-clause-want
 returns-then-not-makes_run-clause-want g c = c.store_line.ensures.want

@@ -6,7 +6,8 @@ use Rattle.fam_run.proofs.storing_run.store_run.Goals as goal
 pub returns-in-Ok-clause-stored : goal.returns-in-Ok-clause-stored
 returns-in-Ok-clause-stored g c =
     let q = c.store_run in
-    run_done c.args.first.0 q.new.lines (g.M.Media.state c.args.media.now).image c.args.cache.now.lines (g.met.M.Media.normal c.args.media.now) c.args.task.now q.new.self (length c.args.lines.now) c.requires.some q.ensures
+    run_done c.args.first.0 q.new.lines (g.M.Media.state c.args.media.now).image c.args.cache.now.lines (g.met.M.Media.normal c.args.media.now)
+    c.args.task.now q.new.self (length c.args.lines.now) c.requires.some q.ensures
     c.requires.absent
     _ _ _ c.put_run.new.self.lines (g.M.Media.state c.put_run.new.media).image c.in-Ok.ensures.lines
     (c.in-Ok.ensures.memory ∙ ap (λ (n : ℕ). run_written c.args.first.0 q.new.lines n (g.M.Media.state c.args.media.now).image) q.auto.lines)
@@ -22,9 +23,11 @@ returns-in-Err-clause-failed g c =
     let k = c.in-Err.failed.done in
     let e = c.in-Err.ensures in
     let before : k < length c.args.lines.now = omega arith in
-    run_torn c.args.first.0 q.new.lines (g.M.Media.state c.args.media.now).image c.args.cache.now.lines (g.met.M.Media.normal c.args.media.now) c.args.task.now q.new.self (length c.args.lines.now) k q.ensures before
+    run_torn c.args.first.0 q.new.lines (g.M.Media.state c.args.media.now).image c.args.cache.now.lines (g.met.M.Media.normal c.args.media.now)
+    c.args.task.now q.new.self (length c.args.lines.now) k q.ensures before
     c.requires.absent
-    _ _ _ q.new.self c.put_run.new.self.lines (g.M.Media.state c.put_run.new.media).image (chain_kept c.args.first.0 q.new.lines c.args.task.now q.new.self (length c.args.lines.now) q.ensures) e.failed_lines e.torn e.failed
+    _ _ _ q.new.self c.put_run.new.self.lines (g.M.Media.state c.put_run.new.media).image
+    (chain_kept c.args.first.0 q.new.lines c.args.task.now q.new.self (length c.args.lines.now) q.ensures) e.failed_lines e.torn e.failed
     (omega (arith, before, c.requires.fits))
 
 pub returns-in-Ok-clause-steady : goal.returns-in-Ok-clause-steady
