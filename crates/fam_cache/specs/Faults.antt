@@ -16,6 +16,7 @@ abbrev pub tells_failure : CacheFault → Bool
 tells_failure call.Failed = true
 tells_failure call.OutOfMemory = false
 
+-- does that of an operation
 abbrev pub tells_media_fault : OperationFault → Bool
 tells_media_fault (MediaFault line) = true
 tells_media_fault OutOfMemory = false

@@ -30,14 +30,18 @@ told_of (call.Makes name request) lines world other is = absurd other
 told_of rest lines world other is = sym (refusal_shaped lines world is rest tt)
 
 -- the shape of a refusal
-pub refused_shape : (c : Call) (lines : ℕ) (world : WorldView) → IsNoMake c → (cause : Refusal) → refusal_in c world lines ≡ Some cause → IsShaped world → CallShape c lines (shapes_of world.journal) (Refused (asked_name c) cause ∷ [])
+pub refused_shape : (c : Call) (lines : ℕ) (world : WorldView) → IsNoMake c → (cause : Refusal) → refusal_in c world lines ≡ Some cause
+    → IsShaped world → CallShape c lines (shapes_of world.journal) (Refused (asked_name c) cause ∷ [])
 refused_shape c lines world other cause first is =
     let notes : List Note = Refused (asked_name c) cause ∷ [] in
     inl (subst (λ (r : Option Refusal). ShapeByRefusal (asked_name c) r notes (FreeShape c lines (shapes_of world.journal) notes)) (sym (told_of c lines world other is ∙ first)) refl)
 
 -- the shape of what is done at a declared host
-pub hosted_shape : (c : Call) (lines : ℕ) (world : WorldView) → IsNoMake c → (at : ℕ) (view : HostView) → number_in (asked_name c) world ≡ Some at → slice_get world.hosts at ≡ Some view → refusal_in c world lines ≡ None → (notes : List Note)
-    → ((f : HostShape) → ActsShape c at f lines (shapes_of world.journal) notes) → (HostActsShape c lines (shapes_of world.journal) notes → FreeShape c lines (shapes_of world.journal) notes) → IsShaped world → CallShape c lines (shapes_of world.journal) notes
+pub hosted_shape : (c : Call) (lines : ℕ) (world : WorldView) → IsNoMake c → (at : ℕ) (view : HostView) → number_in (asked_name c) world ≡ Some at
+    → slice_get world.hosts at ≡ Some view → refusal_in c world lines ≡ None → (notes : List Note)
+    → ((f : HostShape) → ActsShape c at f lines (shapes_of world.journal) notes)
+    → (HostActsShape c lines (shapes_of world.journal) notes → FreeShape c lines (shapes_of world.journal) notes) → IsShaped world
+    → CallShape c lines (shapes_of world.journal) notes
 hosted_shape c lines world other at view number view_is free notes each hosted is =
     let shapes : List HostShape = shapes_of world.journal in
     let found = pairs_at HostShaped world.hosts shapes at view is view_is in
@@ -47,7 +51,8 @@ hosted_shape c lines world other at view number view_is free notes each hosted i
     (subst (λ (o : Option HostShape). OfHostShape o (λ f. ActsShape c at f lines shapes notes)) (sym found.1) (each found.0)))))
 
 -- a call that is refused at once
-pub refused_answers : (c : Call) (lines faults : ℕ) (old new : WorldView) (cause : Refusal) → IsRefused c lines old cause → new.hosts ≡ old.hosts → new.journal ≡ old.journal ++ Refused (asked_name c) cause ∷ []
+pub refused_answers : (c : Call) (lines faults : ℕ) (old new : WorldView) (cause : Refusal) → IsRefused c lines old cause → new.hosts ≡ old.hosts
+    → new.journal ≡ old.journal ++ Refused (asked_name c) cause ∷ []
     → (IsShaped old → CallShape c lines (shapes_of old.journal) (Refused (asked_name c) cause ∷ [])) → Answers c lines (Some cause) faults faults old new
 refused_answers c lines faults old new cause refused hosts journal shape = record {
   adds = record {
@@ -71,7 +76,8 @@ pub not_both : (o : Option Refusal) (cause : Refusal) (P : Type 0) → o ≡ Non
 not_both o cause P none some = absurd (let same : None ≡ Some cause = sym none ∙ some in cc)
 
 -- a call that isn't
-abbrev pub free_answers : (c : Call) (lines before now : ℕ) (answered : Option Refusal) (old new : WorldView) (notes : List Note) → new.journal ≡ old.journal ++ notes → HasCounted before now notes → before ≤ now
+abbrev pub free_answers : (c : Call) (lines before now : ℕ) (answered : Option Refusal) (old new : WorldView) (notes : List Note)
+    → new.journal ≡ old.journal ++ notes → HasCounted before now notes → before ≤ now
     → AreNamed (length new.hosts) notes → map heading new.hosts ≡ map heading old.hosts → (FitsMedia lines old.hosts → FitsMedia lines new.hosts) → (IsShaped old → IsShaped new)
     → answered ≡ refusal_noted notes → refusal_in c old lines ≡ None → ((cause : Refusal) → answered ≡ Some cause → IsLate c cause) → (IsShaped old → CallShape c lines (shapes_of old.journal) notes)
     → Answers c lines answered before now old new

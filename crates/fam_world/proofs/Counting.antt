@@ -39,7 +39,9 @@ use Rattle.fam_world.proofs.TaskSteps.{Reached, done_step, iterated_both, standi
 
 -- Operations on copies of the host alone.
 
-pub held_steps : (at lines : ℕ) (view : HostView) (notes : List Note) (media : MediaState) → IsNormal media.image → IfModelled media.image (λ image. length image ≡ lines) → (t next : Task) (held after : Cache) {n : ℕ} → CachedRun t held next after n → t.lines ≡ lines
+pub held_steps : (at lines : ℕ) (view : HostView) (notes : List Note) (media : MediaState) → IsNormal media.image
+    → IfModelled media.image (λ image. length image ≡ lines) → (t next : Task) (held after : Cache) {n : ℕ} → CachedRun t held next after n
+    → t.lines ≡ lines
     → Iterated (HostStep at lines false) (standing_at view (Some t) t.kept held notes media) (standing_at view (Some next) next.kept after notes media) n
 held_steps at lines view notes media normal modelled t _ held _ run.none fits = none
 held_steps at lines view notes media normal modelled t next held after (run.more {mid = mid} {now = now} before sound within of is turn) fits =
@@ -75,7 +77,8 @@ heading_kept : (at lines : ℕ) (a b : HostStanding) {n : ℕ} → Iterated (Hos
 heading_kept at lines a _ none = refl
 heading_kept at lines a b (more {b = mid} before last) = last.step.host ∙ heading_kept at lines a mid before
 
-module _ (name : List ℕ) (at lines : ℕ) (world : WorldView) (view : HostView) (number : number_in name world ≡ Some at) (view_is : slice_get world.hosts at ≡ Some view) (within : at < length world.hosts) where
+module _ (name : List ℕ) (at lines : ℕ) (world : WorldView) (view : HostView) (number : number_in name world ≡ Some at)
+    (view_is : slice_get world.hosts at ≡ Some view) (within : at < length world.hosts) where
   -- the world with the host that is told of
   abbrev pub with_host : HostStanding → WorldStanding
   with_host s = record { world = record { hosts = changed_at at (λ v. s.host) world.hosts; journal = s.notes }; media = s.media }
@@ -105,7 +108,8 @@ module _ (name : List ℕ) (at lines : ℕ) (world : WorldView) (view : HostView
       more (all_steps a mid same before) (one_step false mid b (heading_kept at lines a mid before ∙ same) last)
 
   -- what is said of the steps of a host is said of its world
-  said : (most : ℕ) (a b : HostStanding) (r : Result Moved OutOfMemory) → heading a.host ≡ heading view → HostStepsSay at lines most a b r → StepsSay name lines most (with_host a) (with_host b) (told_of r)
+  said : (most : ℕ) (a b : HostStanding) (r : Result Moved OutOfMemory) → heading a.host ≡ heading view → HostStepsSay at lines most a b r
+      → StepsSay name lines most (with_host a) (with_host b) (told_of r)
   said most a b (Ok moved.Going) same x = all_steps a b same x
   said most a b (Ok moved.Answered) same x = record {
     before = with_host x.before;
@@ -122,7 +126,8 @@ module _ (name : List ℕ) (at lines : ℕ) (world : WorldView) (view : HostView
   steps_said most media new next r hosts x =
       let start : HostStanding = record { host = view; notes = world.journal; media = media.old } in
       let end : HostStanding = record { host = next; notes = new.journal; media = media.new } in
-      subst (λ (hs : List HostView). StepsSay name lines most (record { world = record { hosts = hs; journal = world.journal }; media = media.old }) (record { world = new; media = media.new }) (told_of r)) (put_own at view world.hosts view_is)
+      subst (λ (hs : List HostView). StepsSay name lines most (record { world = record { hosts = hs; journal = world.journal }; media = media.old })
+      (record { world = new; media = media.new }) (told_of r)) (put_own at view world.hosts view_is)
       (subst (λ (hs : List HostView). StepsSay name lines most (with_host start) (record { world = record { hosts = hs; journal = new.journal }; media = media.new }) (told_of r)) (sym hosts)
       (said most start end r refl x))
 
@@ -139,9 +144,11 @@ module _ (name : List ℕ) (at lines : ℕ) (world : WorldView) (view : HostView
     Reaches count over a b = SoFar at lines count over a b
 
     -- so of the world as it was, and as it is
-    here : (count : ℕ) (over : Bool) → Reaches count over (with_host start) (with_host end) → Reaches count over (record { world = world; media = start.media }) (record { world = new; media = end.media })
+    here : (count : ℕ) (over : Bool) → Reaches count over (with_host start) (with_host end)
+        → Reaches count over (record { world = world; media = start.media }) (record { world = new; media = end.media })
     here count over far =
-        subst (λ (hs : List HostView). Reaches count over (record { world = record { hosts = hs; journal = world.journal }; media = start.media }) (record { world = new; media = end.media })) (put_own at view world.hosts view_is)
+        subst (λ (hs : List HostView). Reaches count over (record { world = record { hosts = hs; journal = world.journal }; media = start.media })
+        (record { world = new; media = end.media })) (put_own at view world.hosts view_is)
         (subst (λ (hs : List HostView). Reaches count over (with_host start) (record { world = record { hosts = hs; journal = new.journal }; media = end.media })) (sym hosts) far)
 
     number_start : number_in name (with_host start).world ≡ Some at
@@ -167,7 +174,8 @@ one_done R a _ none is = absurd cc
 one_done R a b (more {b = mid} {n = n} before last) is = subst (λ z. R z b) (sym (none_done R a mid before (omega (arith, is)))) last
 
 -- what is said of one step
-pub one_said : (name : List ℕ) (lines : ℕ) (a b : WorldStanding) (r : Result Moved WorldFault) → StepsSay name lines 1 a b r → IfStepped r (λ answered over. StepCall name lines answered over (record { old = a.media; new = b.media }) a.world b.world)
+pub one_said : (name : List ℕ) (lines : ℕ) (a b : WorldStanding) (r : Result Moved WorldFault) → StepsSay name lines 1 a b r
+    → IfStepped r (λ answered over. StepCall name lines answered over (record { old = a.media; new = b.media }) a.world b.world)
 one_said name lines a b (Ok moved.Going) x = (one_done (WorldStep name lines false) a b x refl).step
 one_said name lines a b (Ok moved.Answered) x =
     let within = x.within in

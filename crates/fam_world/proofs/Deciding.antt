@@ -65,7 +65,8 @@ module _ (hosts : List HostView) (journal : List Note) (name : List ℕ) (lines 
   umounts_first = simp number
 
   pub makes_first : (request : MkfsRequest) → refusal_in (call.Makes name request) w lines
-      ≡ on_host o (λ h. or_else (option_map cause_of (early_refusal request.unit request.log (line_bytes * lines))) (or_else (busy_refusal (index_of is_engaged (map shown_host hosts))) (dirty_refusal (dirty_from h 0 (map shown_host hosts)))))
+      ≡ on_host o (λ h. or_else (option_map cause_of (early_refusal request.unit request.log (line_bytes * lines)))
+      (or_else (busy_refusal (index_of is_engaged (map shown_host hosts))) (dirty_refusal (dirty_from h 0 (map shown_host hosts)))))
   unfolding refusal_of
   makes_first request = simp (number, length-replicate)
 

@@ -76,7 +76,8 @@ first_so_far at lines a = record {
 }
 
 -- One more.
-module _ {name : List ℕ} {at lines count : ℕ} {over : Bool} {a b c : WorldStanding} (far : SoFar at lines count false a b) (number : number_in name a.world ≡ Some at) (x : WorldStep name lines over b c) where
+module _ {name : List ℕ} {at lines count : ℕ} {over : Bool} {a b c : WorldStanding} (far : SoFar at lines count false a b)
+    (number : number_in name a.world ≡ Some at) (x : WorldStep name lines over b c) where
   abbrev steps : call.Call
   steps = call.Steps name
 
@@ -102,8 +103,10 @@ module _ {name : List ℕ} {at lines count : ℕ} {over : Bool} {a b c : WorldSt
   one_shape is (inr bad) = absurd bad
   one_shape is (inl shape) =
       by_shape (slice_get (shapes_of b.world.journal) at)
-      (subst (λ (o : Option ℕ). AtShape o (shapes_of b.world.journal) (λ h f. ActsShape steps h f lines (shapes_of b.world.journal) more_notes)) (sym (number_shaped lines b.world is name) ∙ number_now)
-      (subst (λ (r : Option Refusal). ShapeByRefusal name r more_notes (FreeShape steps lines (shapes_of b.world.journal) more_notes)) (sym (refusal_shaped lines b.world is steps tt) ∙ free_now) shape))
+      (subst (λ (o : Option ℕ). AtShape o (shapes_of b.world.journal) (λ h f. ActsShape steps h f lines (shapes_of b.world.journal) more_notes))
+      (sym (number_shaped lines b.world is name) ∙ number_now)
+      (subst (λ (r : Option Refusal). ShapeByRefusal name r more_notes (FreeShape steps lines (shapes_of b.world.journal) more_notes))
+      (sym (refusal_shaped lines b.world is steps tt) ∙ free_now) shape))
     where
       by_shape : (o : Option HostShape) → OfHostShape o (λ f. ActsShape steps at f lines (shapes_of b.world.journal) more_notes) → OneShape more_notes
       by_shape None bad = absurd bad
@@ -135,7 +138,8 @@ module _ {name : List ℕ} {at lines count : ℕ} {over : Bool} {a b c : WorldSt
       record {
         adds = adds_both lines a.media.faults b.media.faults c.media.faults a.world b.world c.world far.adds adds;
         said = none_refused far.adds.notes more_notes far.said x.step.answers.answers.said;
-        shape = λ is. operations_both at (shapes_of a.world.journal) far.adds.notes more_notes (far.shape is) (subst (λ (fs : List HostShape). OperationsShape at fs more_notes) (sym shapes_now) (one is).operations);
+        shape = λ is. operations_both at (shapes_of a.world.journal) far.adds.notes more_notes (far.shape is)
+            (subst (λ (fs : List HostShape). OperationsShape at fs more_notes) (sym shapes_now) (one is).operations);
         within = λ is. let first = far.within is in let last = (one is).short in let sum = length-append far.adds.notes more_notes in omega (arith, first, last, sum);
         runs = λ is runs.
             ap (λ (fs : List HostShape). runs_shape (slice_get fs at)) (ap shapes_of adds.joined ∙ shapes_both [] b.world.journal more_notes)
@@ -182,7 +186,8 @@ module _ (name : List ℕ) (at lines : ℕ) {count : ℕ} {over : Bool} {a b : W
   abbrev media : MediaChange
   media = record { old = a.media; new = b.media }
 
-  module _ (view : HostView) (number : number_in name a.world ≡ Some at) (view_is : slice_get a.world.hosts at ≡ Some view) (free : refusal_in (call.Finishes name) a.world lines ≡ None) (modelled : IfModelled a.media.image (λ image. length image ≡ lines)) where
+  module _ (view : HostView) (number : number_in name a.world ≡ Some at) (view_is : slice_get a.world.hosts at ≡ Some view)
+      (free : refusal_in (call.Finishes name) a.world lines ≡ None) (modelled : IfModelled a.media.image (λ image. length image ≡ lines)) where
     abbrev c : call.Call
     c = call.Finishes name
 
@@ -195,7 +200,8 @@ module _ (name : List ℕ) (at lines : ℕ) {count : ℕ} {over : Bool} {a b : W
       shape_done : IsShaped a.world → runs_shape (slice_get (shapes_behind (shapes_of a.world.journal) far.adds.notes) at) ≡ false
       shape_done is =
           let f = pairs_at HostShaped b.world.hosts (shapes_of b.world.journal) at last (far.adds.shaped is) last_is in
-          ap (λ (fs : List HostShape). runs_shape (slice_get fs at)) shapes_then ∙ ap runs_shape f.1 ∙ none_runs last.uuid f.0.task (subst (λ (o : Option Task). TaskShaped last.uuid o f.0.task) none_left f.2.task)
+          ap (λ (fs : List HostShape). runs_shape (slice_get fs at)) shapes_then ∙ ap runs_shape f.1 ∙ none_runs last.uuid f.0.task
+          (subst (λ (o : Option Task). TaskShaped last.uuid o f.0.task) none_left f.2.task)
 
       idle_now : (lines : ℕ) (o : Option HostState) → HostStandsAt lines o (Some last) → is_busy_host o ≡ false
       idle_now lines None stands = absurd stands
@@ -208,8 +214,10 @@ module _ (name : List ℕ) (at lines : ℕ) {count : ℕ} {over : Bool} {a b : W
       finish_keeps : (start : Image) → CallKeeps c start a.media.image b.media.image a.world b.world
       finish_keeps start state told_is held =
           let r = far.ran start state told_is held in
-          let done : busy_at at r.left ≡ false = idle_now (length start) (slice_get r.left.hosts at) (subst (λ (o : Option HostView). HostStandsAt (length start) (slice_get r.left.hosts at) o) last_is (r.held.stands at)) in
-          row_kept start state a.world held c lines (modelled state.memory told_is) at view number free view_is b.world b.media.image far.adds.notes r.left (λ x. x) (record { count = count; does = r.does; done = done }) tt r.told_is far.adds.joined r.held.stands
+          let done : busy_at at r.left ≡ false = idle_now (length start) (slice_get r.left.hosts at)
+          (subst (λ (o : Option HostView). HostStandsAt (length start) (slice_get r.left.hosts at) o) last_is (r.held.stands at)) in
+          row_kept start state a.world held c lines (modelled state.memory told_is) at view number free view_is b.world b.media.image far.adds.notes
+          r.left (λ x. x) (record { count = count; does = r.does; done = done }) tt r.told_is far.adds.joined r.held.stands
 
       finish_call : MediaCall c lines None media a.world b.world
       finish_call = record {
@@ -257,7 +265,8 @@ module _ (name : List ℕ) (at lines : ℕ) {count : ℕ} {over : Bool} {a b : W
         shape = λ is. inr record { host = at; number = sym (number_shaped lines a.world is name) ∙ number; part = record { operations = far.shape is; runs = shape_runs is } };
         parts = λ start state told_is held.
             let r = far.ran start state told_is held in
-            let busy : busy_at at r.left ≡ true = busy_now (length start) (slice_get r.left.hosts at) (subst (λ (o : Option HostView). HostStandsAt (length start) (slice_get r.left.hosts at) o) last_is (r.held.stands at)) in
+            let busy : busy_at at r.left ≡ true = busy_now (length start) (slice_get r.left.hosts at)
+            (subst (λ (o : Option HostView). HostStandsAt (length start) (slice_get r.left.hosts at) o) last_is (r.held.stands at)) in
             record {
               state = r.left;
               notes = far.adds.notes;
@@ -271,7 +280,8 @@ module _ (name : List ℕ) (at lines : ℕ) {count : ℕ} {over : Bool} {a b : W
       }
 
   -- From what the call knows.
-  module _ (number : number_in name a.world ≡ Some at) (free : refusal_in (call.Steps name) a.world lines ≡ None) (within : at < length a.world.hosts) (modelled : IfModelled a.media.image (λ image. length image ≡ lines)) where
+  module _ (number : number_in name a.world ≡ Some at) (free : refusal_in (call.Steps name) a.world lines ≡ None) (within : at < length a.world.hosts)
+      (modelled : IfModelled a.media.image (λ image. length image ≡ lines)) where
     abbrev first : (view : HostView) × (slice_get a.world.hosts at ≡ Some view)
     first = member_of a.world.hosts at within
 
@@ -281,7 +291,9 @@ module _ (name : List ℕ) (at lines : ℕ) {count : ℕ} {over : Bool} {a b : W
     pub finish_done : ((view : HostView) → slice_get b.world.hosts at ≡ Some view → view.task ≡ None) → MediaCall (call.Finishes name) lines None media a.world b.world
     finish_done none_left = finish_call first.0 number first.1 (finishes_as_steps name a.world lines None free) modelled final.0 final.1 (none_left final.0 final.1)
 
-    pub finish_lacks : ((view : HostView) → slice_get b.world.hosts at ≡ Some view → is_some view.task ≡ true) → (IsUnstoredAt at a.world → IfModelled a.media.image (λ image. b.media.image ≡ Some image)) → FinishOutOfMemory name lines media a.world b.world
+    pub finish_lacks : ((view : HostView) → slice_get b.world.hosts at ≡ Some view → is_some view.task ≡ true)
+        → (IsUnstoredAt at a.world → IfModelled a.media.image (λ image. b.media.image ≡ Some image))
+        → FinishOutOfMemory name lines media a.world b.world
     finish_lacks runs same =
         let before : busy_in at a.world ≡ true = busy_of (busy_in at a.world) (sym (steps_first a.world.hosts a.world.journal name lines (Some at) number) ∙ free) in
         finish_wants first.0 number first.1 (finishes_as_steps name a.world lines None free) modelled final.0 final.1 (runs final.0 final.1) before same

@@ -24,7 +24,8 @@ use Rattle.fam_journal.proofs.Calls.Members.{changed_here, changed_other}
 none_held : (l : ℕ) (P : Type 0) → IsHeld (cell_at finmap.empty l) → P
 none_held l P held = absurd (let none : IsHeld Absent = subst IsHeld (cell_at-empty l) held in cc)
 
-fits_some : (lines : ℕ) (f : HostView → HostView) → ((v : HostView) → HostFits lines v → HostFits lines (f v)) → (o : Option HostView) → ((v : HostView) → o ≡ Some v → HostFits lines v) → (view : HostView) → option_map f o ≡ Some view → HostFits lines view
+fits_some : (lines : ℕ) (f : HostView → HostView) → ((v : HostView) → HostFits lines v → HostFits lines (f v)) → (o : Option HostView)
+    → ((v : HostView) → o ≡ Some v → HostFits lines v) → (view : HostView) → option_map f o ≡ Some view → HostFits lines view
 fits_some lines f each None all view is = absurd cc
 fits_some lines f each (Some v) all view is = subst (HostFits lines) (same_Some (f v) view is) (each v (all v refl))
 
@@ -46,7 +47,8 @@ fits_last lines xs y mine all k view is =
       | inr ne ↦ all k view (sym (member_before xs y k ne) ∙ is)
     ]
 
-fits_hosted : (lines : ℕ) (o : Option ℕ) (f : HostView → HostView) (n : ℕ → Note) (world : WorldView) → ((v : HostView) → HostFits lines v → HostFits lines (f v)) → FitsMedia lines world.hosts → FitsMedia lines (with_host o f n world).hosts
+fits_hosted : (lines : ℕ) (o : Option ℕ) (f : HostView → HostView) (n : ℕ → Note) (world : WorldView)
+    → ((v : HostView) → HostFits lines v → HostFits lines (f v)) → FitsMedia lines world.hosts → FitsMedia lines (with_host o f n world).hosts
 fits_hosted lines None f n world each all = all
 fits_hosted lines (Some h) f n world each all = fits_any lines h f each world.hosts all
 
@@ -57,11 +59,13 @@ world_fits c lines old all = by_refusal c (refusal_in c old lines)
     by_refusal c (Some cause) = all
     by_refusal (call.Declares name uuid) None = fits_last lines old.hosts _ (record { task = tt; cache = λ l held. none_held l (l < lines) held }) all
     by_refusal (call.Makes name request) None = all
-    by_refusal (call.Begins name cmd) None = fits_hosted lines (number_in name old) (λ v. record v { task = Some (mounted v.kept cmd v.uuid lines) }) _ old (λ v was. record { task = refl; cache = was.cache }) all
+    by_refusal (call.Begins name cmd) None = fits_hosted lines (number_in name old) (λ v. record v { task = Some (mounted v.kept cmd v.uuid lines) })
+        _ old (λ v was. record { task = refl; cache = was.cache }) all
     by_refusal (call.Steps name) None = all
     by_refusal (call.Finishes name) None = all
     by_refusal (call.Stops name) None = fits_hosted lines (number_in name old) (λ v. record v { task = None }) _ old (λ v was. record { task = tt; cache = was.cache }) all
-    by_refusal (call.Halts name) None = fits_hosted lines (number_in name old) (λ v. record v { cache = finmap.empty; task = None; kept = None }) _ old (λ v was. record { task = tt; cache = λ l held. none_held l (l < lines) held }) all
+    by_refusal (call.Halts name) None = fits_hosted lines (number_in name old) (λ v. record v { cache = finmap.empty; task = None; kept = None }) _
+        old (λ v was. record { task = tt; cache = λ l held. none_held l (l < lines) held }) all
     by_refusal (call.Umounts name) None = fits_hosted lines (number_in name old) (λ v. record v { kept = None }) _ old (λ v was. record { task = was.task; cache = was.cache }) all
     by_refusal (call.Moves name line move) None = all
     by_refusal (call.Refuses name cause) None = all

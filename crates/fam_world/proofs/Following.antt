@@ -38,7 +38,8 @@ Follows false t real shown = real ≡ shown
 Follows true t real shown = OnBoth t real.lines shown.lines
 
 -- a cache that is shown of the host by now: its task came there by operations, which are told of this cache
-pub record FarOver (forgets : Bool) (at lines : ℕ) (start : HostView → HostStanding) (here : HostView → CacheState → HostStanding) (t : Task) (real : CacheState) (Safe : CacheState → Type 0) : Type 0 where
+pub record FarOver (forgets : Bool) (at lines : ℕ) (start : HostView → HostStanding) (here : HostView → CacheState → HostStanding) (t : Task)
+    (real : CacheState) (Safe : CacheState → Type 0) : Type 0 where
   pub shown : CacheState
   pub far : (view : HostView) → SomeSteps at lines (start view) (here view shown)
   pub follows : Follows forgets t real shown
@@ -55,7 +56,9 @@ own_shown false t real shown same is = sym same
 own_shown true t real shown on is = absurd cc
 
 -- before an operation the host may forget lines
-pub follows_shed : (forgets tries : Bool) (t : Task) (old new shown : CacheState) → (forgets ≡ false → tries ≡ false) → ((k : Cache) → Shows t old.lines k → Shows t new.lines k) → (tries ≡ false → new ≡ old) → Follows forgets t old shown → Follows forgets t new shown
+pub follows_shed : (forgets tries : Bool) (t : Task) (old new shown : CacheState) → (forgets ≡ false → tries ≡ false)
+    → ((k : Cache) → Shows t old.lines k → Shows t new.lines k) → (tries ≡ false → new ≡ old) → Follows forgets t old shown
+    → Follows forgets t new shown
 follows_shed false tries t old new shown none shows still same = still (none refl) ∙ same
 follows_shed true tries t old new shown none shows still on = record { reads = on.reads; shows = shows shown.lines on.shows }
 
@@ -126,7 +129,8 @@ pub record FollowedOn (forgets : Bool) (t next : Task) (left shown : CacheState)
   pub places : KeepsPlaces t shown next after
   pub follows : Follows forgets next left after
 
-pub followed_on : (forgets : Bool) (t next : Task) (real left shown : CacheState) {n : ℕ} → CachedRun t real.lines next left.lines n → KeepsPlaces t real next left → Follows forgets t real shown → FollowedOn forgets t next left shown n
+pub followed_on : (forgets : Bool) (t next : Task) (real left shown : CacheState) {n : ℕ} → CachedRun t real.lines next left.lines n
+    → KeepsPlaces t real next left → Follows forgets t real shown → FollowedOn forgets t next left shown n
 followed_on false t next real left shown {n} ran places same = record {
   after = left;
   ran = subst (λ (k : CacheState). CachedRun t k.lines next left.lines n) same ran;
@@ -151,5 +155,6 @@ runs_still at lines start view b notes notes_now undone same runs =
     subst (λ (s : HostStanding). SomeSteps at lines start s) (sym (stands_still view b notes notes_now undone same)) runs
 
 -- where the host forgets none, what is told of the cache that is shown is told of its own
-pub own_up : {own : CacheState} {at lines : ℕ} {a : HostStanding} {end : CacheState → HostStanding} {said : Result (Unit {0}) OutOfMemory} → ShownBy false own at lines a end said → RunsUp at lines a (end own) said
+pub own_up : {own : CacheState} {at lines : ℕ} {a : HostStanding} {end : CacheState → HostStanding} {said : Result (Unit {0}) OutOfMemory}
+    → ShownBy false own at lines a end said → RunsUp at lines a (end own) said
 own_up {own} {at} {lines} {a} {end} {said} x = subst (λ (k : CacheState). RunsUp at lines a (end k) said) (x.same refl) x.up.runs

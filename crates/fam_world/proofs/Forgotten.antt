@@ -41,7 +41,9 @@ pub mounted_reads : (kept : Option Kept) (cmd : Cmd) (me : List ℕ) (lines : �
 mounted_reads kept cmd me lines none = record { before = tt; wish = none }
 
 -- The host in its world.
-module _ (name : List ℕ) (at lines : ℕ) (old : WorldView) (view : HostView) (number : number_in name old ≡ Some at) (free : refusal_in (call.Steps name) old lines ≡ None) (within : at < length old.hosts) (view_is : slice_get old.hosts at ≡ Some view) (media : MediaChange) (modelled : IfModelled media.old.image (λ image. length image ≡ lines)) (next : HostView) (notes : List Note) where
+module _ (name : List ℕ) (at lines : ℕ) (old : WorldView) (view : HostView) (number : number_in name old ≡ Some at)
+    (free : refusal_in (call.Steps name) old lines ≡ None) (within : at < length old.hosts) (view_is : slice_get old.hosts at ≡ Some view)
+    (media : MediaChange) (modelled : IfModelled media.old.image (λ image. length image ≡ lines)) (next : HostView) (notes : List Note) where
   -- before operations, and behind them with a cache
   abbrev pub before : HostStanding
   before = record { host = view; notes = old.journal; media = media.old }
@@ -57,7 +59,8 @@ module _ (name : List ℕ) (at lines : ℕ) (old : WorldView) (view : HostView) 
   last_is cache last there = same_Some (with_cache next cache) last (sym (changed_at_member at (λ v. with_cache next cache) old.hosts view view_is) ∙ there)
 
   pub concluded : (said : Result (Unit {0}) OutOfMemory) → ShownUp at lines before behind said → OnOk said (next.task ≡ None) → OnErr said (is_some next.task ≡ true)
-      → OnErr said (IsUnstoredAt at old → IfModelled media.old.image (λ image. media.new.image ≡ Some image)) → (new : WorldView) → new.journal ≡ notes → HasConcluded name lines media old new (told_of said)
+      → OnErr said (IsUnstoredAt at old → IfModelled media.old.image (λ image. media.new.image ≡ Some image)) → (new : WorldView)
+      → new.journal ≡ notes → HasConcluded name lines media old new (told_of said)
   concluded (Ok done) x over on same new journal =
       let shown : WorldView = with_shown x.shown in
       let far = far_ends name at lines old view number view_is within media.old.image media.new.image media.old.faults media.new.faults shown (with_cache next x.shown) refl x.runs in

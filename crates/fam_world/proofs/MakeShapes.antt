@@ -42,7 +42,8 @@ module _ (name : List ℕ) (request : MkfsRequest) (lines : ℕ) (world : WorldV
 
   -- what the journal tells, by the world's parts
   told_by : refusal_told c lines shapes ≡ on_host (number_in name world) (λ h. or_else early busy)
-  told_by = ap (λ (o : Option ℕ). on_host o (λ h. makes_told request.unit request.log (shown_shapes lines shapes))) told_number ∙ ap (λ (b : Option Refusal). on_host (number_in name world) (λ h. or_else early b)) told_busy
+  told_by = ap (λ (o : Option ℕ). on_host o (λ h. makes_told request.unit request.log (shown_shapes lines shapes))) told_number
+      ∙ ap (λ (b : Option Refusal). on_host (number_in name world) (λ h. or_else early b)) told_busy
 
   world_by : refusal_in c world lines ≡ on_host (number_in name world) (λ h. or_else early (or_else busy (dirty_refusal (dirty_from h 0 (map shown_host world.hosts)))))
   unfolding refusal_of
@@ -93,7 +94,9 @@ module _ (name : List ℕ) (request : MkfsRequest) (lines : ℕ) (world : WorldV
           notes_are = ap (λ (x : Refusal). Refused name x ∷ []) (sym (same_Some (why.Dirty (record { 0 = k })) cause first));
         }
 
-    by_parts : (o : Option ℕ) → number_in name world ≡ o → (e b : Option Refusal) → on_host o (λ h. or_else e (or_else b (dirty_refusal (dirty_from h 0 (map shown_host world.hosts))))) ≡ Some cause → ShapeByRefusal name (on_host o (λ h. or_else e b)) notes (FreeShape c lines shapes notes)
+    by_parts : (o : Option ℕ) → number_in name world ≡ o → (e b : Option Refusal)
+        → on_host o (λ h. or_else e (or_else b (dirty_refusal (dirty_from h 0 (map shown_host world.hosts))))) ≡ Some cause
+        → ShapeByRefusal name (on_host o (λ h. or_else e b)) notes (FreeShape c lines shapes notes)
     by_parts None number e b first = ap (λ (x : Refusal). Refused name x ∷ []) (sym (same_Some why.NoHost cause first))
     by_parts (Some h) number (Some x) b first = ap (λ (y : Refusal). Refused name y ∷ []) (sym (same_Some x cause first))
     by_parts (Some h) number None (Some x) first = ap (λ (y : Refusal). Refused name y ∷ []) (sym (same_Some x cause first))

@@ -85,7 +85,8 @@ held_behind (ended.Halted k) ran old l same held = absurd (false≢true (subst I
 held_behind other ran old l same held = subst IsHeld same held
 
 -- a refusal at once is no cut
-leaves_refused : (cause : Refusal) (c : call.Call) (start : Image) (told now : Option Image) (old new : WorldView) → cause_faults cause ≡ 0 → CallKeeps c start told now old new → KeepsOrBreaks cause c start told now old new
+leaves_refused : (cause : Refusal) (c : call.Call) (start : Image) (told now : Option Image) (old new : WorldView) → cause_faults cause ≡ 0
+    → CallKeeps c start told now old new → KeepsOrBreaks cause c start told now old new
 leaves_refused (why.MediaFault at) c start told now old new none keeps = absurd cc
 leaves_refused other c start told now old new none keeps = keeps
 
@@ -104,7 +105,8 @@ module _ (name : List ℕ) (request : MkfsRequest) (is_sound : IsSoundRequest re
   c = call.Makes name request
 
   -- it is refused at once
-  pub make_refused : (told : Option Image) (faults : ℕ) (new : WorldView) (cause : Refusal) → IfModelled told (λ image. length image ≡ lines) → IsRefused c lines old cause → new.hosts ≡ old.hosts → new.journal ≡ old.journal ++ Refused name cause ∷ []
+  pub make_refused : (told : Option Image) (faults : ℕ) (new : WorldView) (cause : Refusal) → IfModelled told (λ image. length image ≡ lines)
+      → IsRefused c lines old cause → new.hosts ≡ old.hosts → new.journal ≡ old.journal ++ Refused name cause ∷ []
       → MakeCall c lines (Some cause) (media_change told faults told faults) old new
   make_refused told faults new cause modelled refused hosts journal = record {
     answers = refused_answers c lines faults old new cause refused hosts journal (λ is. refused_make name request lines old is cause refused.first);
@@ -120,16 +122,23 @@ module _ (name : List ℕ) (request : MkfsRequest) (is_sound : IsSoundRequest re
     fits : HostFits lines view → HostFits lines (with_cache cache view)
     fits was = record {
       task = was.task;
-      cache = λ l is. elsewhere l (l < lines) (λ other. was.cache l (others l other is)) (λ e. omega (arith, e, wide)) (λ e. omega (arith, e, wide)) (λ e. omega (arith, e, wide)) (λ e. omega (arith, e, wide)) (λ e. omega (arith, e, wide));
+      cache = λ l is. elsewhere l (l < lines) (λ other. was.cache l (others l other is)) (λ e. omega (arith, e, wide)) (λ e. omega (arith, e, wide))
+          (λ e. omega (arith, e, wide)) (λ e. omega (arith, e, wide)) (λ e. omega (arith, e, wide));
     }
 
-    answers : (answered : Option Refusal) (notes : List Note) → new.journal ≡ old.journal ++ notes → HasCounted faults faults_now notes → AreNamed (length new.hosts) notes → shapes_behind (shapes_of old.journal) notes ≡ shapes_of old.journal
-        → answered ≡ Rattle.fam_journal.specs.CallRecords.refusal_noted notes → ((cause : Refusal) → answered ≡ Some cause → IsLateMake cause) → (IsShaped old → Rattle.fam_journal.specs.CallRecords.CallShape c lines (shapes_of old.journal) notes) → Answers c lines answered faults faults_now old new
+    answers : (answered : Option Refusal) (notes : List Note) → new.journal ≡ old.journal ++ notes → HasCounted faults faults_now notes
+        → AreNamed (length new.hosts) notes → shapes_behind (shapes_of old.journal) notes ≡ shapes_of old.journal
+        → answered ≡ Rattle.fam_journal.specs.CallRecords.refusal_noted notes → ((cause : Refusal) → answered ≡ Some cause → IsLateMake cause)
+        → (IsShaped old → Rattle.fam_journal.specs.CallRecords.CallShape c lines (shapes_of old.journal) notes)
+        → Answers c lines answered faults faults_now old new
     answers answered notes joined counted named same said late shape =
         free_answers c lines faults faults_now answered old new notes joined counted later named
         (ap (λ (vs : List HostView). map heading vs) hosts ∙ map_kept heading (with_cache cache) (λ v. refl) at old.hosts)
         (λ was. subst (FitsMedia lines) (sym hosts) (fits_kept lines at (with_cache cache) old.hosts view view_is fits was))
-        (shaped_same old new notes same joined (λ shapes all. subst (λ (vs : List HostView). Pairs HostShaped vs shapes) (sym hosts) (shapes_kept (with_cache cache) (λ v f is. record { name = is.name; uuid = is.uuid; task = is.task; keeps = is.keeps }) at old.hosts shapes all)))
+        (shaped_same old new notes same joined
+        (λ shapes all. subst (λ (vs : List HostView). Pairs HostShaped vs shapes) (sym hosts)
+        (shapes_kept (with_cache cache) (λ v f is. record { name = is.name; uuid = is.uuid; task = is.task; keeps = is.keeps }) at old.hosts
+        shapes all)))
         said free late shape
 
     count_is : length new.hosts ≡ length old.hosts
@@ -172,18 +181,23 @@ module _ (name : List ℕ) (request : MkfsRequest) (is_sound : IsSoundRequest re
           let acts : MakesFileSystem at p request.force h.0 state (Made at p ∷ []) left =
           record { free = ap (λ (x : Machine). goes_on request.force (superblock_found p x)) same ∙ made.done.free state.memory told_is; notes_are = refl; left = refl } in
           row_kept start state old held c lines (modelled state.memory told_is) at view number free view_is new now (Made at p ∷ []) left (λ x. x)
-          (inl (subst (λ (o : Option ℕ). MakesOrHalts o at (asked request h.0.uuid (length state.memory)) request.force h.0 state (Made at p ∷ []) left) (sym made.unhalted) (subst (λ (q : Params). MakesFileSystem at q request.force h.0 state (Made at p ∷ []) left) (sym ps) acts))) is_sound
+          (inl (subst (λ (o : Option ℕ). MakesOrHalts o at (asked request h.0.uuid (length state.memory)) request.force h.0 state
+          (Made at p ∷ []) left) (sym made.unhalted)
+          (subst (λ (q : Params). MakesFileSystem at q request.force h.0 state (Made at p ∷ []) left) (sym ps) acts))) is_sound
           (m.image ∙ ap (λ (x : Machine). Some x.image) (sym zm)) journal (stands start state told_is held z (m.cache ∙ ap (λ (x : Machine). x.cache) (sym zm)))
 
       pub made_call : MakeCall c lines None (media_change told faults now faults_now) old new
       made_call = record {
         answers = answers None (Made at p ∷ []) journal (omega (arith, later)) (subst (λ (n : ℕ). at < n) (sym count_is) within, tt) refl refl (λ cause e. absurd cc)
-            (λ is. maker_shape name request lines old is at view number view_is free (Made at p ∷ []) (λ f e. inl (ap (λ (id : List ℕ). Made at (asked request id lines) ∷ []) (sym e) ∙ ap (λ (o : Option ℕ). made_note o at (asked request f.uuid lines) ∷ []) (sym made.unhalted))));
+            (λ is. maker_shape name request lines old is at view number view_is free (Made at p ∷ [])
+            (λ f e. inl (ap (λ (id : List ℕ). Made at (asked request id lines) ∷ []) (sym e)
+            ∙ ap (λ (o : Option ℕ). made_note o at (asked request f.uuid lines) ∷ []) (sym made.unhalted))));
         leaves = made_keeps;
       }
 
     -- its maker halts, and its cache is lost
-    module _ (k : ℕ) (journal : new.journal ≡ old.journal ++ Cut at k ∷ []) (ran : Cache) (lost : cache ≡ map_of.empty) (halts : IsHaltedAsAsked p request.force request.halt k (over told view.cache) (over now ran)) where
+    module _ (k : ℕ) (journal : new.journal ≡ old.journal ++ Cut at k ∷ []) (ran : Cache) (lost : cache ≡ map_of.empty)
+        (halts : IsHaltedAsAsked p request.force request.halt k (over told view.cache) (over now ran)) where
       halted_keeps : (start : Image) → CallKeeps c start told now old new
       halted_keeps start state told_is held =
           let h = host start state told_is held in
@@ -195,13 +209,16 @@ module _ (name : List ℕ) (request : MkfsRequest) (is_sound : IsSoundRequest re
           let acts : HaltsMaking at p request.force k h.0 state (Cut at k ∷ []) left =
           record { free = ap (λ (x : Machine). goes_on request.force (superblock_found p x)) same ∙ halts.done.free state.memory told_is; notes_are = refl; left = refl } in
           row_kept start state old held c lines (modelled state.memory told_is) at view number free view_is new now (Cut at k ∷ []) left (λ x. x)
-          (inl (subst (λ (o : Option ℕ). MakesOrHalts o at (asked request h.0.uuid (length state.memory)) request.force h.0 state (Cut at k ∷ []) left) (sym halts.asked) (subst (λ (q : Params). HaltsMaking at q request.force k h.0 state (Cut at k ∷ []) left) (sym ps) acts))) is_sound
+          (inl (subst (λ (o : Option ℕ). MakesOrHalts o at (asked request h.0.uuid (length state.memory)) request.force h.0 state
+          (Cut at k ∷ []) left) (sym halts.asked)
+          (subst (λ (q : Params). HaltsMaking at q request.force k h.0 state (Cut at k ∷ []) left) (sym ps) acts))) is_sound
           (m.image ∙ ap (λ (x : Machine). Some (operated_all (halted_ops k p) x).image) (sym same)) journal (stands start state told_is held z lost)
 
       pub halted_call : MakeCall c lines None (media_change told faults now faults_now) old new
       halted_call = record {
         answers = answers None (Cut at k ∷ []) journal (omega (arith, later)) (subst (λ (n : ℕ). at < n) (sym count_is) within, tt) refl refl (λ cause e. absurd cc)
-            (λ is. maker_shape name request lines old is at view number view_is free (Cut at k ∷ []) (λ f e. inl (ap (λ (o : Option ℕ). made_note o at (asked request f.uuid lines) ∷ []) (sym halts.asked))));
+            (λ is. maker_shape name request lines old is at view number view_is free (Cut at k ∷ [])
+            (λ f e. inl (ap (λ (o : Option ℕ). made_note o at (asked request f.uuid lines) ∷ []) (sym halts.asked))));
         leaves = halted_keeps;
       }
 
@@ -219,20 +236,29 @@ module _ (name : List ℕ) (request : MkfsRequest) (is_sound : IsSoundRequest re
           let left : Machines = left_by start state told_is held z in
           let notes : List Note = Refused name (why.HasSuper id) ∷ [] in
           let acts : Meets at p request.force name h.0 state notes left =
-          record { unforced = found_is.unforced; other = names.other; stands = ap (λ (x : Machine). superblock_found p x) same ∙ names.reads; notes_are = ap (λ (u : List ℕ). Refused name (why.HasSuper u) ∷ []) names.named; left = refl } in
+          record {
+            unforced = found_is.unforced;
+            other = names.other;
+            stands = ap (λ (x : Machine). superblock_found p x) same ∙ names.reads;
+            notes_are = ap (λ (u : List ℕ). Refused name (why.HasSuper u) ∷ []) names.named;
+            left = refl;
+          } in
           row_kept start state old held c lines (modelled state.memory told_is) at view number free view_is new now notes left (λ x. x)
           (inr (subst (λ (q : Params). Meets at q request.force name h.0 state notes left) (sym ps) acts)) is_sound
           (m.image ∙ ap (λ (x : Machine). Some x.image) (sym zm)) journal (stands start state told_is held z (m.cache ∙ ap (λ (x : Machine). x.cache) (sym zm)))
 
       pub found_call : MakeCall c lines (Some (why.HasSuper id)) (media_change told faults now faults_now) old new
       found_call = record {
-        answers = answers (Some (why.HasSuper id)) (Refused name (why.HasSuper id) ∷ []) journal (omega (arith, later)) (tt, tt) refl refl (λ cause e. subst IsLateMake (same_Some (why.HasSuper id) cause e) tt)
-            (λ is. maker_shape name request lines old is at view number view_is free (Refused name (why.HasSuper id) ∷ []) (λ f e. inr (record { unforced = found_is.unforced; fs = id; notes_are = refl })));
+        answers = answers (Some (why.HasSuper id)) (Refused name (why.HasSuper id) ∷ []) journal (omega (arith, later)) (tt, tt) refl refl
+            (λ cause e. subst IsLateMake (same_Some (why.HasSuper id) cause e) tt)
+            (λ is. maker_shape name request lines old is at view number view_is free (Refused name (why.HasSuper id) ∷ [])
+            (λ f e. inr (record { unforced = found_is.unforced; fs = id; notes_are = refl })));
         leaves = found_keeps;
       }
 
     -- the media failed
-    module _ (line : LineNo) (journal : new.journal ≡ old.journal ++ Refused name (why.MediaFault line) ∷ []) (cut_is : IsCut p request.force request.halt lines line (over told view.cache) (over now cache) faults faults_now) where
+    module _ (line : LineNo) (journal : new.journal ≡ old.journal ++ Refused name (why.MediaFault line) ∷ [])
+        (cut_is : IsCut p request.force request.halt lines line (over told view.cache) (over now cache) faults faults_now) where
       abbrev notes : List Note
       notes = Refused name (why.MediaFault line) ∷ []
 
@@ -244,7 +270,15 @@ module _ (name : List ℕ) (request : MkfsRequest) (is_sound : IsSoundRequest re
           let cut : HasCut (expected_ops request.force request.halt p (machine state.memory view.cache)) (machine state.memory view.cache) line now cache = cut_is.cut state.memory told_is in
           let left : Machines = left_by start state told_is held cut.left in
           let acts : MakesCut at p request.force request.halt name h.0 state notes left =
-          record { line = line; left = cut.left; cuts = subst (λ (x : Machine). Rattle.fam_machine.specs.Cuts.Cuts (expected_ops request.force request.halt p x) x line cut.left) (sym same) cut.cuts; notes_are = refl; left_is = refl } in
+          record {
+            line = line;
+            left = cut.left;
+            cuts =
+                subst (λ (x : Machine). Rattle.fam_machine.specs.Cuts.Cuts (expected_ops request.force request.halt p x) x line cut.left)
+                (sym same) cut.cuts;
+            notes_are = refl;
+            left_is = refl;
+          } in
           let number_is : number_of name state ≡ Some at = number_shown (length start) state old name held.stands ∙ number in
           let row : CutCall c state notes left = (
             first_refusal start state old held c lines (modelled state.memory told_is) ∙ free,
@@ -265,7 +299,8 @@ module _ (name : List ℕ) (request : MkfsRequest) (is_sound : IsSoundRequest re
 
       pub cut_call : MakeCall c lines (Some (why.MediaFault line)) (media_change told faults now faults_now) old new
       cut_call = record {
-        answers = answers (Some (why.MediaFault line)) notes journal (counted cut_is.rose) (tt, tt) refl refl (λ cause e. subst IsLateMake (same_Some (why.MediaFault line) cause e) tt) (λ is. fault_shape name request lines old is free line.0);
+        answers = answers (Some (why.MediaFault line)) notes journal (counted cut_is.rose) (tt, tt) refl refl
+            (λ cause e. subst IsLateMake (same_Some (why.MediaFault line) cause e) tt) (λ is. fault_shape name request lines old is free line.0);
         leaves = cut_breaks;
       }
         where
@@ -274,13 +309,16 @@ module _ (name : List ℕ) (request : MkfsRequest) (is_sound : IsSoundRequest re
           counted (inr last) = omega (arith, last)
 
     -- however it ended
-    stayed : (end : MkfsEnd) (ran : Cache) → cache ≡ ran → MkfsEnds p request.force request.halt lines (over told view.cache) (over now ran) faults faults_now end → MkfsEnds p request.force request.halt lines (over told view.cache) (over now cache) faults faults_now end
+    stayed : (end : MkfsEnd) (ran : Cache) → cache ≡ ran
+        → MkfsEnds p request.force request.halt lines (over told view.cache) (over now ran) faults faults_now end
+        → MkfsEnds p request.force request.halt lines (over told view.cache) (over now cache) faults faults_now end
     stayed end ran is ends = subst (λ (x : Cache). MkfsEnds p request.force request.halt lines (over told view.cache) (over now x) faults faults_now end) (sym is) ends
 
     abbrev Called : Option Refusal → Type 0
     Called answered = MakeCall c lines answered (media_change told faults now faults_now) old new
 
-    by_end : (end : MkfsEnd) → new.journal ≡ old.journal ++ end_note at name end ∷ [] → MakerEnds p request.force request.halt lines (over told view.cache) now cache faults faults_now end → IfAnswered (end_result end) Called
+    by_end : (end : MkfsEnd) → new.journal ≡ old.journal ++ end_note at name end ∷ []
+        → MakerEnds p request.force request.halt lines (over told view.cache) now cache faults faults_now end → IfAnswered (end_result end) Called
     by_end (ended.Made made) journal ends =
         let e = stayed (ended.Made made) ends.ran ends.left ends.ends in
         made_call (journal ∙ ap (λ (q : Params). old.journal ++ Made at q ∷ []) e.0) e.1
@@ -291,6 +329,7 @@ module _ (name : List ℕ) (request : MkfsRequest) (is_sound : IsSoundRequest re
     by_end (ended.TooSmall need have) journal ends = absurd ends.ends
 
     pub make_ended : (end : MkfsEnd) (given : Result (Unit {0}) WorldFault) → given ≡ end_result end → new.journal ≡ old.journal ++ end_note at name end ∷ []
-        → MakerEnds p request.force request.halt lines (over told view.cache) now cache faults faults_now end → IfAnswered given (λ answered. MakeCall c lines answered (media_change told faults now faults_now) old new)
+        → MakerEnds p request.force request.halt lines (over told view.cache) now cache faults faults_now end
+        → IfAnswered given (λ answered. MakeCall c lines answered (media_change told faults now faults_now) old new)
     make_ended end given is journal ends =
         subst (λ (r : Result (Unit {0}) WorldFault). IfAnswered r Called) (sym is) (by_end end journal ends)

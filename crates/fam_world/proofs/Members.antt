@@ -40,7 +40,8 @@ length_kept g zero (x ∷ xs) = refl
 length_kept g (suc at) (x ∷ xs) = ap suc (length_kept g at xs)
 
 -- the notes before don't see a change that keeps name, UUID and task
-pub shapes_kept : (g : HostView → HostView) → ((v : HostView) (f : HostShape) → HostShaped v f → HostShaped (g v) f) → (at : ℕ) (xs : List HostView) (shapes : List HostShape) → Pairs HostShaped xs shapes → Pairs HostShaped (changed_at at g xs) shapes
+pub shapes_kept : (g : HostView → HostView) → ((v : HostView) (f : HostShape) → HostShaped v f → HostShaped (g v) f)
+    → (at : ℕ) (xs : List HostView) (shapes : List HostShape) → Pairs HostShaped xs shapes → Pairs HostShaped (changed_at at g xs) shapes
 shapes_kept g each at [] [] all = tt
 shapes_kept g each at [] (f ∷ shapes) all = absurd all
 shapes_kept g each at (v ∷ xs) [] all = absurd all
@@ -48,7 +49,8 @@ shapes_kept g each zero (v ∷ xs) (f ∷ shapes) all = (each v f all.0, all.1)
 shapes_kept g each (suc at) (v ∷ xs) (f ∷ shapes) all = (all.0, shapes_kept g each at xs shapes all.1)
 
 -- all lines fit the media still, where those of the one do
-pub fits_kept : (lines at : ℕ) (g : HostView → HostView) (xs : List HostView) (view : HostView) → slice_get xs at ≡ Some view → (HostFits lines view → HostFits lines (g view)) → FitsMedia lines xs → FitsMedia lines (changed_at at g xs)
+pub fits_kept : (lines at : ℕ) (g : HostView → HostView) (xs : List HostView) (view : HostView) → slice_get xs at ≡ Some view
+    → (HostFits lines view → HostFits lines (g view)) → FitsMedia lines xs → FitsMedia lines (changed_at at g xs)
 fits_kept lines at g xs view is here all k v v_is =
     elim (cases_eq k at) [
       | inl e ↦

@@ -20,7 +20,8 @@ next_suc test [] i at x is e = absurd cc
 next_suc test (a ∷ xs) i zero x is e = ap (λ (b : Bool). if b then Some i else index_from (i + 1) test xs) (ap test (same_Some a x is) ∙ e)
 next_suc test (a ∷ xs) i (suc at) x is e = next_suc test xs i at x is e
 
-pub place_next : {A : Type 0} (test : A → Bool) (xs : List A) (i at : ℕ) (x : A) → slice_get xs at ≡ Some x → test x ≡ false → index_from i test (drop at xs) ≡ index_from (i + 1) test (drop (at + 1) xs)
+pub place_next : {A : Type 0} (test : A → Bool) (xs : List A) (i at : ℕ) (x : A) → slice_get xs at ≡ Some x → test x ≡ false
+    → index_from i test (drop at xs) ≡ index_from (i + 1) test (drop (at + 1) xs)
 place_next test xs i at x is e =
     let one : suc at ≡ at + 1 = omega arith in
     next_suc test xs i at x is e ∙ ap (λ (n : ℕ). index_from (i + 1) test (drop n xs)) one
@@ -40,13 +41,15 @@ dirty_here maker (a ∷ xs) i zero x is e =
     ap (λ (b : Bool). if b then Some i else dirty_from maker (i + 1) xs) (ap (is_dirty_other maker i) (same_Some a x is) ∙ e)
 dirty_here maker (a ∷ xs) i (suc at) x is e = dirty_here maker xs i at x is e
 
-dirty_suc : (maker : ℕ) (xs : List HostState) (i at : ℕ) (x : HostState) → slice_get xs at ≡ Some x → is_dirty_other maker i x ≡ false → dirty_from maker i (drop at xs) ≡ dirty_from maker (i + 1) (drop (suc at) xs)
+dirty_suc : (maker : ℕ) (xs : List HostState) (i at : ℕ) (x : HostState) → slice_get xs at ≡ Some x → is_dirty_other maker i x ≡ false
+    → dirty_from maker i (drop at xs) ≡ dirty_from maker (i + 1) (drop (suc at) xs)
 dirty_suc maker [] i at x is e = absurd cc
 dirty_suc maker (a ∷ xs) i zero x is e =
     ap (λ (b : Bool). if b then Some i else dirty_from maker (i + 1) xs) (ap (is_dirty_other maker i) (same_Some a x is) ∙ e)
 dirty_suc maker (a ∷ xs) i (suc at) x is e = dirty_suc maker xs i at x is e
 
-pub dirty_next : (maker : ℕ) (xs : List HostState) (i at : ℕ) (x : HostState) → slice_get xs at ≡ Some x → is_dirty_other maker i x ≡ false → dirty_from maker i (drop at xs) ≡ dirty_from maker (i + 1) (drop (at + 1) xs)
+pub dirty_next : (maker : ℕ) (xs : List HostState) (i at : ℕ) (x : HostState) → slice_get xs at ≡ Some x → is_dirty_other maker i x ≡ false
+    → dirty_from maker i (drop at xs) ≡ dirty_from maker (i + 1) (drop (at + 1) xs)
 dirty_next maker xs i at x is e =
     let one : suc at ≡ at + 1 = omega arith in
     dirty_suc maker xs i at x is e ∙ ap (λ (n : ℕ). dirty_from maker (i + 1) (drop n xs)) one

@@ -35,18 +35,21 @@ module _ (start : Image) (state : Machines) (old : WorldView) (held : Held start
         (subst (λ (o : Option ℕ). AtNumber o state (λ h host. ActsAt c h host state notes left)) (sym number_is)
         (subst (λ (o : Option HostState). OnHost o (λ host. ActsAt c at host state notes left)) (sym found.1) acts)))
 
-    pub row_kept : (new : WorldView) (told : Option Image) (notes : List Note) (left : Machines) → (ActsOf c state notes left → Acts c state notes left) → ActsAt c at found.0 state notes left → IsSoundCall c
+    pub row_kept : (new : WorldView) (told : Option Image) (notes : List Note) (left : Machines)
+        → (ActsOf c state notes left → Acts c state notes left) → ActsAt c at found.0 state notes left → IsSoundCall c
         → told ≡ Some left.memory → new.journal ≡ old.journal ++ notes → WorldStands (length start) left new → DoesRow start told (Does c state) old new
     row_kept new told notes left hosted acts sound told_is joined stands =
         let row = row_does notes left hosted acts in
         record { state = left; notes = notes; row = row; told_is = told_is; joined = joined; held = kept_on start state left old new c notes held sound row stands joined }
 
 -- a refusal at once
-pub refused_keeps : (c : Call) (lines : ℕ) (start : Image) (told : Option Image) (old new : WorldView) (cause : Refusal) → IsSoundCall c → IfModelled told (λ image. length image ≡ lines) → refusal_in c old lines ≡ Some cause
+pub refused_keeps : (c : Call) (lines : ℕ) (start : Image) (told : Option Image) (old new : WorldView) (cause : Refusal) → IsSoundCall c
+    → IfModelled told (λ image. length image ≡ lines) → refusal_in c old lines ≡ Some cause
     → new.hosts ≡ old.hosts → new.journal ≡ old.journal ++ Refused (asked_name c) cause ∷ [] → CallKeeps c start told told old new
 refused_keeps c lines start told old new cause sound lines_are first hosts journal state told_is held =
     let notes : List Note = Refused (asked_name c) cause ∷ [] in
     let row : Does c state notes state =
-    subst (λ (o : Option Refusal). ByRefusal (asked_name c) o notes state state (Acts c state notes state)) (sym (first_refusal start state old held c lines (lines_are state.memory told_is) ∙ first)) (refl, refl) in
+    subst (λ (o : Option Refusal). ByRefusal (asked_name c) o notes state state (Acts c state notes state))
+    (sym (first_refusal start state old held c lines (lines_are state.memory told_is) ∙ first)) (refl, refl) in
     let stands : WorldStands (length start) state new = λ h. subst (λ (vs : List HostView). HostStandsAt (length start) (slice_get state.hosts h) (slice_get vs h)) (sym hosts) (held.stands h) in
     record { state = state; notes = notes; row = row; told_is = told_is; joined = journal; held = kept_on start state state old new c notes held sound row stands journal }

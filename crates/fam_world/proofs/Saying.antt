@@ -67,7 +67,8 @@ not_same : (line : LineNo) (l : ℕ) → l ≢ line.0 → Some line ≢ Some (re
 not_same line l ne e = ne (sym (ap (λ (o : Option LineNo). unwrap_or (option_map (λ (x : LineNo). x.0) o) 0) e))
 
 -- an operation brings its own line at most
-pub lines_held : (op : Op) (lines : ℕ) (told : Option Image) (old new : Cache) → IsWithin lines op → LeavesCache op told old new → (l : ℕ) → IsHeld (cell_at new l) → (l < lines) ⊎ IsHeld (cell_at old l)
+pub lines_held : (op : Op) (lines : ℕ) (told : Option Image) (old new : Cache) → IsWithin lines op → LeavesCache op told old new → (l : ℕ)
+    → IsHeld (cell_at new l) → (l < lines) ⊎ IsHeld (cell_at old l)
 lines_held (Load line k) lines told old new within leaves l held =
     at_line line lines l _ within.0 (λ ne. subst IsHeld (others_left (Load line k) told old new leaves tt l (not_same line l ne)) held)
 lines_held (Store line k value) lines told old new within leaves l held =
@@ -125,8 +126,11 @@ module _ (at : ℕ) (t next : Task) (said : Turn) (a : HostChange) (over : Bool)
   fits_on (turn.Note note) keeps = keeps refl
   fits_on (turn.Done given) keeps = tt
 
-  pub step_served : a.old.kept ≡ t.kept → a.new.kept ≡ kept_after (turn_of t (word_of (op_of t) a.new.cache)) t t.kept → (mid : Option Task) → mid ≡ Some next → a.new.task ≡ task_left_by said mid → a.after ≡ a.before ++ turn_notes at said → heading a.new ≡ heading a.old → a.media.old.faults ≤ a.media.new.faults → over ≡ ends_task said
-      → IfModelled a.media.old.image (λ image. HasTurned t (machine image a.old.cache) said next a.media.new.image a.new.cache) → KeepsLines said t next → LeavesCache (op_of t) a.media.old.image a.old.cache a.new.cache → IsWithin t.lines (op_of t) → t.lines ≡ a.lines
+  pub step_served : a.old.kept ≡ t.kept → a.new.kept ≡ kept_after (turn_of t (word_of (op_of t) a.new.cache)) t t.kept → (mid : Option Task)
+      → mid ≡ Some next → a.new.task ≡ task_left_by said mid → a.after ≡ a.before ++ turn_notes at said → heading a.new ≡ heading a.old
+      → a.media.old.faults ≤ a.media.new.faults → over ≡ ends_task said
+      → IfModelled a.media.old.image (λ image. HasTurned t (machine image a.old.cache) said next a.media.new.image a.new.cache)
+      → KeepsLines said t next → LeavesCache (op_of t) a.media.old.image a.old.cache a.new.cache → IsWithin t.lines (op_of t) → t.lines ≡ a.lines
       → StepsHost at t a over
   step_served own keeps_log mid mid_is task joined host later over_is turned keeps leaves within lines =
       let task_is : a.new.task ≡ task_left_by said (Some next) = task ∙ ap (task_left_by said) mid_is in
@@ -152,7 +156,9 @@ module _ (at : ℕ) (t next : Task) (said : Turn) (a : HostChange) (over : Bool)
       }
 
 -- the media failed in it
-pub step_cut : (at : ℕ) (t : Task) (a : HostChange) (line : LineNo) → a.new.kept ≡ a.old.kept → a.after ≡ a.before ++ Answered at (MediaFault line.0) ∷ [] → heading a.new ≡ heading a.old → a.media.old.faults ≤ a.media.new.faults → a.new.task ≡ None → ((l : ℕ) → IsHeld (cell_at a.new.cache l) → IsHeld (cell_at a.old.cache l))
+pub step_cut : (at : ℕ) (t : Task) (a : HostChange) (line : LineNo) → a.new.kept ≡ a.old.kept
+    → a.after ≡ a.before ++ Answered at (MediaFault line.0) ∷ [] → heading a.new ≡ heading a.old → a.media.old.faults ≤ a.media.new.faults
+    → a.new.task ≡ None → ((l : ℕ) → IsHeld (cell_at a.new.cache l) → IsHeld (cell_at a.old.cache l))
     → IfModelled a.media.old.image (λ image. HasFailed (op_of t) (machine image a.old.cache) line a.media.new.image a.new.cache) → Rose a.media.old.faults a.media.new.faults → StepsHost at t a true
 step_cut at t a line same joined host later task kept failed rose = record {
   notes = Answered at (MediaFault line.0) ∷ [];

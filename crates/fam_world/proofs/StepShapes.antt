@@ -11,7 +11,9 @@ use Rattle.fam_journal.specs.ByWorld.{number_in, refusal_in}
 use Rattle.fam_journal.proofs.Shapes.Pairs.{pairs_at}
 use Rattle.fam_journal.proofs.Shapes.Views.{number_shaped, refusal_shaped}
 
-module _ (name : List ℕ) (at lines : ℕ) (old : WorldView) (view : HostView) (t : Task) (number : number_in name old ≡ Some at) (free : refusal_in (call.Steps name) old lines ≡ None) (view_is : slice_get old.hosts at ≡ Some view) (runs : view.task ≡ Some t) (line : ℕ) (is : IsShaped old) where
+module _ (name : List ℕ) (at lines : ℕ) (old : WorldView) (view : HostView) (t : Task) (number : number_in name old ≡ Some at)
+    (free : refusal_in (call.Steps name) old lines ≡ None) (view_is : slice_get old.hosts at ≡ Some view) (runs : view.task ≡ Some t) (line : ℕ)
+    (is : IsShaped old) where
   abbrev shapes : List HostShape
   shapes = shapes_of old.journal
 
@@ -21,7 +23,8 @@ module _ (name : List ℕ) (at lines : ℕ) (old : WorldView) (view : HostView) 
   found : (f : HostShape) × (slice_get shapes at ≡ Some f) × HostShaped view f
   found = pairs_at HostShaped old.hosts shapes at view is view_is
 
-  by_task : (f : HostShape) → slice_get shapes at ≡ Some f → (p : Option TaskShape) → f.task ≡ p → TaskShaped view.uuid (Some t) p → OfRunning (slice_get shapes at) (λ me g. TaskNote at me g (Answered at (MediaFault line)))
+  by_task : (f : HostShape) → slice_get shapes at ≡ Some f → (p : Option TaskShape) → f.task ≡ p → TaskShaped view.uuid (Some t) p
+      → OfRunning (slice_get shapes at) (λ me g. TaskNote at me g (Answered at (MediaFault line)))
   by_task f f_is None e shaped = absurd shaped
   by_task f f_is (Some g) e shaped =
       subst (λ (o : Option HostShape). OfRunning o (λ me g. TaskNote at me g (Answered at (MediaFault line)))) (sym f_is)

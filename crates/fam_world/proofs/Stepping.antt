@@ -63,14 +63,18 @@ pub no_cause : (c : call.Call) (cause : Refusal) → None ≡ Some cause → IsL
 no_cause c cause e = absurd cc
 
 -- a step that is refused at once
-pub step_refused : (name : List ℕ) (lines : ℕ) (old new : WorldView) (cause : Refusal) (told : Option Image) (faults : ℕ) → refusal_in (call.Steps name) old lines ≡ Some cause → MediaCall (call.Steps name) lines (Some cause) (media_change told faults told faults) old new → StepCall name lines (Some cause) false (media_change told faults told faults) old new
+pub step_refused : (name : List ℕ) (lines : ℕ) (old new : WorldView) (cause : Refusal) (told : Option Image) (faults : ℕ)
+    → refusal_in (call.Steps name) old lines ≡ Some cause
+    → MediaCall (call.Steps name) lines (Some cause) (media_change told faults told faults) old new
+    → StepCall name lines (Some cause) false (media_change told faults told faults) old new
 step_refused name lines old new cause told faults first x = record {
   answers = record { answers = x.answers; over_is = ap (λ (n : List Note). list_any is_answer_note n) (sym (x.answers.refused cause first).0) };
   keeps = x.keeps;
 }
 
 -- the media failed in the operation of a task
-module _ (state : Machines) (h : ℕ) (host : HostState) (host_is : slice_get state.hosts h ≡ Some host) (s : TaskState) (s_is : host.task ≡ Some s) (t : Task) (standing : StandsAs (length state.memory) s t) where
+module _ (state : Machines) (h : ℕ) (host : HostState) (host_is : slice_get state.hosts h ≡ Some host) (s : TaskState) (s_is : host.task ≡ Some s)
+    (t : Task) (standing : StandsAs (length state.memory) s t) where
   op_is : next_op s (length state.memory) ≡ Some (op_of t)
   op_is = next_operation s.kept s.cmd s.me (length state.memory) t s.words s.made standing.joined standing.stands
 
@@ -83,13 +87,24 @@ module _ (state : Machines) (h : ℕ) (host : HostState) (host_is : slice_get st
       ∙ ap (machines.op_done (Fails through) h state host s) op_is
       ∙ ap (cut_task h state) fails
 
-module _ (name : List ℕ) (at lines : ℕ) (old : WorldView) (view : HostView) (t : Task) (number : number_in name old ≡ Some at) (free : refusal_in (call.Steps name) old lines ≡ None) (within : at < length old.hosts) (view_is : slice_get old.hosts at ≡ Some view) (runs : view.task ≡ Some t) where
+module _ (name : List ℕ) (at lines : ℕ) (old : WorldView) (view : HostView) (t : Task) (number : number_in name old ≡ Some at)
+    (free : refusal_in (call.Steps name) old lines ≡ None) (within : at < length old.hosts) (view_is : slice_get old.hosts at ≡ Some view)
+    (runs : view.task ≡ Some t) where
   abbrev c : call.Call
   c = call.Steps name
 
-  module _ (new : WorldView) (next : HostView) (told now : Option Image) (faults faults_now : ℕ) (modelled : IfModelled told (λ image. length image ≡ lines)) (hosts : new.hosts ≡ changed_at at (λ v. next) old.hosts) where
+  module _ (new : WorldView) (next : HostView) (told now : Option Image) (faults faults_now : ℕ)
+      (modelled : IfModelled told (λ image. length image ≡ lines)) (hosts : new.hosts ≡ changed_at at (λ v. next) old.hosts) where
     abbrev a : HostChange
-    a = record { old = view; new = next; before = old.journal; after = new.journal; lines = lines; media = record { old = record { image = told; faults = faults }; new = record { image = now; faults = faults_now } } }
+    a = record {
+      old = view;
+      new = next;
+      before = old.journal;
+      after = new.journal;
+      lines = lines;
+      media =
+          record { old = record { image = told; faults = faults }; new = record { image = now; faults = faults_now } };
+    }
 
     count_is : length new.hosts ≡ length old.hosts
     count_is = ap (λ (vs : List HostView). length vs) hosts ∙ length_kept (λ v. next) at old.hosts
@@ -118,7 +133,8 @@ module _ (name : List ℕ) (at lines : ℕ) (old : WorldView) (view : HostView) 
         hosts_are : new.hosts ≡ changed_at at (λ v. record v { cache = next.cache; task = task_after z; kept = kept_after z t v.kept }) old.hosts
         hosts_are =
             hosts ∙ changed_alike at (λ v. next) (λ v. record v { cache = next.cache; task = task_after z; kept = kept_after z t v.kept }) old.hosts view view_is
-            (ap₂ (λ (n u : List ℕ). record { name = n; uuid = u; cache = next.cache; task = next.task; kept = next.kept }) name_is uuid_is ∙ ap₂ (λ (o : Option Task) (k : Option Kept). record view { cache = next.cache; task = o; kept = k }) x.task x.kept)
+            (ap₂ (λ (n u : List ℕ). record { name = n; uuid = u; cache = next.cache; task = next.task; kept = next.kept }) name_is uuid_is
+            ∙ ap₂ (λ (o : Option Task) (k : Option Kept). record view { cache = next.cache; task = o; kept = k }) x.task x.kept)
 
         joined_own : new.journal ≡ old.journal ++ own_notes
         joined_own = joined ∙ ap (λ (n : List Note). old.journal ++ n) x.notes_are
@@ -157,8 +173,14 @@ module _ (name : List ℕ) (at lines : ℕ) (old : WorldView) (view : HostView) 
             let done : IsMachine (operated (op_of t) (machine state.memory view.cache)) now next.cache = x.done state.memory told_is in
             let turn : own_turn state.memory view t ≡ z = sym (x.own state.memory told_is) in
             let same_world : stepped_world state.memory at view t old ≡ new =
-            ap₂ (λ (k : Cache) (y : Turn). record { hosts = changed_at at (λ v. record v { cache = k; task = task_after y; kept = kept_after y t v.kept }) old.hosts; journal = old.journal ++ notes_of at (note_of y) }) (sym done.cache) turn ∙ sym world_is in
-            let stands : WorldStands (length start) step.left new = subst (λ (w : WorldView). WorldStands (length start) step.left w) same_world (subst (λ (n : ℕ). WorldStands n step.left (stepped_world state.memory at view t old)) lines_are step.stands) in
+            ap₂ (λ (k : Cache) (y : Turn). record {
+              hosts =
+                  changed_at at (λ v. record v { cache = k; task = task_after y; kept = kept_after y t v.kept }) old.hosts;
+              journal =
+                  old.journal ++ notes_of at (note_of y);
+            }) (sym done.cache) turn ∙ sym world_is in
+            let stands : WorldStands (length start) step.left new = subst (λ (w : WorldView). WorldStands (length start) step.left w) same_world
+            (subst (λ (n : ℕ). WorldStands n step.left (stepped_world state.memory at view t old)) lines_are step.stands) in
             let own : List Note = notes_of at (note_of (own_turn state.memory view t)) in
             let all : new.journal ≡ old.journal ++ own = joined_own ∙ ap (λ (y : Turn). old.journal ++ notes_of at (note_of y)) (sym turn) in
             record {
@@ -201,7 +223,14 @@ module _ (name : List ℕ) (at lines : ℕ) (old : WorldView) (view : HostView) 
             subst (λ (vs : List HostView). Pairs HostShaped vs (shapes_of new.journal)) (sym hosts)
             (subst (λ (fs : List HostShape). Pairs HostShaped (changed_at at (λ v. next) old.hosts) fs) (sym (ap shapes_of joined_fault ∙ shapes_both [] old.journal (fault ∷ [])))
             (pairs_changed HostShaped old.hosts shapes at view f.0 (λ v. next) (λ host. record host { task = None }) is view_is f.1
-            (record { name = f.2.name ∙ sym name_is; uuid = f.2.uuid ∙ sym uuid_is; task = subst (λ (o : Option Task). Rattle.fam_journal.specs.Shapes.TaskShaped next.uuid o None) (sym x.task) tt; keeps = f.2.keeps ∙ ap (λ (k : Option Kept). is_some k) (sym x.kept) })))
+            (record {
+              name = f.2.name ∙ sym name_is;
+              uuid = f.2.uuid ∙ sym uuid_is;
+              task =
+                  subst (λ (o : Option Task). Rattle.fam_journal.specs.Shapes.TaskShaped next.uuid o None) (sym x.task) tt;
+              keeps =
+                  f.2.keeps ∙ ap (λ (k : Option Kept). is_some k) (sym x.kept);
+            })))
 
         fault_shape : IsShaped old → CallShape c lines (shapes_of old.journal) (fault ∷ [])
         fault_shape is = inl (fault_shaped_step name at lines old view t number free view_is runs x.line.0 is)
@@ -229,7 +258,16 @@ module _ (name : List ℕ) (at lines : ℕ) (old : WorldView) (view : HostView) 
             let stands : WorldStands (length start) left new = λ k.
             subst (λ (vs : List HostView). HostStandsAt (length start) (slice_get left.hosts k) (slice_get vs k)) (sym hosts)
             (stands_changed at view old.hosts view_is (λ v. next) (length start) state.hosts h.0 h.1 (λ y. record y { cache = f.left.cache; task = None })
-            record { name = h.2.name ∙ sym name_is; uuid = h.2.uuid ∙ sym uuid_is; cache = sym f.is.cache; task = subst (λ (o : Option Task). TaskStands (length start) None o) (sym x.task) tt; kept = h.2.kept ∙ sym x.kept; joined = subst IsKept (sym x.kept) h.2.joined } held.stands k) in
+            record {
+              name = h.2.name ∙ sym name_is;
+              uuid = h.2.uuid ∙ sym uuid_is;
+              cache = sym f.is.cache;
+              task =
+                  subst (λ (o : Option Task). TaskStands (length start) None o) (sym x.task) tt;
+              kept = h.2.kept ∙ sym x.kept;
+              joined =
+                  subst IsKept (sym x.kept) h.2.joined;
+            } held.stands k) in
             row_kept start state old held c lines (modelled state.memory told_is) at view number free view_is new now (fault ∷ []) left (λ y. y) op tt f.is.image joined_fault stands
 
         pub fault_call : StepCall name lines None over (media_change told faults now faults_now) old new

@@ -59,13 +59,15 @@ went at (Err (fault.MediaFault line)) old new res x is = absurd (let over : Ok m
 went at (Err fault.OutOfMemory) old new res x is = absurd (let full : Err record {} ≡ Ok moved.Going = sym x.1 ∙ is in cc)
 
 -- no memory was found
-pub lacked : (at : ℕ) (r : Result Turn OperationFault) (old new : List Note) (res : Result Moved OutOfMemory) (full : OutOfMemory) → IsNoted at r old new res → res ≡ Err full → (r ≡ Err fault.OutOfMemory) × (new ≡ old)
+pub lacked : (at : ℕ) (r : Result Turn OperationFault) (old new : List Note) (res : Result Moved OutOfMemory) (full : OutOfMemory)
+    → IsNoted at r old new res → res ≡ Err full → (r ≡ Err fault.OutOfMemory) × (new ≡ old)
 lacked at (Ok said) old new res full x is = absurd (let over = sym x.1 ∙ is in cc)
 lacked at (Err (fault.MediaFault line)) old new res full x is = absurd (let over = sym x.1 ∙ is in cc)
 lacked at (Err fault.OutOfMemory) old new res full x is = (refl, x.0)
 
 -- where nothing was done a host stands as before
-pub stands_still : (view : HostView) (b : TaskChange) (notes notes_now : List Note) → IsUndone b → notes_now ≡ notes → standing_at view (Some b.next) b.next.kept b.new notes_now b.media.new ≡ standing_at view (Some b.task) b.task.kept b.old notes b.media.old
+pub stands_still : (view : HostView) (b : TaskChange) (notes notes_now : List Note) → IsUndone b → notes_now ≡ notes
+    → standing_at view (Some b.next) b.next.kept b.new notes_now b.media.new ≡ standing_at view (Some b.task) b.task.kept b.old notes b.media.old
 stands_still view b notes notes_now undone same =
     ap₂ (λ (t : Task) (k : Cache). standing_at view (Some t) t.kept k notes_now b.media.new) undone.task undone.cache
     ∙ ap₂ (λ (n : List Note) (m : MediaState). standing_at view (Some b.task) b.task.kept b.old n m) same undone.media
@@ -79,8 +81,11 @@ iterated_both R a b c n _ first (more {b = mid} {n = k} before last) =
 
 module _ (at lines : ℕ) (view : HostView) where
   -- an operation that was done
-  pub done_step : (b : TaskChange) (said : Turn) (notes notes_now : List Note) → IsDone b said → IfModelled b.media.old.image (λ image. length image ≡ lines) → b.task.lines ≡ lines → b.media.old.faults ≤ b.media.new.faults → notes_now ≡ notes ++ turn_notes at said
-      → HostStep at lines (ends_task said) (standing_at view (Some b.task) b.task.kept b.old notes b.media.old) (standing_at view (task_left_by said (Some b.next)) b.next.kept b.new notes_now b.media.new)
+  pub done_step : (b : TaskChange) (said : Turn) (notes notes_now : List Note) → IsDone b said
+      → IfModelled b.media.old.image (λ image. length image ≡ lines) → b.task.lines ≡ lines → b.media.old.faults ≤ b.media.new.faults
+      → notes_now ≡ notes ++ turn_notes at said
+      → HostStep at lines (ends_task said) (standing_at view (Some b.task) b.task.kept b.old notes b.media.old)
+      (standing_at view (task_left_by said (Some b.next)) b.next.kept b.new notes_now b.media.new)
   done_step b said notes notes_now x modelled fits later noted =
       let a : HostChange = record {
         old = record view { task = Some b.task; cache = b.old; kept = b.task.kept };
@@ -98,7 +103,9 @@ module _ (at lines : ℕ) (view : HostView) where
       }
 
   -- the media failed in it
-  pub broken_step : (b : TaskChange) (line : LineNo) (notes notes_now : List Note) → IsBroken b line → IfModelled b.media.old.image (λ image. length image ≡ lines) → b.media.old.faults ≤ b.media.new.faults → notes_now ≡ notes ++ Answered at (MediaFault line.0) ∷ []
+  pub broken_step : (b : TaskChange) (line : LineNo) (notes notes_now : List Note) → IsBroken b line
+      → IfModelled b.media.old.image (λ image. length image ≡ lines) → b.media.old.faults ≤ b.media.new.faults
+      → notes_now ≡ notes ++ Answered at (MediaFault line.0) ∷ []
       → HostStep at lines true (standing_at view (Some b.task) b.task.kept b.old notes b.media.old) (standing_at view None b.next.kept b.new notes_now b.media.new)
   broken_step b line notes notes_now x modelled later noted =
       let a : HostChange = record {
@@ -117,7 +124,8 @@ module _ (at lines : ℕ) (view : HostView) where
       }
 
   -- operations that leave memory's image
-  pub led_runs : (media : MediaState) (notes : List Note) → IfModelled media.image (λ image. length image ≡ lines) → (t next : Task) (held after : Cache) → Led media.image t held next after → t.lines ≡ lines
+  pub led_runs : (media : MediaState) (notes : List Note) → IfModelled media.image (λ image. length image ≡ lines)
+      → (t next : Task) (held after : Cache) → Led media.image t held next after → t.lines ≡ lines
       → SomeSteps at lines (standing_at view (Some t) t.kept held notes media) (standing_at view (Some next) next.kept after notes media)
   led_runs media notes modelled t _ held _ led.none fits = record { count = 0; goes = none }
   led_runs media notes modelled t next held after (led.more {mid = mid} {now = now} before quiet) fits =
@@ -144,7 +152,9 @@ module _ (at lines : ℕ) (view : HostView) where
     pub runs : SomeSteps at lines a before
     pub last : HostStep at lines over before c
 
-  pub done_reached : (b : TaskChange) (said : Turn) (notes notes_now : List Note) → HasDone b said → IfModelled b.media.old.image (λ image. length image ≡ lines) → b.task.lines ≡ lines → b.media.old.faults ≤ b.media.new.faults → notes_now ≡ notes ++ turn_notes at said
+  pub done_reached : (b : TaskChange) (said : Turn) (notes notes_now : List Note) → HasDone b said
+      → IfModelled b.media.old.image (λ image. length image ≡ lines) → b.task.lines ≡ lines → b.media.old.faults ≤ b.media.new.faults
+      → notes_now ≡ notes ++ turn_notes at said
       → Reached (standing_at view (Some b.task) b.task.kept b.old notes b.media.old) (ends_task said) (standing_at view (task_left_by said (Some b.next)) b.next.kept b.new notes_now b.media.new)
   done_reached b said notes notes_now x modelled fits later noted =
       let last : IsDone (record b { task = x.task; old = x.held }) said = record {
@@ -163,7 +173,9 @@ module _ (at lines : ℕ) (view : HostView) where
         last = done_step (record b { task = x.task; old = x.held }) said notes notes_now last modelled (led_lines b.media.old.image b.task x.task b.old x.held x.led ∙ fits) later noted;
       }
 
-  pub broken_reached : (b : TaskChange) (line : LineNo) (notes notes_now : List Note) → HasBrokenOff b line → IfModelled b.media.old.image (λ image. length image ≡ lines) → b.task.lines ≡ lines → b.media.old.faults ≤ b.media.new.faults → notes_now ≡ notes ++ Answered at (MediaFault line.0) ∷ []
+  pub broken_reached : (b : TaskChange) (line : LineNo) (notes notes_now : List Note) → HasBrokenOff b line
+      → IfModelled b.media.old.image (λ image. length image ≡ lines) → b.task.lines ≡ lines → b.media.old.faults ≤ b.media.new.faults
+      → notes_now ≡ notes ++ Answered at (MediaFault line.0) ∷ []
       → Reached (standing_at view (Some b.task) b.task.kept b.old notes b.media.old) true (standing_at view None b.next.kept b.new notes_now b.media.new)
   broken_reached b line notes notes_now x modelled fits later noted =
       let a : HostChange = record {
@@ -188,7 +200,8 @@ module _ (at lines : ℕ) (view : HostView) where
   -- Lines that were sent one behind another.
 
   -- memory has as many lines behind one of them
-  still_lines : (told left : Option Image) (t next : Task) (held after : Cache) → SendsOne told t held left next after → IfModelled told (λ image. length image ≡ lines) → IfModelled left (λ image. length image ≡ lines)
+  still_lines : (told left : Option Image) (t next : Task) (held after : Cache) → SendsOne told t held left next after
+      → IfModelled told (λ image. length image ≡ lines) → IfModelled left (λ image. length image ≡ lines)
   still_lines None left t next held after one modelled now is = absurd (let none : None ≡ Some now = sym (one.unknown refl) ∙ is in cc)
   still_lines (Some image) left t next held after one modelled now is =
       let x = one.done lines 0 in
@@ -203,12 +216,15 @@ module _ (at lines : ℕ) (view : HostView) where
     pub runs : SomeSteps at lines a c
     pub modelled : IfModelled left (λ image. length image ≡ lines)
 
-  pub sent_runs : (faults : ℕ) (notes : List Note) (told left : Option Image) (t next : Task) (held after : Cache) → Sent told t held left next after → IfModelled told (λ image. length image ≡ lines) → t.lines ≡ lines
-      → SentRuns (standing_at view (Some t) t.kept held notes (record { image = told; faults = faults })) (standing_at view (Some next) next.kept after notes (record { image = left; faults = faults })) left
+  pub sent_runs : (faults : ℕ) (notes : List Note) (told left : Option Image) (t next : Task) (held after : Cache) → Sent told t held left next after
+      → IfModelled told (λ image. length image ≡ lines) → t.lines ≡ lines
+      → SentRuns (standing_at view (Some t) t.kept held notes (record { image = told; faults = faults }))
+      (standing_at view (Some next) next.kept after notes (record { image = left; faults = faults })) left
   sent_runs faults notes told _ t _ held _ sends.none modelled fits = record { runs = record { count = 0; goes = none }; modelled = modelled }
   sent_runs faults notes told left t next held after (sends.more {mid = mid} {here = here} {now = now} first one) modelled fits =
       let before = sent_runs faults notes told mid t here held now first modelled fits in
-      let reached = done_reached (quiet_change lines faults mid here now left next after) Go notes notes (one.done lines faults) before.modelled (sent_lines told mid t here held now first ∙ fits) (omega arith) (sym (append-nil notes)) in
+      let reached = done_reached (quiet_change lines faults mid here now left next after) Go notes notes (one.done lines faults) before.modelled
+      (sent_lines told mid t here held now first ∙ fits) (omega arith) (sym (append-nil notes)) in
       record {
         runs = record {
           count = before.runs.count + suc reached.runs.count;
@@ -228,21 +244,27 @@ module _ (at lines : ℕ) (view : HostView) where
     last = reached.last;
   }
 
-  pub run_reached : (b : TaskChange) (said : Turn) (notes notes_now : List Note) → HasRun b said → IfModelled b.media.old.image (λ image. length image ≡ lines) → b.task.lines ≡ lines → b.media.old.faults ≤ b.media.new.faults → notes_now ≡ notes ++ turn_notes at said
+  pub run_reached : (b : TaskChange) (said : Turn) (notes notes_now : List Note) → HasRun b said
+      → IfModelled b.media.old.image (λ image. length image ≡ lines) → b.task.lines ≡ lines → b.media.old.faults ≤ b.media.new.faults
+      → notes_now ≡ notes ++ turn_notes at said
       → Reached (standing_at view (Some b.task) b.task.kept b.old notes b.media.old) (ends_task said) (standing_at view (task_left_by said (Some b.next)) b.next.kept b.new notes_now b.media.new)
   run_reached b said notes notes_now x modelled fits late noted =
       let first = sent_runs b.media.old.faults notes b.media.old.image x.mid b.task x.task b.old x.held x.sent modelled fits in
       reached_behind _ _ (ends_task said) _ first.runs
       (done_reached (later b x.mid x.task x.held) said notes notes_now x.done first.modelled (sent_lines b.media.old.image x.mid b.task x.task b.old x.held x.sent ∙ fits) late noted)
 
-  pub off_reached : (b : TaskChange) (line : LineNo) (notes notes_now : List Note) → HasRunOff b line → IfModelled b.media.old.image (λ image. length image ≡ lines) → b.task.lines ≡ lines → b.media.old.faults ≤ b.media.new.faults → notes_now ≡ notes ++ Answered at (MediaFault line.0) ∷ []
+  pub off_reached : (b : TaskChange) (line : LineNo) (notes notes_now : List Note) → HasRunOff b line
+      → IfModelled b.media.old.image (λ image. length image ≡ lines) → b.task.lines ≡ lines → b.media.old.faults ≤ b.media.new.faults
+      → notes_now ≡ notes ++ Answered at (MediaFault line.0) ∷ []
       → Reached (standing_at view (Some b.task) b.task.kept b.old notes b.media.old) true (standing_at view None b.next.kept b.new notes_now b.media.new)
   off_reached b line notes notes_now x modelled fits late noted =
       let first = sent_runs b.media.old.faults notes b.media.old.image x.mid b.task x.task b.old x.held x.sent modelled fits in
       reached_behind _ _ true _ first.runs
       (broken_reached (later b x.mid x.task x.held) line notes notes_now x.broken first.modelled (sent_lines b.media.old.image x.mid b.task x.task b.old x.held x.sent ∙ fits) late noted)
 
-  module _ (b : TaskChange) (r : Result Turn OperationFault) (notes notes_now : List Note) (res : Result Moved OutOfMemory) (noted : IsNoted at r notes notes_now res) (modelled : IfModelled b.media.old.image (λ image. length image ≡ lines)) (fits : b.task.lines ≡ lines) (later : b.media.old.faults ≤ b.media.new.faults) where
+  module _ (b : TaskChange) (r : Result Turn OperationFault) (notes notes_now : List Note) (res : Result Moved OutOfMemory)
+      (noted : IsNoted at r notes notes_now res) (modelled : IfModelled b.media.old.image (λ image. length image ≡ lines))
+      (fits : b.task.lines ≡ lines) (later : b.media.old.faults ≤ b.media.new.faults) where
     -- what stands before and behind
     abbrev pub start : HostStanding
     start = standing_at view (Some b.task) b.task.kept b.old notes b.media.old
@@ -272,7 +294,9 @@ module _ (at lines : ℕ) (view : HostView) where
         record { count = suc reached.runs.count; goes = more reached.runs.goes last }
 
   -- the task is over
-  pub one_ends : (b : TaskChange) (r : Result Turn OperationFault) (notes notes_now : List Note) (res : Result Moved OutOfMemory) → IsNoted at r notes notes_now res → IfModelled b.media.old.image (λ image. length image ≡ lines) → b.task.lines ≡ lines → b.media.old.faults ≤ b.media.new.faults → Operated b r → res ≡ Ok moved.Answered
+  pub one_ends : (b : TaskChange) (r : Result Turn OperationFault) (notes notes_now : List Note) (res : Result Moved OutOfMemory)
+      → IsNoted at r notes notes_now res → IfModelled b.media.old.image (λ image. length image ≡ lines) → b.task.lines ≡ lines
+      → b.media.old.faults ≤ b.media.new.faults → Operated b r → res ≡ Ok moved.Answered
       → HostStep at lines true (standing_at view (Some b.task) b.task.kept b.old notes b.media.old) (standing_at view None b.next.kept b.new notes_now b.media.new)
   one_ends b (Ok Go) notes notes_now res noted modelled fits later x is = absurd (let on : Ok moved.Going ≡ Ok moved.Answered = sym noted.1 ∙ is in cc)
   one_ends b (Ok (Notes note)) notes notes_now res noted modelled fits later x is = absurd (let on : Ok moved.Going ≡ Ok moved.Answered = sym noted.1 ∙ is in cc)
@@ -280,7 +304,9 @@ module _ (at lines : ℕ) (view : HostView) where
   one_ends b (Err (fault.MediaFault line)) notes notes_now res noted modelled fits later x is = broken_step b line notes notes_now x modelled later noted.0
   one_ends b (Err fault.OutOfMemory) notes notes_now res noted modelled fits later x is = absurd (let full : Err record {} ≡ Ok moved.Answered = sym noted.1 ∙ is in cc)
 
-  pub all_end : (b : TaskChange) (r : Result Turn OperationFault) (notes notes_now : List Note) (res : Result Moved OutOfMemory) → IsNoted at r notes notes_now res → IfModelled b.media.old.image (λ image. length image ≡ lines) → b.task.lines ≡ lines → b.media.old.faults ≤ b.media.new.faults → HasAdvanced b r → res ≡ Ok moved.Answered
+  pub all_end : (b : TaskChange) (r : Result Turn OperationFault) (notes notes_now : List Note) (res : Result Moved OutOfMemory)
+      → IsNoted at r notes notes_now res → IfModelled b.media.old.image (λ image. length image ≡ lines) → b.task.lines ≡ lines
+      → b.media.old.faults ≤ b.media.new.faults → HasAdvanced b r → res ≡ Ok moved.Answered
       → Reached (standing_at view (Some b.task) b.task.kept b.old notes b.media.old) true (standing_at view None b.next.kept b.new notes_now b.media.new)
   all_end b (Ok Go) notes notes_now res noted modelled fits later x is = absurd (let on : Ok moved.Going ≡ Ok moved.Answered = sym noted.1 ∙ is in cc)
   all_end b (Ok (Notes note)) notes notes_now res noted modelled fits later x is = absurd (let on : Ok moved.Going ≡ Ok moved.Answered = sym noted.1 ∙ is in cc)
@@ -297,7 +323,8 @@ step_below at lines a b x below l is =
       | inr cut ↦ below l (cut.held l is)
     ]
 
-pub steps_below : (at lines : ℕ) (a b : HostStanding) {n : ℕ} → Iterated (HostStep at lines false) a b n → ((l : ℕ) → IsHeld (cell_at a.host.cache l) → l < lines) → (l : ℕ) → IsHeld (cell_at b.host.cache l) → l < lines
+pub steps_below : (at lines : ℕ) (a b : HostStanding) {n : ℕ} → Iterated (HostStep at lines false) a b n
+    → ((l : ℕ) → IsHeld (cell_at a.host.cache l) → l < lines) → (l : ℕ) → IsHeld (cell_at b.host.cache l) → l < lines
 steps_below at lines a _ none below = below
 steps_below at lines a b (more {b = mid} before last) below = step_below at lines mid b last (steps_below at lines a mid before below)
 

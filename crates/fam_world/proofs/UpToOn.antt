@@ -120,7 +120,8 @@ first_behind t first before = elim (first_phase t first) [
   | inr file ↦ subst IsBeforeWrites file before
 ]
 
-pub held_safe : (t next : Task) (cache after : CacheState) (told now : Option Image) (notes room : ℕ) {n : ℕ} → CachedRun t cache.lines next after.lines n → (HasPlaces t cache → HasPlaces next after) → (IsFirstStore t → next ≡ t)
+pub held_safe : (t next : Task) (cache after : CacheState) (told now : Option Image) (notes room : ℕ) {n : ℕ}
+    → CachedRun t cache.lines next after.lines n → (HasPlaces t cache → HasPlaces next after) → (IsFirstStore t → next ≡ t)
     → IsSafe told now t cache notes room → IsSafe told now next after notes room
 held_safe t next cache after told now notes room ran places idle (inl (inl before, calm)) =
     inl (
@@ -152,7 +153,8 @@ module _ (b : TaskChange) (said : Turn) (on : ended said ≡ None) (x : HasDone 
         subst IsClean (sym is.cache) (reads_clean image normal x.held clean_mid x.task.phase x.task mid_before),
       )
 
-safe_on : (b : TaskChange) (said : Turn) (told : Option Image) (cache after : CacheState) (notes_old room_old notes room : ℕ) → ended said ≡ None → HasDone b said → IsNormal b.media.old.image → cache.lines ≡ b.old → after.lines ≡ b.new
+safe_on : (b : TaskChange) (said : Turn) (told : Option Image) (cache after : CacheState) (notes_old room_old notes room : ℕ) → ended said ≡ None
+    → HasDone b said → IsNormal b.media.old.image → cache.lines ≡ b.old → after.lines ≡ b.new
     → (IsFirstStore b.task ⊎ HasPlaces b.task cache → (said ≡ Go) × HasPlaces b.next after) → (said ≡ Go → notes < room)
     → IsSafe told b.media.old.image b.task cache notes_old room_old → IsSafe told b.media.new.image b.next after notes room
 safe_on b said told cache after notes_old room_old notes room on x normal old_is new_is places kept (inl (inl before, calm)) =
@@ -169,12 +171,14 @@ safe_on b said told cache after notes_old room_old notes room on x normal old_is
 safe_on b said told cache after notes_old room_old notes room on x normal old_is new_is places kept (inr was) =
     let has = places (inr was.0) in inr (has.1, kept has.0)
 
-pub run_safe : (b : TaskChange) (said : Turn) (told : Option Image) (cache after : CacheState) (notes_old room_old notes room : ℕ) → ended said ≡ None → HasRun b said → IsNormal b.media.old.image → cache.lines ≡ b.old → after.lines ≡ b.new
+pub run_safe : (b : TaskChange) (said : Turn) (told : Option Image) (cache after : CacheState) (notes_old room_old notes room : ℕ) → ended said ≡ None
+    → HasRun b said → IsNormal b.media.old.image → cache.lines ≡ b.old → after.lines ≡ b.new
     → (IsFirstStore b.task ⊎ HasPlaces b.task cache → (said ≡ Go) × HasPlaces b.next after) → (said ≡ Go → notes < room)
     → IsSafe told b.media.old.image b.task cache notes_old room_old → IsSafe told b.media.new.image b.next after notes room
 run_safe b said told cache after notes_old room_old notes room on x normal old_is new_is places kept (inl (inl before, calm)) =
     safe_on b said told cache after notes_old room_old notes room on
-    (none_sent b.media.old.image x.mid b.task x.task b.old x.held x.sent before (λ mid task held. HasDone (later b mid task held) said) x.done) normal old_is new_is places kept (inl (inl before, calm))
+    (none_sent b.media.old.image x.mid b.task x.task b.old x.held x.sent before (λ mid task held. HasDone (later b mid task held) said) x.done) normal
+    old_is new_is places kept (inl (inl before, calm))
 run_safe b said told cache after notes_old room_old notes room on x normal old_is new_is places kept (inl (inr first, calm)) =
     let has = places (inl first) in inr (has.1, kept has.0)
 run_safe b said told cache after notes_old room_old notes room on x normal old_is new_is places kept (inr was) =

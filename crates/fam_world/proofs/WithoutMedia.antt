@@ -35,7 +35,8 @@ refuses_free name cause world lines = refl
 pub world_is : (new : WorldView) (hosts : List HostView) (journal : List Note) → new.hosts ≡ hosts → new.journal ≡ journal → new ≡ record { hosts = hosts; journal = journal }
 world_is new hosts journal h j = ap₂ (λ (a : List HostView) (b : List Note). record { hosts = a; journal = b }) h j
 
-pub quiet_refused : (c : Call) (lines : ℕ) (old new : WorldView) (cause : Refusal) → refusal_in c old lines ≡ Some cause → new.hosts ≡ old.hosts → new.journal ≡ old.journal ++ Refused (asked_name c) cause ∷ [] → WorldCall c lines (Some cause) old new
+pub quiet_refused : (c : Call) (lines : ℕ) (old new : WorldView) (cause : Refusal) → refusal_in c old lines ≡ Some cause → new.hosts ≡ old.hosts
+    → new.journal ≡ old.journal ++ Refused (asked_name c) cause ∷ [] → WorldCall c lines (Some cause) old new
 quiet_refused c lines old new cause first hosts journal = record {
   after = world_is new old.hosts (old.journal ++ Refused (asked_name c) cause ∷ []) hosts journal ∙ ap (λ (o : Option Refusal). acted_by o c lines old) (sym first);
   said = sym first;
@@ -45,6 +46,7 @@ pub quiet_done : (c : Call) (lines : ℕ) (old new : WorldView) → refusal_in c
 quiet_done c lines old new free is = record { after = is ∙ ap (λ (o : Option Refusal). acted_by o c lines old) (sym free); said = sym free }
 
 -- one host changes
-pub hosted : (name : List ℕ) (at : ℕ) (f : HostView → HostView) (n : ℕ → Note) (old new : WorldView) → number_in name old ≡ Some at → new.hosts ≡ changed_at at f old.hosts → new.journal ≡ old.journal ++ n at ∷ [] → new ≡ with_host (number_in name old) f n old
+pub hosted : (name : List ℕ) (at : ℕ) (f : HostView → HostView) (n : ℕ → Note) (old new : WorldView) → number_in name old ≡ Some at
+    → new.hosts ≡ changed_at at f old.hosts → new.journal ≡ old.journal ++ n at ∷ [] → new ≡ with_host (number_in name old) f n old
 hosted name at f n old new number hosts journal =
     world_is new (changed_at at f old.hosts) (old.journal ++ n at ∷ []) hosts journal ∙ ap (λ (o : Option ℕ). with_host o f n old) (sym number)

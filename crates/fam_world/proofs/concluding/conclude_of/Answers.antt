@@ -18,7 +18,9 @@ returns-in_err-run_up-clause-runs g c =
     let new = c.run_up.new in
     let p = err_from_is_err_and c.from_residual.result c.from_residual.ensures.1 in
     rw p.1
-    (subst (λ (o : Option Task). ShownUp c.args.at size (task_standing g.M.Media.state c.args.media.now view o (kept_in o h.kept) h.cache notes) (λ (shown : CacheState). task_standing g.M.Media.state new.media view (Some new.task) new.task.kept shown (notes_view new.journal.items)) (Err record {})) (sym c.in-Some.is)
+    (subst (λ (o : Option Task). ShownUp c.args.at size (task_standing g.M.Media.state c.args.media.now view o (kept_in o h.kept) h.cache notes)
+    (λ (shown : CacheState). task_standing g.M.Media.state new.media view (Some new.task) new.task.kept shown (notes_view new.journal.items))
+    (Err record {})) (sym c.in-Some.is)
     (c.in_err-run_up.ensures.runs view).up)
 
 pub returns-clause-runs : goal.returns-clause-runs
@@ -29,7 +31,15 @@ returns-clause-runs g c =
     let notes = notes_view c.args.journal.now.items in
     let new = c.run_up.new in
     let left : kept_in c.retire.new.task c.retire.new.kept ≡ new.task.kept = ap (λ (o : Option Task). kept_in o c.retire.new.kept) c.retire.ensures.task ∙ c.retire.ensures.kept in
-    subst (λ (o : Option Task). ShownUp c.args.at size (task_standing g.M.Media.state c.args.media.now view o (kept_in o h.kept) h.cache notes) (λ (shown : CacheState). task_standing g.M.Media.state new.media view c.retire.new.task (kept_in c.retire.new.task c.retire.new.kept) shown (notes_view new.journal.items)) (Ok tt)) (sym c.in-Some.is)
-    (subst (λ (k : Option Kept). ShownUp c.args.at size (task_standing g.M.Media.state c.args.media.now view (Some c.in-Some.task) c.in-Some.task.kept h.cache notes) (λ (shown : CacheState). task_standing g.M.Media.state new.media view c.retire.new.task k shown (notes_view new.journal.items)) (Ok tt)) (sym left)
-    (subst (λ (o : Option Task). ShownUp c.args.at size (task_standing g.M.Media.state c.args.media.now view (Some c.in-Some.task) c.in-Some.task.kept h.cache notes) (λ (shown : CacheState). task_standing g.M.Media.state new.media view o new.task.kept shown (notes_view new.journal.items)) (Ok tt)) (sym c.retire.ensures.task)
+    subst (λ (o : Option Task). ShownUp c.args.at size (task_standing g.M.Media.state c.args.media.now view o (kept_in o h.kept) h.cache notes)
+    (λ (shown : CacheState). task_standing g.M.Media.state new.media view c.retire.new.task (kept_in c.retire.new.task c.retire.new.kept) shown
+    (notes_view new.journal.items)) (Ok tt)) (sym c.in-Some.is)
+    (subst (λ (k : Option Kept). ShownUp c.args.at size
+    (task_standing g.M.Media.state c.args.media.now view (Some c.in-Some.task) c.in-Some.task.kept h.cache notes)
+    (λ (shown : CacheState). task_standing g.M.Media.state new.media view c.retire.new.task k shown (notes_view new.journal.items)) (Ok tt))
+    (sym left)
+    (subst (λ (o : Option Task). ShownUp c.args.at size
+    (task_standing g.M.Media.state c.args.media.now view (Some c.in-Some.task) c.in-Some.task.kept h.cache notes)
+    (λ (shown : CacheState). task_standing g.M.Media.state new.media view o new.task.kept shown (notes_view new.journal.items)) (Ok tt))
+    (sym c.retire.ensures.task)
     (c.in_ok-run_up.ensures.runs view).up))

@@ -18,4 +18,5 @@ returns-in-Some-clause-placed c =
 pub returns-in-None-clause-placed : goal.returns-in-None-clause-placed
 returns-in-None-clause-placed c =
     let items = c.args.hosts.now.items in
-    λ lines journal. nobody (call.Halts c.args.name.now) lines (record { hosts = views items; journal = journal }) (halts_first (views items) journal c.args.name.now lines _ (sym c.number.ensures.is ∙ c.in-None.is))
+    λ lines journal. nobody (call.Halts c.args.name.now) lines (record { hosts = views items; journal = journal })
+    (halts_first (views items) journal c.args.name.now lines _ (sym c.number.ensures.is ∙ c.in-None.is))

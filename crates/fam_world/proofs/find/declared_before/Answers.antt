@@ -18,11 +18,13 @@ returns-in-Some-clause-first c = λ lines journal.
 pub returns-then-len-ge-MOST_HOSTS-clause-first : goal.returns-then-len-ge-MOST_HOSTS-clause-first
 returns-then-len-ge-MOST_HOSTS-clause-first c = λ lines journal.
     let items = c.args.hosts.now.items in
-    let full : nat_le host_limit (length (shown_hosts items)) ≡ true = grind (arith, nat_tests, c.if-len-ge-MOST_HOSTS.true, c.len.ensures, length-map (views items) shown_host, length-map items host_view) in
+    let full : nat_le host_limit (length (shown_hosts items)) ≡ true =
+    grind (arith, nat_tests, c.if-len-ge-MOST_HOSTS.true, c.len.ensures, length-map (views items) shown_host, length-map items host_view) in
     sym (declares_first (views items) journal c.args.name.now c.args.uuid.now lines _ (sym c.same_host.ensures.is ∙ c.in_default.is) ∙ ap (λ (b : Bool). call.when b why.TooManyHosts) full)
 
 pub returns-clause-first : goal.returns-clause-first
 returns-clause-first c = λ lines journal.
     let items = c.args.hosts.now.items in
-    let free : nat_le host_limit (length (shown_hosts items)) ≡ false = grind (arith, nat_tests, c.if-len-ge-MOST_HOSTS.false, c.len.ensures, length-map (views items) shown_host, length-map items host_view) in
+    let free : nat_le host_limit (length (shown_hosts items)) ≡ false =
+    grind (arith, nat_tests, c.if-len-ge-MOST_HOSTS.false, c.len.ensures, length-map (views items) shown_host, length-map items host_view) in
     sym (declares_first (views items) journal c.args.name.now c.args.uuid.now lines _ (sym c.same_host.ensures.is ∙ c.in_default.is) ∙ ap (λ (b : Bool). call.when b why.TooManyHosts) free)

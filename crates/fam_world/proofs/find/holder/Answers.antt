@@ -11,14 +11,16 @@ use Rattle.fam_world.proofs.find.holder.Goals as goal
 pub returns-in_default-clause-placed : goal.returns-in_default-clause-placed
 returns-in_default-clause-placed c = λ move journal.
     let items = c.args.hosts.now.items in
-    nobody (call.Moves c.args.name.now c.args.line.0 move) c.args.lines (record { hosts = views items; journal = journal }) (moves_first (views items) journal c.args.name.now c.args.lines _ (sym c.number.ensures.is ∙ c.in_default.is) c.args.line.0 move)
+    nobody (call.Moves c.args.name.now c.args.line.0 move) c.args.lines (record { hosts = views items; journal = journal })
+    (moves_first (views items) journal c.args.name.now c.args.lines _ (sym c.number.ensures.is ∙ c.in_default.is) c.args.line.0 move)
 
 pub returns-then-line-lines-clause-placed : goal.returns-then-line-lines-clause-placed
 returns-then-line-lines-clause-placed c = λ move journal.
     let items = c.args.hosts.now.items in
     let past : nat_le c.args.lines c.args.line.0 ≡ true = grind (arith, nat_tests, c.if-line-lines.true) in
     record {
-      first = moves_first (views items) journal c.args.name.now c.args.lines _ (sym c.number.ensures.is ∙ c.in-Some.is) c.args.line.0 move ∙ ap (λ (b : Bool). call.when b (why.NoLine c.args.line.0 c.args.lines)) past;
+      first = moves_first (views items) journal c.args.name.now c.args.lines _ (sym c.number.ensures.is ∙ c.in-Some.is) c.args.line.0 move
+          ∙ ap (λ (b : Bool). call.when b (why.NoLine c.args.line.0 c.args.lines)) past;
       plain = tt;
       named = tt;
       faultless = refl;

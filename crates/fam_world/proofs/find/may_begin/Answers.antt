@@ -15,7 +15,8 @@ use Rattle.fam_world.proofs.find.may_begin.Goals as goal
 pub returns-in_default-clause-placed : goal.returns-in_default-clause-placed
 returns-in_default-clause-placed c = λ cmd journal same.
     let items = c.args.hosts.now.items in
-    nobody (call.Begins c.args.name.now cmd) c.args.lines (record { hosts = views items; journal = journal }) (begins_first (views items) journal c.args.name.now c.args.lines _ (sym c.number.ensures.is ∙ c.in_default.is) cmd)
+    nobody (call.Begins c.args.name.now cmd) c.args.lines (record { hosts = views items; journal = journal })
+    (begins_first (views items) journal c.args.name.now c.args.lines _ (sym c.number.ensures.is ∙ c.in_default.is) cmd)
 
 pub returns-then-lines-lt-LEAST_LINES-clause-placed : goal.returns-then-lines-lt-LEAST_LINES-clause-placed
 returns-then-lines-lt-LEAST_LINES-clause-placed c = λ cmd journal same.

@@ -14,7 +14,8 @@ use Rattle.fam_world.proofs.find.running.Goals as goal
 pub returns-in_default-clause-placed : goal.returns-in_default-clause-placed
 returns-in_default-clause-placed c = λ lines journal.
     let items = c.args.hosts.now.items in
-    nobody (call.Steps c.args.name.now) lines (record { hosts = views items; journal = journal }) (steps_first (views items) journal c.args.name.now lines _ (sym c.number.ensures.is ∙ c.in_default.is))
+    nobody (call.Steps c.args.name.now) lines (record { hosts = views items; journal = journal })
+    (steps_first (views items) journal c.args.name.now lines _ (sym c.number.ensures.is ∙ c.in_default.is))
 
 pub returns-then-not-is_busy-clause-placed : goal.returns-then-not-is_busy-clause-placed
 returns-then-not-is_busy-clause-placed c = λ lines journal.

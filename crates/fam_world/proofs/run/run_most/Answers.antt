@@ -105,7 +105,8 @@ returns-then-is_err-clause-says g c = λ view.
       within = less;
       goes = subst (λ (j : List Note). Iterated (HostStep c.args.host.0 (m.size c.args.media.now) false)
           (task_standing m.state c.args.media.now view (Some c.args.task.now) c.args.task.now.kept c.args.cache.now (notes_view c.args.journal.now.items))
-          (task_standing m.state c.operations.media view (Some c.operations.task) c.operations.task.kept c.operations.cache j) c.operations.done) (sym (ap notes_view c.make_room.ensures.same)) (c.operations.invariant.far view);
+          (task_standing m.state c.operations.media view (Some c.operations.task) c.operations.task.kept c.operations.cache j) c.operations.done)
+          (sym (ap notes_view c.make_room.ensures.same)) (c.operations.invariant.far view);
     }
 
 pub returns-then-is_err-clause-undone : goal.returns-then-is_err-clause-undone
@@ -131,7 +132,8 @@ returns-in-Ok-Answered-clause-says g c = λ view.
       count = c.operations.done;
       within = less;
       goes = inv.far view;
-      ends = one_ends at size view b (said_of c.operate.result c.operate.new.turn) notes notes_now c.note_turn.result noted modelled inv.fits c.operate.ensures.steady.later c.operate.ensures.operated (c.in-Ok-Answered.is ∙ ap Ok c.in-Ok-Answered.field-0-is);
+      ends = one_ends at size view b (said_of c.operate.result c.operate.new.turn) notes notes_now c.note_turn.result noted modelled inv.fits
+          c.operate.ensures.steady.later c.operate.ensures.operated (c.in-Ok-Answered.is ∙ ap Ok c.in-Ok-Answered.field-0-is);
     }
 
 pub returns-in-Err-clause-says : goal.returns-in-Err-clause-says
@@ -142,7 +144,8 @@ returns-in-Err-clause-says g c = λ view.
     let size = m.size c.args.media.now in
     let at = c.args.host.0 in
     let b : TaskChange = task_change m.size m.state c.operations.task c.operate.new.task c.operations.cache c.operate.new.cache c.operations.media c.operate.new.media in
-    let full = lacked at (said_of c.operate.result c.operate.new.turn) (notes_view c.make_room.new.journal.items) (notes_view c.note_turn.new.journal.items) c.note_turn.result c.in-Err.field-0 c.note_turn.ensures.noted c.in-Err.is in
+    let full = lacked at (said_of c.operate.result c.operate.new.turn) (notes_view c.make_room.new.journal.items)
+    (notes_view c.note_turn.new.journal.items) c.note_turn.result c.in-Err.field-0 c.note_turn.ensures.noted c.in-Err.is in
     let undone : IsUndone b = subst (Operated b) full.0 c.operate.ensures.operated in
     let start : HostStanding = task_standing m.state c.args.media.now view (Some c.args.task.now) c.args.task.now.kept c.args.cache.now (notes_view c.args.journal.now.items) in
     let here : HostStanding = task_standing m.state c.operations.media view (Some c.operations.task) c.operations.task.kept c.operations.cache (notes_view c.operations.journal.items) in
@@ -157,7 +160,8 @@ returns-in-Err-clause-says g c = λ view.
 pub returns-in-Err-clause-undone : goal.returns-in-Err-clause-undone
 returns-in-Err-clause-undone g c = λ one.
     let less = c.operations-test.true in
-    let full = lacked c.args.host.0 (said_of c.operate.result c.operate.new.turn) (notes_view c.make_room.new.journal.items) (notes_view c.note_turn.new.journal.items) c.note_turn.result c.in-Err.field-0 c.note_turn.ensures.noted c.in-Err.is in
+    let full = lacked c.args.host.0 (said_of c.operate.result c.operate.new.turn) (notes_view c.make_room.new.journal.items)
+    (notes_view c.note_turn.new.journal.items) c.note_turn.result c.in-Err.field-0 c.note_turn.ensures.noted c.in-Err.is in
     c.operate.ensures.undone (said_full c.operate.result c.operate.new.turn full.0) ∙ c.operations.invariant.first (none_done c.operations.done c.args.most less one)
 
 pub returns-clause-says : goal.returns-clause-says

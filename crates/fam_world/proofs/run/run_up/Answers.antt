@@ -55,11 +55,13 @@ advance-requires g c =
     let inv = c.operations.invariant in
     let real : CacheState = c.shed-tries.new.cache in
     let on : Follows c.args.forgets c.operations.task real inv.over.shown =
-    follows_shed c.args.forgets c.operations.tries c.operations.task c.operations.cache real inv.over.shown inv.tries c.shed-tries.ensures.shows (λ is. (c.shed-tries.ensures.still is).1) inv.over.follows in
+    follows_shed c.args.forgets c.operations.tries c.operations.task c.operations.cache real inv.over.shown inv.tries c.shed-tries.ensures.shows
+    (λ is. (c.shed-tries.ensures.still is).1) inv.over.follows in
     record {
       go = inv.turn;
       lines = inv.fits ∙ sym inv.size;
-      asked = subst (λ (n : ℕ). SendsWithin (op_of c.operations.task) n real.lines) (sym inv.size) (sends_within c.args.forgets c.operations.task (g.M.Media.size c.args.media.now) real inv.over.shown on inv.over.cached);
+      asked = subst (λ (n : ℕ). SendsWithin (op_of c.operations.task) n real.lines) (sym inv.size)
+          (sends_within c.args.forgets c.operations.task (g.M.Media.size c.args.media.now) real inv.over.shown on inv.over.cached);
     }
 
 pub operations-smaller : goal.operations-smaller
@@ -158,7 +160,9 @@ returns-then-is_err-clause-runs g c = λ view.
 pub returns-then-is_err-clause-same : goal.returns-then-is_err-clause-same
 returns-then-is_err-clause-same g c = λ start.
     let inv = c.operations.invariant in
-    full_same (g.M.Media.state c.args.media.now).image (g.M.Media.state c.operations.media).image c.operations.task inv.over.shown (vec_len c.operations.journal) (vec_capacity c.operations.journal) (err_then c.make_room.result (sym c.if-is_err.ensures.value) c.make_room.ensures.full) (inv.over.safe start)
+    full_same (g.M.Media.state c.args.media.now).image (g.M.Media.state c.operations.media).image c.operations.task inv.over.shown
+    (vec_len c.operations.journal) (vec_capacity c.operations.journal)
+    (err_then c.make_room.result (sym c.if-is_err.ensures.value) c.make_room.ensures.full) (inv.over.safe start)
 
 pub returns-in-Ok-Answered-clause-runs : goal.returns-in-Ok-Answered-clause-runs
 returns-in-Ok-Answered-clause-runs g c = λ view.
@@ -187,7 +191,8 @@ returns-in-Ok-Answered-clause-runs g c = λ view.
       up = record {
         shown = x.after;
         runs = ends_behind at size view _ (task_standing m.state c.operations.media view (Some task) task.kept shown notes) _ (inv.over.far view)
-            (all_end at size view (over b shown.lines x.after.lines) r notes notes_now c.note_turn.result noted modelled inv.fits c.advance.ensures.steady.later x.advanced (c.in-Ok-Answered.is ∙ ap Ok c.in-Ok-Answered.field-0-is));
+            (all_end at size view (over b shown.lines x.after.lines) r notes notes_now c.note_turn.result noted modelled inv.fits
+            c.advance.ensures.steady.later x.advanced (c.in-Ok-Answered.is ∙ ap Ok c.in-Ok-Answered.field-0-is));
       };
       same = x.same;
     }
@@ -217,7 +222,8 @@ returns-in-Err-clause-runs g c = λ view.
     record {
       up = record {
         shown = x.after;
-        runs = runs_still at size start view told (notes_view c.operations.journal.items) (notes_view c.note_turn.new.journal.items) undone (full.1 ∙ ap notes_view c.make_room.ensures.same) (inv.over.far view);
+        runs = runs_still at size start view told (notes_view c.operations.journal.items) (notes_view c.note_turn.new.journal.items) undone
+            (full.1 ∙ ap notes_view c.make_room.ensures.same) (inv.over.far view);
       };
       same = x.same;
     }
@@ -241,4 +247,5 @@ returns-in-Err-clause-same g c = λ start.
     let x : Followed task next.task real next.cache shown (m.size c.operations.media) media forgets r =
     followed task next.task real next.cache shown (m.size c.operations.media) media forgets r c.advance.ensures.advanced c.advance.ensures.places on in
     let lacks : ¬ (HasPlaces task shown) = subst (PlacesMade task shown next.task x.after) full.0 x.places in
-    λ image told. ap (λ s. s.image) undone.media ∙ lacks_same (m.state c.args.media.now).image (m.state c.operations.media).image task shown (vec_len c.operations.journal) (vec_capacity c.operations.journal) lacks (inv.over.safe start) image told
+    λ image told. ap (λ s. s.image) undone.media ∙ lacks_same (m.state c.args.media.now).image (m.state c.operations.media).image task shown
+    (vec_len c.operations.journal) (vec_capacity c.operations.journal) lacks (inv.over.safe start) image told

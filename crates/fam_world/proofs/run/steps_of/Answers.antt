@@ -15,7 +15,14 @@ returns-clause-says g c =
     let notes_now = notes_view c.run_most-moved.new.journal.items in
     let new = c.run_most-moved.new in
     let left = kept_in c.leave.new.task c.leave.new.kept in
-    subst (λ (o : Option Task). HostStepsSay c.args.at size c.args.most (task_standing g.M.Media.state c.args.media.now view o (kept_in o h.kept) h.cache notes) (task_standing g.M.Media.state new.media view c.leave.new.task left new.cache notes_now) c.run_most-moved.result) (sym c.in-Some.is)
-    (subst (λ (o : Option Task). HostStepsSay c.args.at size c.args.most (task_standing g.M.Media.state c.args.media.now view (Some c.in-Some.task) c.in-Some.task.kept h.cache notes) (task_standing g.M.Media.state new.media view o left new.cache notes_now) c.run_most-moved.result) (sym c.leave.ensures.task)
-    (subst (λ (k : Option Kept). HostStepsSay c.args.at size c.args.most (task_standing g.M.Media.state c.args.media.now view (Some c.in-Some.task) c.in-Some.task.kept h.cache notes) (task_standing g.M.Media.state new.media view (task_left c.run_most-moved.result (Some new.task)) k new.cache notes_now) c.run_most-moved.result) (sym c.leave.ensures.kept)
+    subst (λ (o : Option Task). HostStepsSay c.args.at size c.args.most
+    (task_standing g.M.Media.state c.args.media.now view o (kept_in o h.kept) h.cache notes)
+    (task_standing g.M.Media.state new.media view c.leave.new.task left new.cache notes_now) c.run_most-moved.result) (sym c.in-Some.is)
+    (subst (λ (o : Option Task). HostStepsSay c.args.at size c.args.most
+    (task_standing g.M.Media.state c.args.media.now view (Some c.in-Some.task) c.in-Some.task.kept h.cache notes)
+    (task_standing g.M.Media.state new.media view o left new.cache notes_now) c.run_most-moved.result) (sym c.leave.ensures.task)
+    (subst (λ (k : Option Kept). HostStepsSay c.args.at size c.args.most
+    (task_standing g.M.Media.state c.args.media.now view (Some c.in-Some.task) c.in-Some.task.kept h.cache notes)
+    (task_standing g.M.Media.state new.media view (task_left c.run_most-moved.result (Some new.task)) k new.cache notes_now)
+    c.run_most-moved.result) (sym c.leave.ensures.kept)
     (c.run_most-moved.ensures.says view)))

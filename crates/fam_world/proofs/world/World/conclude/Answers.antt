@@ -50,7 +50,8 @@ returns-in-Err-clause-concluded g c =
     record {
       shown = new;
       journal = refl;
-      answered = subst (λ (w : WorldView). IfAnswered {T = Unit {0}} (Err c.refused.result) (λ answered. MediaCall (call.Finishes c.args.name.now) size answered (change m.state media media) w new)) c.self.view_is
+      answered = subst (λ (w : WorldView). IfAnswered {T = Unit {0}} (Err c.refused.result)
+          (λ answered. MediaCall (call.Finishes c.args.name.now) size answered (change m.state media media) w new)) c.self.view_is
           (refused_told c.refused.result c.in-Err.cause _ c.refused.ensures.given
           (media_refused (call.Finishes c.args.name.now) tt tt size (m.state media).image (m.state media).faults old new c.in-Err.cause (g.met.M.Media.modelled media) refused refl
           (c.refused.ensures.noted ∙ ap (λ (xs : List Kept). notes_view xs ++ Refused c.args.name.now c.in-Err.cause ∷ []) c.make_room.ensures.same)));
@@ -92,7 +93,9 @@ returns-clause-concluded g c =
     let notes : List Note = notes_view c.conclude_of.new.journal.items in
     let told : MediaChange = change m.state media media_now in
     let new : WorldView = world_view (set items at y) c.conclude_of.new.journal.items in
-    let ran = subst (λ (j : List Note). ShownUp at size (host_standing m.state media (host_view x) j) (λ (shown : CacheState). host_standing m.state media_now (with_cache (host_view y) shown) notes) c.conclude_of.result) (ap notes_view c.make_room.ensures.same) c.conclude_of.ensures.runs in
+    let ran = subst (λ (j : List Note). ShownUp at size (host_standing m.state media (host_view x) j)
+    (λ (shown : CacheState). host_standing m.state media_now (with_cache (host_view y) shown) notes) c.conclude_of.result)
+    (ap notes_view c.make_room.ensures.same) c.conclude_of.ensures.runs in
     subst (λ (r : Result (Unit {0}) WorldFault). HasConcluded name size told c.args.self.now new r) (sym c.or_fault.ensures)
     (subst (λ (w : WorldView). HasConcluded name size told w new (told_of {T = Unit {0}} c.conclude_of.result)) c.self.view_is
     (concluded name at size old (host_view x) free.number free.free free.within view_is told (g.met.M.Media.modelled media) (host_view y) notes

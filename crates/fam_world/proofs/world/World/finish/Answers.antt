@@ -78,8 +78,12 @@ returns-clause-answered g c =
     subst (λ r. IfAnswered {T = Unit {0}} r P) (sym c.or_fault.ensures)
     (done_answered c.finish_of.result P
     (λ is.
-    let ends = subst (λ (j : List Note). Ends at size (host_standing m.state media (host_view x) j) (host_standing m.state media_now (host_view y) new.journal)) (ap notes_view c.make_room.ensures.same) (subst (RunsUp at size (host_standing m.state media (host_view x) (notes_view c.make_room.new.journal.items)) (host_standing m.state media_now (host_view y) new.journal)) is c.finish_of.ensures.runs) in
-    let far = far_ends c.args.name.now at size old (host_view x) free.number (map_at host_view items at x at_is) free.within (m.state media).image (m.state media_now).image (m.state media).faults (m.state media_now).faults new (host_view y)
+    let ends = subst (λ (j : List Note). Ends at size (host_standing m.state media (host_view x) j)
+    (host_standing m.state media_now (host_view y) new.journal)) (ap notes_view c.make_room.ensures.same)
+    (subst (RunsUp at size (host_standing m.state media (host_view x) (notes_view c.make_room.new.journal.items))
+    (host_standing m.state media_now (host_view y) new.journal)) is c.finish_of.ensures.runs) in
+    let far = far_ends c.args.name.now at size old (host_view x) free.number (map_at host_view items at x at_is) free.within (m.state media).image
+    (m.state media_now).image (m.state media).faults (m.state media_now).faults new (host_view y)
     (map_set host_view (λ v. host_view y) items at y x at_is refl) ends in
     subst (λ (w : WorldView). MediaCall (call.Finishes c.args.name.now) size None (change m.state media media_now) w new) c.self.view_is
     (finish_done c.args.name.now at size far free.number free.free free.within (g.met.M.Media.modelled media)
@@ -101,8 +105,12 @@ returns-clause-want g c = λ full.
     let free = c.in-Ok.ensures.placed size old.journal in
     let new : WorldView = world_view (set items at y) c.finish_of.new.journal.items in
     let is = told_full c.finish_of.result (subst (λ r. IsErrOf r fault.OutOfMemory) c.or_fault.ensures full) in
-    let runs = subst (λ (j : List Note). SomeSteps at size (host_standing m.state media (host_view x) j) (host_standing m.state media_now (host_view y) new.journal)) (ap notes_view c.make_room.ensures.same) (subst (RunsUp at size (host_standing m.state media (host_view x) (notes_view c.make_room.new.journal.items)) (host_standing m.state media_now (host_view y) new.journal)) is c.finish_of.ensures.runs) in
-    let far = far_runs c.args.name.now at size old (host_view x) free.number view_is free.within (m.state media).image (m.state media_now).image (m.state media).faults (m.state media_now).faults new (host_view y)
+    let runs = subst (λ (j : List Note). SomeSteps at size (host_standing m.state media (host_view x) j)
+    (host_standing m.state media_now (host_view y) new.journal)) (ap notes_view c.make_room.ensures.same)
+    (subst (RunsUp at size (host_standing m.state media (host_view x) (notes_view c.make_room.new.journal.items))
+    (host_standing m.state media_now (host_view y) new.journal)) is c.finish_of.ensures.runs) in
+    let far = far_runs c.args.name.now at size old (host_view x) free.number view_is free.within (m.state media).image (m.state media_now).image
+    (m.state media).faults (m.state media_now).faults new (host_view y)
     (map_set host_view (λ v. host_view y) items at y x at_is refl) runs in
     subst (λ (w : WorldView). FinishOutOfMemory c.args.name.now size (change m.state media media_now) w new) c.self.view_is
     (finish_lacks c.args.name.now at size far free.number free.free free.within (g.met.M.Media.modelled media)

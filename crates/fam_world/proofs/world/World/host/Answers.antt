@@ -34,7 +34,9 @@ returns-clause-answered c = λ lines.
     (quiet_done (call.Declares c.args.name.now c.args.uuid) lines old new
     (ap (λ (hs : List HostView). Rattle.fam_journal.specs.ByWorld.refusal_in (call.Declares c.args.name.now c.args.uuid) (record { hosts = hs; journal = old.journal }) lines) (sym same) ∙ first)
     (world_is new (old.hosts ++ record { name = c.args.name.now; uuid = c.args.uuid; cache = finmap.empty; task = None; kept = None } ∷ []) (old.journal ++ Host c.args.name.now c.args.uuid ∷ [])
-    (c.add_host.ensures.views ∙ ap₂ (λ (hs : List HostView) (k : Cache). hs ++ record { name = c.args.name.now; uuid = c.args.uuid; cache = k; task = None; kept = None } ∷ []) same c.new.ensures.lines)
+    (c.add_host.ensures.views ∙ ap₂
+    (λ (hs : List HostView) (k : Cache). hs ++ record { name = c.args.name.now; uuid = c.args.uuid; cache = k; task = None; kept = None } ∷ [])
+    same c.new.ensures.lines)
     (c.add.ensures ∙ ap (λ (xs : List Kept). notes_view xs ++ Host c.args.name.now c.args.uuid ∷ []) c.make_room.ensures.same)))
 
 pub returns-in-Some-clause-err : goal.returns-in-Some-clause-err

@@ -23,10 +23,15 @@ returns-in-Err-clause-answered g c =
     let old : WorldView = world_view c.self.inside.hosts.items c.self.inside.journal.items in
     let new : WorldView = world_view c.self.inside.hosts.items c.refused.new.journal.items in
     let asked : call.Call = call.Makes c.args.name.now c.args.request.now in
-    let refused : IsRefused asked (g.M.Media.size c.args.media.now) old c.in-Err.cause = subst (λ n. IsRefused asked n old c.in-Err.cause) c.lines.ensures.count (c.in-Err.ensures.placed old.journal) in
-    subst (λ (w : WorldView). IfAnswered {T = Unit {0}} (Err c.refused.result) (λ answered. MakeCall asked (g.M.Media.size c.args.media.now) answered (change g.M.Media.state c.args.media.now c.args.media.now) w new)) c.self.view_is
+    let refused : IsRefused asked (g.M.Media.size c.args.media.now) old c.in-Err.cause =
+    subst (λ n. IsRefused asked n old c.in-Err.cause) c.lines.ensures.count (c.in-Err.ensures.placed old.journal) in
+    subst (λ (w : WorldView). IfAnswered {T = Unit {0}} (Err c.refused.result)
+    (λ answered. MakeCall asked (g.M.Media.size c.args.media.now) answered (change g.M.Media.state c.args.media.now c.args.media.now) w new))
+    c.self.view_is
     (refused_told c.refused.result c.in-Err.cause _ c.refused.ensures.given
-    (make_refused c.args.name.now c.args.request.now (record { fs = c.is_uuid.ensures; format = c.requires }) (g.M.Media.size c.args.media.now) old (g.M.Media.state c.args.media.now).image (g.M.Media.state c.args.media.now).faults new c.in-Err.cause (g.met.M.Media.modelled c.args.media.now) refused refl
+    (make_refused c.args.name.now c.args.request.now (record { fs = c.is_uuid.ensures; format = c.requires }) (g.M.Media.size c.args.media.now) old
+    (g.M.Media.state c.args.media.now).image (g.M.Media.state c.args.media.now).faults new c.in-Err.cause
+    (g.met.M.Media.modelled c.args.media.now) refused refl
     (c.refused.ensures.noted ∙ ap (λ (xs : List Kept). notes_view xs ++ Refused c.args.name.now c.in-Err.cause ∷ []) c.make_room.ensures.same)))
 
 pub returns-in-Ok-make_host-clause-answered : goal.returns-in-Ok-make_host-clause-answered
@@ -39,11 +44,14 @@ returns-in-Ok-make_host-clause-answered g c =
     let asked : call.Call = call.Makes c.args.name.now c.args.request.now in
     let size = g.M.Media.size c.args.media.now in
     let free : IsFree asked size old at = subst (λ n. IsFree asked n old at) c.lines.ensures.count (c.in-Ok.ensures.placed old.journal) in
-    let wide = wide_of c.args.request.now.unit c.args.request.now.log size (subst (λ n. refusal c.args.request.now.unit c.args.request.now.log (line_bytes * n) ≡ None) c.lines.ensures.count c.in-Ok.ensures.free) in
+    let wide = wide_of c.args.request.now.unit c.args.request.now.log size
+    (subst (λ n. refusal c.args.request.now.unit c.args.request.now.log (line_bytes * n) ≡ None) c.lines.ensures.count c.in-Ok.ensures.free) in
     let new : WorldView = world_view (set items at c.make_host.new.host) c.note_end.new.journal.items in
     subst (λ (w : WorldView). IfAnswered c.note_end.result (λ answered. MakeCall asked size answered (change g.M.Media.state c.args.media.now c.make_host.new.media) w new)) c.self.view_is
-    (make_ended c.args.name.now c.args.request.now (record { fs = c.is_uuid.ensures; format = c.requires }) size old at (host_view x) free.number free.free free.within (map_at host_view items at x at_is)
-    (g.M.Media.state c.args.media.now).image (g.M.Media.state c.make_host.new.media).image (g.M.Media.state c.args.media.now).faults (g.M.Media.state c.make_host.new.media).faults _ (g.met.M.Media.modelled c.args.media.now) wide
+    (make_ended c.args.name.now c.args.request.now (record { fs = c.is_uuid.ensures; format = c.requires }) size old at
+    (host_view x) free.number free.free free.within (map_at host_view items at x at_is)
+    (g.M.Media.state c.args.media.now).image (g.M.Media.state c.make_host.new.media).image (g.M.Media.state c.args.media.now).faults
+    (g.M.Media.state c.make_host.new.media).faults _ (g.met.M.Media.modelled c.args.media.now) wide
     c.make_host.new.host.cache.lines c.make_host.ensures.others
     (map_set host_view (with_cache c.make_host.new.host.cache.lines) items at _ x at_is (ap host_view c.make_host.ensures.host)) c.make_host.ensures.steady.later
     c.in-Ok-make_host.end c.note_end.result c.note_end.ensures.given

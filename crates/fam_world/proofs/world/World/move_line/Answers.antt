@@ -23,10 +23,14 @@ returns-in-Err-clause-answered g c =
     let old : WorldView = world_view c.self.inside.hosts.items c.self.inside.journal.items in
     let new : WorldView = world_view c.self.inside.hosts.items c.refused.new.journal.items in
     let asked : call.Call = call.Moves c.args.name.now c.args.line.0 (move_of c.args.what) in
-    let refused : IsRefused asked (g.M.Media.size c.args.media.now) old c.in-Err.cause = subst (λ n. IsRefused asked n old c.in-Err.cause) c.lines.ensures.count (c.in-Err.ensures.placed (move_of c.args.what) old.journal) in
-    subst (λ (w : WorldView). IfAnswered {T = Unit {0}} (Err c.refused.result) (λ answered. MediaCall asked (g.M.Media.size c.args.media.now) answered (change g.M.Media.state c.args.media.now c.args.media.now) w new)) c.self.view_is
+    let refused : IsRefused asked (g.M.Media.size c.args.media.now) old c.in-Err.cause =
+    subst (λ n. IsRefused asked n old c.in-Err.cause) c.lines.ensures.count (c.in-Err.ensures.placed (move_of c.args.what) old.journal) in
+    subst (λ (w : WorldView). IfAnswered {T = Unit {0}} (Err c.refused.result)
+    (λ answered. MediaCall asked (g.M.Media.size c.args.media.now) answered (change g.M.Media.state c.args.media.now c.args.media.now) w new))
+    c.self.view_is
     (refused_told c.refused.result c.in-Err.cause _ c.refused.ensures.given
-    (media_refused asked tt tt (g.M.Media.size c.args.media.now) (g.M.Media.state c.args.media.now).image (g.M.Media.state c.args.media.now).faults old new c.in-Err.cause (g.met.M.Media.modelled c.args.media.now) refused refl
+    (media_refused asked tt tt (g.M.Media.size c.args.media.now) (g.M.Media.state c.args.media.now).image (g.M.Media.state c.args.media.now).faults
+    old new c.in-Err.cause (g.met.M.Media.modelled c.args.media.now) refused refl
     (c.refused.ensures.noted ∙ ap (λ (xs : List Kept). notes_view xs ++ Refused c.args.name.now c.in-Err.cause ∷ []) c.make_room.ensures.same)))
 
 pub returns-in-Ok-shift-clause-answered : goal.returns-in-Ok-shift-clause-answered
@@ -41,7 +45,8 @@ returns-in-Ok-shift-clause-answered g c =
     let new : WorldView = world_view (set items at (record x { cache = c.shift.new.self })) c.make_room.new.journal.items in
     subst (λ (w : WorldView). MediaCall asked (g.M.Media.size c.args.media.now) None (change g.M.Media.state c.args.media.now c.shift.new.media) w new) c.self.view_is
     (moved_call c.args.name.now c.args.line.0 at (move_of c.args.what) (g.M.Media.size c.args.media.now) old (host_view x) free.number free.free (map_at host_view items at x at_is)
-    (g.M.Media.state c.args.media.now).image (g.M.Media.state c.shift.new.media).image (g.M.Media.state c.args.media.now).faults (g.M.Media.state c.shift.new.media).faults _ (g.met.M.Media.modelled c.args.media.now)
+    (g.M.Media.state c.args.media.now).image (g.M.Media.state c.shift.new.media).image (g.M.Media.state c.args.media.now).faults
+    (g.M.Media.state c.shift.new.media).faults _ (g.met.M.Media.modelled c.args.media.now)
     c.shift.new.self.lines (map_set host_view (with_cache c.shift.new.self.lines) items at _ x at_is refl) (ap notes_view c.make_room.ensures.same)
     (subst (λ n. c.args.line.0 < n) c.lines.ensures.count c.in-Ok.ensures.inside) c.shift.ensures.held c.shift.ensures.steady.later c.in-Ok-shift.ensures.moved)
 
@@ -56,10 +61,13 @@ returns-in-Err-Failed-clause-answered g c =
     let free : IsFree asked (g.M.Media.size c.args.media.now) old at = subst (λ n. IsFree asked n old at) c.lines.ensures.count (c.in-Ok.ensures.placed (move_of c.args.what) old.journal) in
     let failed = c.in-Err-Failed.is ∙ ap (λ (f : CacheFault). Err f) c.in-Err-Failed.field-0-is in
     let new : WorldView = world_view (set items at (record x { cache = c.shift.new.self })) c.refused-in-Err-Failed.new.journal.items in
-    subst (λ (w : WorldView). IfAnswered {T = Unit {0}} (Err c.refused-in-Err-Failed.result) (λ answered. MediaCall asked (g.M.Media.size c.args.media.now) answered (change g.M.Media.state c.args.media.now c.shift.new.media) w new)) c.self.view_is
+    subst (λ (w : WorldView). IfAnswered {T = Unit {0}} (Err c.refused-in-Err-Failed.result)
+    (λ answered. MediaCall asked (g.M.Media.size c.args.media.now) answered (change g.M.Media.state c.args.media.now c.shift.new.media) w new))
+    c.self.view_is
     (refused_told c.refused-in-Err-Failed.result (why.MediaFault c.args.line) _ c.refused-in-Err-Failed.ensures.given
     (move_failed_call c.args.name.now c.args.line.0 at (move_of c.args.what) (g.M.Media.size c.args.media.now) old (host_view x) free.number free.free (map_at host_view items at x at_is)
-    (g.M.Media.state c.args.media.now).image (g.M.Media.state c.shift.new.media).image (g.M.Media.state c.args.media.now).faults (g.M.Media.state c.shift.new.media).faults _ (g.met.M.Media.modelled c.args.media.now)
+    (g.M.Media.state c.args.media.now).image (g.M.Media.state c.shift.new.media).image (g.M.Media.state c.args.media.now).faults
+    (g.M.Media.state c.shift.new.media).faults _ (g.met.M.Media.modelled c.args.media.now)
     c.args.line refl (map_same host_view items at _ x at_is (ap (λ (k : Cache). record (host_view x) { cache = k }) c.in-Err-Failed.ensures.err))
     (c.refused-in-Err-Failed.ensures.noted ∙ ap (λ (xs : List Kept). notes_view xs ++ Refused c.args.name.now (why.MediaFault c.args.line) ∷ []) c.make_room.ensures.same)
     c.shift.ensures.steady.later (c.shift.ensures.rose failed) (c.shift.ensures.failed failed)))

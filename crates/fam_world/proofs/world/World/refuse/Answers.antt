@@ -13,4 +13,5 @@ returns-clause-answered c = λ lines.
     let new : WorldView = world_view c.self.inside.hosts.items c.add.new.journal.items in
     quiet_done (Refuses c.args.name.now c.args.cause) lines old new (refuses_free c.args.name.now c.args.cause old lines)
     (world_is new old.hosts (old.journal ++ Refused c.args.name.now c.args.cause ∷ []) (ap (λ (w : WorldView). w.hosts) c.self.view_is)
-    (c.add.ensures ∙ ap (λ (xs : List Kept). notes_view xs ++ Refused c.args.name.now c.args.cause ∷ []) c.make_room.ensures.same ∙ ap (λ (w : WorldView). w.journal ++ Refused c.args.name.now c.args.cause ∷ []) c.self.view_is))
+    (c.add.ensures ∙ ap (λ (xs : List Kept). notes_view xs ++ Refused c.args.name.now c.args.cause ∷ []) c.make_room.ensures.same
+    ∙ ap (λ (w : WorldView). w.journal ++ Refused c.args.name.now c.args.cause ∷ []) c.self.view_is))

@@ -37,10 +37,13 @@ returns-in-Err-clause-says g c =
     let new : WorldView = world_view c.self.inside.hosts.items c.refused.new.journal.items in
     let size = g.M.Media.size c.args.media.now in
     let refused = c.in-Err.ensures.placed size old.journal in
-    subst (λ (w : WorldView). StepsSay c.args.name.now size c.args.most (standing g.M.Media.state c.args.media.now w) (standing g.M.Media.state c.args.media.now new) (Err c.refused.result)) c.self.view_is
-    (subst (λ (f : WorldFault). StepsSay c.args.name.now size c.args.most (standing g.M.Media.state c.args.media.now old) (standing g.M.Media.state c.args.media.now new) (Err f)) (sym c.refused.ensures.given)
+    subst (λ (w : WorldView). StepsSay c.args.name.now size c.args.most (standing g.M.Media.state c.args.media.now w)
+    (standing g.M.Media.state c.args.media.now new) (Err c.refused.result)) c.self.view_is
+    (subst (λ (f : WorldFault). StepsSay c.args.name.now size c.args.most (standing g.M.Media.state c.args.media.now old)
+    (standing g.M.Media.state c.args.media.now new) (Err f)) (sym c.refused.ensures.given)
     (step_refused c.args.name.now size old new c.in-Err.cause (g.M.Media.state c.args.media.now).image (g.M.Media.state c.args.media.now).faults refused.first
-    (media_refused (call.Steps c.args.name.now) tt tt size (g.M.Media.state c.args.media.now).image (g.M.Media.state c.args.media.now).faults old new c.in-Err.cause (g.met.M.Media.modelled c.args.media.now) refused refl
+    (media_refused (call.Steps c.args.name.now) tt tt size (g.M.Media.state c.args.media.now).image (g.M.Media.state c.args.media.now).faults old new
+    c.in-Err.cause (g.met.M.Media.modelled c.args.media.now) refused refl
     (c.refused.ensures.noted ∙ ap (λ (xs : List Kept). notes_view xs ++ Refused c.args.name.now c.in-Err.cause ∷ []) c.make_room.ensures.same))))
 
 pub returns-clause-says : goal.returns-clause-says
@@ -60,8 +63,12 @@ returns-clause-says g c =
     c.steps_of.result (map_set host_view (λ v. host_view y) items at y x at_is refl)
     (subst (λ (j : List Note). HostStepsSay at size c.args.most (host_standing g.M.Media.state c.args.media.now (host_view x) j)
     (host_standing g.M.Media.state c.steps_of.new.media (host_view y) (notes_view c.steps_of.new.journal.items)) c.steps_of.result) (ap notes_view c.make_room.ensures.same) c.steps_of.ensures.says) in
-    let told : StepsSay c.args.name.now size c.args.most (standing g.M.Media.state c.args.media.now old) (standing g.M.Media.state c.steps_of.new.media new) c.or_fault.result = subst (StepsSay c.args.name.now size c.args.most (standing g.M.Media.state c.args.media.now old) (standing g.M.Media.state c.steps_of.new.media new)) (sym c.or_fault.ensures) said in
-    subst (λ (w : WorldView). StepsSay c.args.name.now size c.args.most (standing g.M.Media.state c.args.media.now w) (standing g.M.Media.state c.steps_of.new.media new) c.or_fault.result) c.self.view_is told
+    let told : StepsSay c.args.name.now size c.args.most (standing g.M.Media.state c.args.media.now old)
+    (standing g.M.Media.state c.steps_of.new.media new) c.or_fault.result =
+    subst (StepsSay c.args.name.now size c.args.most (standing g.M.Media.state c.args.media.now old)
+    (standing g.M.Media.state c.steps_of.new.media new)) (sym c.or_fault.ensures) said in
+    subst (λ (w : WorldView). StepsSay c.args.name.now size c.args.most (standing g.M.Media.state c.args.media.now w)
+    (standing g.M.Media.state c.steps_of.new.media new) c.or_fault.result) c.self.view_is told
 
 pub returns-clause-undone : goal.returns-clause-undone
 returns-clause-undone g c = λ one full.

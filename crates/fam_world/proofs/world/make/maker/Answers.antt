@@ -15,12 +15,14 @@ use Rattle.fam_world.proofs.world.make.maker.Goals as goal
 pub returns-in_default-clause-placed : goal.returns-in_default-clause-placed
 returns-in_default-clause-placed c = λ journal.
     let items = c.args.hosts.now.items in
-    nobody (call.Makes c.args.name.now c.args.request.now) c.args.lines (record { hosts = views items; journal = journal }) (makes_first (views items) journal c.args.name.now c.args.lines _ (sym c.number.ensures.is ∙ c.in_default.is) c.args.request.now)
+    nobody (call.Makes c.args.name.now c.args.request.now) c.args.lines (record { hosts = views items; journal = journal })
+    (makes_first (views items) journal c.args.name.now c.args.lines _ (sym c.number.ensures.is ∙ c.in_default.is) c.args.request.now)
 
 pub returns-in-Some-early_cause-clause-placed : goal.returns-in-Some-early_cause-clause-placed
 returns-in-Some-early_cause-clause-placed c = λ journal.
     let items = c.args.hosts.now.items in
-    let early : option_map cause_of (early_refusal c.args.request.now.unit c.args.request.now.log (line_bytes * c.args.lines)) ≡ Some c.in-Some-early_cause.cause = sym c.early_cause.ensures.cause ∙ c.in-Some-early_cause.is in
+    let early : option_map cause_of (early_refusal c.args.request.now.unit c.args.request.now.log (line_bytes * c.args.lines))
+    ≡ Some c.in-Some-early_cause.cause = sym c.early_cause.ensures.cause ∙ c.in-Some-early_cause.is in
     let known = early_known (length (views items)) (early_refusal c.args.request.now.unit c.args.request.now.log (line_bytes * c.args.lines)) c.in-Some-early_cause.cause early in
     record {
       first = makes_first (views items) journal c.args.name.now c.args.lines _ (sym c.number.ensures.is ∙ c.in-Some.is) c.args.request.now
