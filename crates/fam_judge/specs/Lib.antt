@@ -1,4 +1,4 @@
 pub mod Alike
-pub mod ShowsJournal
+pub mod Shows
 pub mod Formed
 pub mod Explained

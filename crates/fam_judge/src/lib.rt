@@ -1,6 +1,6 @@
 //! Which recorded histories hosts that keep the promise could have had: definitions, and laws whose functions do nothing.
 //!
-//! `specs/ShowsJournal.antt` says what a history may leave out, `specs/Alike.antt` which journals are the same but for bytes,
+//! `specs/Shows.antt` says what a history may leave out, `specs/Alike.antt` which journals are the same but for bytes,
 //! `specs/Formed.antt` what the form of the tables is, and `specs/Explained.antt` which histories are explained.
 #![tactic(auto)]
 
