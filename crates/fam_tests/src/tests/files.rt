@@ -52,24 +52,28 @@ const LINES: [Step; 10] = [
     (Call::ReadRun, 32_808, 9),
 ];
 
-/// Does a call of a media that has the lines, and tells whether what was read is so.
-fn agrees<M: Media>(media: &mut M, call: Call, line: u64, number: u64) -> Result<bool, Fail> {
+/// Does a call of a media, and tells whether it has the lines, the call doesn't fail, and what was read is so.
+fn agrees<M: Media>(media: &mut M, call: Call, line: u64, number: u64) -> bool {
     if media.lines() < 8 || media.lines() - 8 < line {
-        return Ok(false);
+        return false;
     }
     match call {
-        Call::Read => return Ok(media.read(LineNo(line))? == [number; 8]),
+        Call::Read => match media.read(LineNo(line)) {
+            Ok(words) => words == [number; 8],
+            Err(_) => false,
+        },
         Call::ReadRun => {
             let mut lines = [[1; 8]; 8];
-            media.read_run(LineNo(line), &mut lines)?;
-            return Ok(lines == [[number; 8]; 8]);
+            match media.read_run(LineNo(line), &mut lines) {
+                Ok(()) => lines == [[number; 8]; 8],
+                Err(_) => false,
+            }
         }
-        Call::Write | Call::WriteBeside => media.write(LineNo(line), &[number; 8])?,
+        Call::Write | Call::WriteBeside => media.write(LineNo(line), &[number; 8]).is_ok(),
         Call::WriteRun | Call::WriteRunBeside => {
-            media.write_run(LineNo(line), &[[number; 8]; 8])?;
+            media.write_run(LineNo(line), &[[number; 8]; 8]).is_ok()
         }
     }
-    Ok(true)
 }
 
 /// The place of the first step that isn't so on a file of 36,000 lines of zeros, where there is one.
@@ -82,7 +86,7 @@ fn first_wrong(rt: &HostRuntime, name: &str, steps: &[Step]) -> Result<Option<us
             Call::WriteBeside | Call::WriteRunBeside => &mut other,
             _ => &mut media,
         };
-        if !agrees(by, *call, *line, *number)? {
+        if !agrees(by, *call, *line, *number) {
             return Ok(Some(place));
         }
     }
