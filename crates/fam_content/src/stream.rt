@@ -71,7 +71,6 @@ fn zero_lines(lines: &mut [Line])
 }
 
 /// The 64 bytes of a content from byte `start` on, as if the file had no end.
-#[inline(always)]
 fn endless_line(generator: &mut Option<Xoshiro256PlusPlus>, content: &Content, start: u64) -> Line
     requires aligned { start % 64 ≡ 0 }
     requires stands { generator.old ≡ generator_of content.now (start / 8) }
@@ -130,7 +129,6 @@ impl ContentStream {
 
     /// The next line of a file of `size` bytes. Its bytes at or past the size are zero. The stream must have been
     /// made from this content, and a line must be left.
-    #[inline(always)]
     pub fn line(&mut self, content: &Content, size: u64) -> Line
         requires { HasLineLeft self.old content.now size }
         ensures line { (given : ℕ) → StreamStandsFor self.old content.now given

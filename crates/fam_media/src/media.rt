@@ -17,11 +17,11 @@ ghost use Rattle.fam_media.specs.States.{MediaState};
 use fam_base::{Line, LineNo};
 
 /// A call of the outside failed.
-#[derive(Clone, Copy)]
+#[derive(Clone, Copy, Debug)]
 pub struct Failed;
 
 /// A call for several lines failed at one of them, behind so many that were done.
-#[derive(Clone, Copy)]
+#[derive(Clone, Copy, Debug)]
 pub struct RunFailed {
     pub done: usize,
 }
