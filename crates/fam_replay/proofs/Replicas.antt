@@ -1,8 +1,8 @@
 -- What is kept of slots is found again.
 use Rattle.std.proofs.Common.{◌≡◌, ℕ, ◌+◌, ◌-◌, ◌<◌, ◌≤◌, List, [], ◌∷◌, ◌++◌, length, take, get_or, Option, Some, None, Result, Ok, Err, sym, ap, subst, ◌∙◌, arith}
-use Rattle.std.specs.Prelude.{IfOk}
+use Rattle.std.specs.Prelude.{IfOk, IfSome}
 use Rattle.std.specs.List.{slice_get}
-use Rattle.std.proofs.lemmas.List.{get_or-take, length-take, length-take-le, take_all, take_more}
+use Rattle.std.proofs.lemmas.List.{get_or-take, length-take, length-take-le, take-take, take_all, take_more}
 use Rattle.std.proofs.lemmas.Option.{slice_get_within, get_or_from_slice_get, slice_get-get_or}
 use Rattle.fam_base.specs.declared.entry.Entry.{Entry}
 use Rattle.fam_base.specs.declared.entry.Params.{Params}
@@ -80,3 +80,12 @@ pub against_by : {E : Type 0} (p : Params) (words : List ℕ) (list : List Entry
     → entry_of p words (length list) ≡ Ok e → IfOk result (λ reason. join_fault p list e ≡ Some reason) → IfOk result (IsAgainst p words list)
 against_by p words list e (Ok reason) read fault = Refused e read fault
 against_by p words list e (Err fault) read is = tt
+
+-- Going back behind the first entries that were found.
+
+pub back_within : (o : Option ReplicaState) (found : ℕ) → found ≤ length (entries_in o) → IfSome o (λ s. found ≤ length s.entries)
+back_within None found within = tt
+back_within (Some s) found within = omega (arith, within, length-take s.found s.entries)
+
+pub back_to : (s : ReplicaState) (found : ℕ) → found ≤ length (take s.found s.entries) → take found s.entries ≡ take found (take s.found s.entries)
+back_to s found within = sym (take-take found s.found s.entries (omega (arith, within, length-take s.found s.entries)))

@@ -1,7 +1,7 @@
 //! A reading of a log's slots, one after another. Its entries take memory, so they are first kept with the first slot
 //! that is read. What an earlier reading kept is taken over then.
 
-ghost use Rattle.std.specs.Prelude.{◌≡◌, ◌≤◌, ◌<◌, ℕ, [], false, true, None, Ok, Some, IfOk, IfSome, IsErr, IsSome, OnOk, OnErr, length};
+ghost use Rattle.std.specs.Prelude.{◌≡◌, ◌≤◌, ◌<◌, ℕ, [], false, true, None, Ok, Some, IfOk, IfSome, IsErr, IsSome, OnOk, OnErr, length, take};
 ghost use Rattle.std.specs.FinMap as map;
 ghost use Rattle.fam_base.specs.Commands.{IsSoundCmd};
 ghost use Rattle.fam_base.specs.declared.entry.Params.{Params};
@@ -500,24 +500,16 @@ impl Replay {
         }
     }
 
-    /// The tree of the entries that were found, which the caller takes over. What is kept for a later reading shares it, where
-    /// there is memory for that; else nothing is kept. Nothing else may be kept before.
-    pub fn take_tree(&mut self) -> Tree
-        requires { HasFoundAll self.old }
-        ensures { result ≡ replay (entries_in self.old) }
+    /// Goes back behind the first entries that were found. Those behind them are kept, as if an earlier reading had found them.
+    pub fn step_back(&mut self, found: u64)
+        requires { found ≤ length (entries_in self.old) }
+        ensures entries { entries_in self.new ≡ take found (entries_in self.old) }
+        ensures fits { (p : Params) (gate : ℕ) → IsReplayOf p gate self.old → IsReplayOf p gate self.new }
     {
-        let Some(replica) = self.replica.take() else {
-            return Tree::new(self.alloc);
-        };
-        if !self.keeps {
-            return replica.into_tree();
-        }
-        match replica.tree().copy(self.alloc) {
-            Ok(tree) => {
-                self.replica = Some(replica);
-                tree
-            }
-            Err(_) => replica.into_tree(),
+        let keeps = self.keeps;
+        match &mut self.replica {
+            Some(replica) => replica.rewind(found, keeps),
+            None => {}
         }
     }
 }

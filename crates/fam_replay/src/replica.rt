@@ -2,10 +2,10 @@
 //! judged again.
 //!
 //! From its second command on a host of a world keeps the words of each slot, with the plan of their entries, for its
-//! next command; a command of its own, which has no successor, keeps none, and a logplay that lists its tree gives that
-//! away. The next command loads every slot's lines as before. But where a slot's words are the kept ones its entry is
-//! known, behind the same entries: no checksum is computed, no entry read, and none looked for in the tree. That costs
-//! 512 bytes a slot and host for the words, and 1,024 in format 2.
+//! next command; a command of its own, which has no successor, keeps none. The next command loads every slot's lines as
+//! before. But where a slot's words are the kept ones its entry is known, behind the same entries: no checksum is
+//! computed, no entry read, and none looked for in the tree. That costs 512 bytes a slot and host for the words, and
+//! 1,024 in format 2.
 //!
 //! At the first slot that differs the plan of the entries before it is made anew (`Plan::first`). Where there is no
 //! memory for that, a fault of the entry is found by looking through those entries (`fault_among`), so want of memory
@@ -338,14 +338,6 @@ impl Replica {
         ensures entries { result.entries ≡ found_in self }
     {
         self.plan
-    }
-
-    /// The tree, which the caller takes over.
-    pub(crate) fn into_tree(self) -> Tree
-        requires { AreAllFound self }
-        ensures { result ≡ replay (found_in self) }
-    {
-        self.plan.into_tree()
     }
 
     /// What stands at a path, by the entries that were found.

@@ -43,6 +43,15 @@ pub serves_none : (kept : Option Kept) (p : Params) (gate : ℕ) → kept ≡ No
 unfolding used_by
 serves_none kept p gate is = ap (λ (o : Option Kept). used_by o p gate) is
 
+-- no command begins with any where nothing is kept
+class_uses_nothing : (class : Class) (kept : Option Kept) (p : Params) (gate : ℕ) → kept ≡ None → class_used kept class p gate ≡ []
+unfolding class_used
+class_uses_nothing Surveys kept p gate is = refl
+class_uses_nothing other kept p gate is = serves_none kept p gate is
+
+pub uses_nothing : (cmd : Cmd) (kept : Option Kept) (p : Params) (gate : ℕ) → kept ≡ None → used kept cmd p gate ≡ []
+uses_nothing cmd kept p gate is = class_uses_nothing (class_of cmd) kept p gate is
+
 -- no entries are used, whether or not they serve
 none_serve : (list : List Entry) (b : Bool) → list ≡ [] → cond b list [] ≡ []
 none_serve list true is = is

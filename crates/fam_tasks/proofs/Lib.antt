@@ -21,3 +21,4 @@ pub mod AllFound
 pub mod Deciding
 pub mod Feeding
 pub mod FoundSlots
+pub mod LastSlot

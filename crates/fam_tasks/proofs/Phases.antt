@@ -13,8 +13,8 @@ use Rattle.fam_commands.specs.Task.{Task}
 use Rattle.fam_commands.specs.Turns.{slots_read}
 use Rattle.fam_commands.specs.Classes.{is_fsck}
 use Rattle.fam_tasks.specs.declared.task.Task.TheInside.{Inside}
-use Rattle.fam_tasks.specs.Commands.{slots_told}
-use Rattle.fam_tasks.specs.Invariant.{HasLooked, IsInvariantAt}
+use Rattle.fam_tasks.specs.Commands.{is_logplay, slots_told}
+use Rattle.fam_tasks.specs.Invariant.{HasLooked, IsInvariantAt, MayPlay}
 use Rattle.fam_tasks.specs.Sound.{HasSuper, HasValidGate}
 
 -- the next slot, or the decision
@@ -38,11 +38,17 @@ pub slots_within : (cmd : Cmd) (p : Params) (gate : ℕ) → gate ≤ p.slots �
 slots_within cmd p gate below = told_within (is_fsck cmd) gate p.slots below
 
 -- slots were looked at up to it
-pub held_by : (t : Inside) (i n : ℕ) (b : Bool) → n ≡ slots_told t.cmd t.params t.gate → nat_lt i n ≡ b → i ≤ n → HasLooked i t → IsInvariantAt (cond b (at.Drop (Slot i) 0) at.Decide) t
-held_by t i n true slots less within looked = looked
-held_by t i n false slots less within looked =
+pub held_by : (t : Inside) (i n : ℕ) (b : Bool) → n ≡ slots_told t.cmd t.params t.gate → nat_lt i n ≡ b → i ≤ n → HasLooked i t → (b ≡ false → MayPlay t.cmd t.history)
+    → IsInvariantAt (cond b (at.Drop (Slot i) 0) at.Decide) t
+held_by t i n true slots less within looked plays = looked
+held_by t i n false slots less within looked plays =
     let all : i ≡ slots_told t.cmd t.params t.gate = omega (arith, slots, within, ltb-false i n less) in
-    subst (λ (k : ℕ). HasLooked k t) all looked
+    (subst (λ (k : ℕ). HasLooked k t) all looked, plays refl)
+
+-- a check of the whole file system lists no tree
+pub surveys_other : (cmd : Cmd) → is_fsck cmd ≡ true → is_logplay cmd ≡ false
+surveys_other Logplay is = absurd cc
+surveys_other other is = refl
 
 -- the same file system and gate on the same image
 pub same_super : (t u : Task) → u.params ≡ t.params → u.lines ≡ t.lines → HasSuper t → HasSuper u

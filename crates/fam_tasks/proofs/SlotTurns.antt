@@ -23,7 +23,7 @@ use Rattle.fam_tasks.specs.declared.task.Task.TheInside.{Inside}
 use Rattle.fam_tasks.specs.Commands.{content_used, slots_told}
 use Rattle.fam_tasks.specs.Contents.{ContentsState}
 use Rattle.fam_tasks.specs.History.{HistoryState}
-use Rattle.fam_tasks.specs.Invariant.{HasLooked, HoldsLine, IsInvariantAt, IsTask}
+use Rattle.fam_tasks.specs.Invariant.{HasLooked, HoldsLine, IsInvariantAt, IsTask, MayPlay}
 use Rattle.fam_tasks.specs.Model.{task_of}
 use Rattle.fam_tasks.specs.Sound.{HasSpelledSlot, HasValidGate, IsProperFor, IsSoundAt}
 use Rattle.fam_tasks.proofs.Begun.{begun_sound}
@@ -79,9 +79,9 @@ all_lines t i j words task phase count last =
 -- a slot was looked at
 pub behind_slot : (t : Inside) (i n : ℕ) (phase : Phase) (history : HistoryState) (scan : Option Scan) (words : List ℕ) → IsTask t
     → t.phase ≡ at.Check i → phase ≡ next_phase (i + 1) n → n ≡ slots_told t.cmd t.params t.gate → history.kept ≡ t.history.kept → words ≡ []
-    → HasLooked (i + 1) (record t { phase = phase; history = history; scan = scan; buffer = words })
+    → HasLooked (i + 1) (record t { phase = phase; history = history; scan = scan; buffer = words }) → (nat_lt (i + 1) n ≡ false → MayPlay t.cmd history)
     → IsTask (record t { phase = phase; history = history; scan = scan; buffer = words })
-behind_slot t i n phase history scan words task checked next told kept empty looked =
+behind_slot t i n phase history scan words task checked next told kept empty looked plays =
     let u : Inside = record t { phase = phase; history = history; scan = scan; buffer = words } in
     let stands : IsSoundAt (at.Check i) (task_of t) = subst (λ (p : Phase). IsSoundAt p (task_of t)) checked task.sound.stands in
     let valid : HasValidGate (task_of u) = same_gate (task_of t) (task_of u) refl refl refl stands.0 in
@@ -94,7 +94,7 @@ behind_slot t i n phase history scan words task checked next told kept empty loo
         stands = subst (λ (p : Phase). IsSoundAt p (task_of u)) (sym next) (begun_sound (task_of u) (i + 1) n (nat_lt (i + 1) n) refl told valid (ap length empty));
         kept = subst IsKept (sym kept) task.sound.kept;
       };
-      held = subst (λ (p : Phase). IsInvariantAt p u) (sym next) (held_by u (i + 1) n (nat_lt (i + 1) n) told refl within looked);
+      held = subst (λ (p : Phase). IsInvariantAt p u) (sym next) (held_by u (i + 1) n (nat_lt (i + 1) n) told refl within looked plays);
     }
 
 -- what an append writes is its content

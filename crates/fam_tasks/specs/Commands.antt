@@ -1,5 +1,5 @@
 -- What a task asks of its command.
-use Rattle.std.specs.Prelude.{ℕ, ◌*◌, if◌then◌else◌}
+use Rattle.std.specs.Prelude.{ℕ, ◌*◌, if◌then◌else◌, Bool, true, false}
 use Rattle.fam_base.specs.declared.cmd.Cmd.{Cmd}
 use Rattle.fam_base.specs.declared.cmd.Cmd.TheVariants.{Logplay, Mount, Mkdir, Creat, Cp, Verify, Read, Check, Fsck}
 use Rattle.fam_base.specs.declared.cmd.Content.{Content}
@@ -10,6 +10,18 @@ use Rattle.fam_commands.specs.Classes.{Class, class_of, Replays, Appends, Compar
 -- how many slots it reads: all of them, or those below the gate
 abbrev pub slots_told : Cmd → Params → ℕ → ℕ
 slots_told cmd p gate = if is_fsck cmd then p.slots else gate
+
+-- a command that lists the tree
+abbrev pub is_logplay : Cmd → Bool
+is_logplay Logplay = true
+is_logplay Mount = false
+is_logplay (Mkdir path attr) = false
+is_logplay (Creat path size attr stripe fill) = false
+is_logplay (Cp path attr stripe bytes) = false
+is_logplay (Verify path against) = false
+is_logplay (Read path offset count) = false
+is_logplay (Check listing) = false
+is_logplay Fsck = false
 
 -- the content that a command writes or compares with, zeros where it does neither
 abbrev pub content_used : Cmd → Content

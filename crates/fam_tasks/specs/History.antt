@@ -6,6 +6,7 @@ use Rattle.fam_base.specs.declared.entry.Params.{Params}
 use Rattle.fam_base.specs.contracts.entry.Entry as entry_type
 use Rattle.fam_base.specs.contracts.entry.Params as params_type
 use Rattle.fam_commands.specs.Kept.{Kept}
+use Rattle.fam_format.specs.Tree.{Tree, replay}
 use Rattle.fam_plan.specs.State.{PlanState}
 use Rattle.fam_replay.specs.Replay.{entries_in}
 use Rattle.fam_replay.specs.Replica.{ReplicaState, found_in}
@@ -24,10 +25,15 @@ abbrev pub IsPlanOf : Params → Option PlanState → Type 0
 IsPlanOf p None = ⊤
 IsPlanOf p (Some s) = s.params ≡ p
 
--- what the host keeps, and what was read behind it: a replica from the first slot on
+-- what the host keeps, and what was read behind it: a replica from the first slot on; and a tree for an answer
 pub record HistoryState : Type 0 where
   pub kept : Option Kept
   pub replay : Option ReplicaState
+  pub tree : Option Tree
+
+-- the tree of what was read is at hand where the host keeps nothing; that of no entries is at hand anyhow
+abbrev pub IsAtHand : HistoryState → Type 0
+IsAtHand h = h.kept ≡ None → 0 < length (entries_in h.replay) → h.tree ≡ Some (replay (entries_in h.replay))
 
 -- the kept entries, as if their slots had been read
 abbrev pub all_kept : Kept → ReplicaState

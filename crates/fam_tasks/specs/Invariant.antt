@@ -10,7 +10,8 @@ use Rattle.fam_commands.specs.Task.{content_of, size_of, wanted_end}
 use Rattle.fam_replay.specs.Replay.{entries_in, IsReplayOf}
 use Rattle.fam_rules.specs.Content.{content_line}
 use Rattle.fam_tasks.specs.declared.task.Task.TheInside.{Inside}
-use Rattle.fam_tasks.specs.Commands.{slots_told}
+use Rattle.fam_tasks.specs.Commands.{is_logplay, slots_told}
+use Rattle.fam_tasks.specs.History.{HistoryState, IsAtHand}
 use Rattle.fam_tasks.specs.Model.{task_of}
 use Rattle.fam_tasks.specs.Survey.{added_in, IsScanFor}
 use Rattle.fam_tasks.specs.Sound.{IsSound}
@@ -27,6 +28,10 @@ pub record HasLooked (i : ℕ) (t : Inside) : Type 0 where
   pub scan : IsScanFor t.params t.gate t.scan
   pub entries : is_fsck t.cmd ≡ false → length (entries_in t.history.replay) ≡ i
   pub slots : is_fsck t.cmd ≡ true → added_in t.scan ≡ i
+
+-- a logplay whose slots were all read has a tree to answer with
+abbrev pub MayPlay : Cmd → HistoryState → Type 0
+MayPlay cmd history = is_logplay cmd ≡ true → IsAtHand history
 
 -- line j of the file comes next: the content is at that line, or there is room for the bytes; by the class of the command
 abbrev pub HoldsFileIn : Class → ℕ → Inside → Type 0
@@ -62,7 +67,7 @@ IsInvariantAt (at.Word part j k) t = HoldsPart part j t
 IsInvariantAt at.DropGate t = IsUnread t
 IsInvariantAt at.Gate t = IsUnread t
 IsInvariantAt (at.Check i) t = HasLooked i t
-IsInvariantAt at.Decide t = HasLooked (slots_told t.cmd t.params t.gate) t
+IsInvariantAt at.Decide t = HasLooked (slots_told t.cmd t.params t.gate) t × MayPlay t.cmd t.history
 IsInvariantAt (at.StoreData j k) t = HoldsLine j t
 IsInvariantAt (at.SendData j) t = HoldsLine j t
 IsInvariantAt (at.StoreSlot j k) t = ⊤

@@ -1,13 +1,18 @@
 -- What a host keeps anew behind an answer, of what its task has read.
-use Rattle.std.specs.Prelude.{◌≡◌, Bool, true, false, length, Option, Some, None, option_map}
+use Rattle.std.specs.Prelude.{◌≡◌, Bool, true, false, if◌then◌else◌, length, Option, Some, None}
+use Rattle.fam_base.specs.declared.cmd.Cmd.{Cmd}
+use Rattle.fam_commands.specs.Classes.{is_mount}
 use Rattle.fam_commands.specs.Keeping.{read_by}
 use Rattle.fam_commands.specs.Kept.{Kept}
 use Rattle.fam_commands.specs.Task.{Task}
+use Rattle.fam_commands.specs.declared.phase.Phase.{Phase}
+use Rattle.fam_commands.specs.declared.phase.Phase.TheVariants as at
+use Rattle.fam_format.specs.Stop.{or_else}
 use Rattle.fam_rules.specs.Reply.{Reply, Appended, NotAppended, Played, Mounted, Same, Differs, Length, Bytes, NotFound, IsDirectory, Checks, Reports, NoSuperblock, BadHeader, BadSlot}
 use Rattle.fam_tasks.specs.declared.answer.Answer.{Answer}
 use Rattle.fam_tasks.specs.declared.answer.Answer.TheVariants as answer
 
--- that of a mount or of a logplay; a task whose host keeps nothing has nothing kept behind a logplay
+-- that of a mount or of a logplay
 abbrev pub is_keeping : Answer → Bool
 is_keeping (answer.Ok seq) = false
 is_keeping (answer.Played m tree) = true
@@ -34,10 +39,19 @@ is_keeping (answer.Differs m offset found wanted) = false
 is_keeping (answer.Length m size wanted) = false
 is_keeping (answer.MediaFault line) = false
 
--- a task that stood so has replied, and this is kept anew: behind a mount the parameters and all entries that it has read, as many
--- as the reply says; the same behind a logplay where its host kept something, and else nothing; nothing behind any other reply
+-- what stands as a mount that decides has all that it read
+abbrev pub has_left : Phase → Cmd → Bool
+has_left at.Decide cmd = is_mount cmd
+has_left phase cmd = false
+
+-- what is kept of a task behind a logplay or a mount: what its host keeps, and where that is nothing, what a logplay has left
+abbrev pub kept_left : Task → Option Kept
+kept_left t = or_else t.kept (if has_left t.phase t.cmd then Some (read_by t) else None)
+
+-- a task that stood so has replied, and this is kept anew: behind a logplay or a mount the parameters and all entries that it has
+-- read, as many as the reply says; nothing behind any other reply
 abbrev pub KeepsAnew : Reply → Task → Option Kept → Type 0
-KeepsAnew (Played m tree) t anew = (m ≡ length t.entries) × (anew ≡ option_map (λ (k : Kept). read_by t) t.kept)
+KeepsAnew (Played m tree) t anew = (m ≡ length t.entries) × (anew ≡ Some (read_by t))
 KeepsAnew (Mounted m) t anew = (m ≡ length t.entries) × (anew ≡ Some (read_by t))
 KeepsAnew (Appended seq) t anew = anew ≡ None
 KeepsAnew (NotAppended refused) t anew = anew ≡ None

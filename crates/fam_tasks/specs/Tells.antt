@@ -1,5 +1,6 @@
 -- How a turn that a call gives tells the one of the definition.
 use Rattle.std.specs.Prelude.{ℕ, ◌≡◌, ◌⊎◌, ◌||◌, nat_lt, ⊤, Bool, true, false, [], IsSome, Option, Some, None}
+use Rattle.fam_base.specs.declared.cmd.Cmd.TheVariants.{Mount}
 use Rattle.fam_format.specs.Line.{last_word}
 use Rattle.fam_format.specs.Tree.{Tree}
 use Rattle.fam_format.specs.declared.faults.Reason.{Reason}
@@ -65,6 +66,16 @@ WantsMemory t (turns.Ends reply) = ((t.entries ≡ []) × TellsNoSpace reply) �
 -- what a task keeps behind a turn is what its host keeps then
 abbrev pub Keeps : Task → turns.Turn → Task → Type 0
 Keeps t turn new = new.kept ≡ kept_after turn t t.kept
+
+-- behind its answer a logplay whose host keeps nothing has all that it read: it stands where it stood, as a mount does
+abbrev pub LeavesBehind : Reply → Task → Task → Type 0
+LeavesBehind (Played m tree) t new = t.kept ≡ None → new ≡ record t { cmd = Mount }
+LeavesBehind reply t new = ⊤
+
+-- and so behind a turn with an answer
+abbrev pub Leaves : Task → turns.Turn → Task → Type 0
+Leaves t (turns.Ends reply) new = LeavesBehind reply t new
+Leaves t turn new = ⊤
 
 -- the operation that thinks
 abbrev pub is_digest : Op → Bool

@@ -1,11 +1,11 @@
 //! What a task asks of its command.
 
-ghost use Rattle.std.specs.Prelude.{◌≡◌, IfOk, IsSome, MatchResult, None, Some};
+ghost use Rattle.std.specs.Prelude.{◌≡◌, ◌≤◌, IfOk, IsSome, MatchResult, None, Some, false, nat_lt, true};
 ghost use Rattle.std.specs.Bool.{OnTrue, OnFalse};
-ghost use Rattle.fam_commands.specs.Classes.{is_fsck};
+ghost use Rattle.fam_commands.specs.Classes.{is_fsck, is_mount};
 ghost use Rattle.fam_rules.specs.Decide.{wish_of};
 ghost use Rattle.fam_commands.specs.Turns.{host_refusal};
-ghost use Rattle.fam_tasks.specs.Commands.{content_used, slots_told};
+ghost use Rattle.fam_tasks.specs.Commands.{content_used, is_logplay, slots_told};
 
 use fam_base::{Cmd, Content, OutOfMemory, Params};
 use fam_plan::{Refused, check_early};
@@ -19,6 +19,38 @@ pub(crate) fn is_fsck(cmd: &Cmd) -> bool
         Cmd::Fsck => true,
         _ => false,
     }
+}
+
+/// Whether a command lists the tree.
+fn is_logplay(cmd: &Cmd) -> bool
+    ensures { result ≡ is_logplay cmd.now }
+{
+    match cmd {
+        Cmd::Logplay => true,
+        _ => false,
+    }
+}
+
+/// Whether a command is a mount.
+pub(crate) fn is_mount(cmd: &Cmd) -> bool
+    ensures { result ≡ is_mount cmd.now }
+{
+    match cmd {
+        Cmd::Mount => true,
+        _ => false,
+    }
+}
+
+/// Whether a logplay has read all slots, where it has read those before `next`.
+#[inline(always)]
+pub(crate) fn plays_out(cmd: &Cmd, next: u64, gate: u64) -> bool
+    ensures last { result ≡ true → gate ≤ next }
+    ensures all { is_logplay cmd.now ≡ true → nat_lt next gate ≡ false → result ≡ true }
+{
+    if next < gate {
+        return false;
+    }
+    is_logplay(cmd)
 }
 
 /// Whether a command appends an entry.

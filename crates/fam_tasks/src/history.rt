@@ -4,8 +4,11 @@
 //! first slot that is read makes a copy, behind which the task reads on; or an earlier task made one, and this task
 //! goes on with that. The copy is part of a Digest, and may want memory. Where it finds none the slot is judged by the
 //! kept plan (`reason_behind`), so want of memory hides no bad slot.
+//!
+//! The answer of a logplay has the tree, and the task keeps the entries. Where the host keeps nothing that answer takes no
+//! memory: the last slot's Digest has made a copy, which shares all entries.
 
-ghost use Rattle.std.specs.Prelude.{◌≡◌, ◌≤◌, ◌<◌, ℕ, [], None, Ok, Some, IfOk, IfSome, IsSome, OnErr, OnOk, false, length, option_map, true};
+ghost use Rattle.std.specs.Prelude.{◌≡◌, ◌+◌, ◌≤◌, ◌<◌, ℕ, [], None, Ok, Some, IfOk, IfSome, IsSome, OnErr, OnOk, false, length, option_map, take, true};
 ghost use Rattle.std.specs.FinMap as map;
 ghost use Rattle.fam_base.specs.Commands.{IsSoundCmd};
 ghost use Rattle.fam_base.specs.declared.entry.Params.{Params};
@@ -19,7 +22,7 @@ ghost use Rattle.fam_plan.specs.Needs.{NeedsUnits};
 ghost use Rattle.fam_replay.specs.Replica.{FindsNext, JoinsNext};
 ghost use Rattle.fam_replay.specs.Replay.{entries_in, HasFoundAll, IsReplayOf, IsRoomFor, ReadsNext};
 ghost use Rattle.fam_rules.specs.Decide.{decide, wish_of};
-ghost use Rattle.fam_tasks.specs.History.{MayFollow, MayServe, kept_of, read_by};
+ghost use Rattle.fam_tasks.specs.History.{IsAtHand, MayFollow, MayServe, kept_of, read_by};
 
 use crate::kept::Kept;
 use fam_base::{Cmd, Entry, OutOfMemory, Params, Path};
@@ -42,6 +45,8 @@ pub(crate) struct History {
     /// Whether the slots that it reads stand behind the kept entries.
     follows: bool,
     replay: Replay,
+    /// For the answer of a logplay whose host keeps nothing, from its last slot on.
+    tree: Option<Tree>,
 }
 
 impl Model for History {
@@ -49,7 +54,7 @@ impl Model for History {
 
     ghost Value = { HistoryState };
 
-    ghost view = { λ h. record { kept = h.kept; replay = read_by h.serves h.kept h.replay } };
+    ghost view = { λ h. record { kept = h.kept; replay = read_by h.serves h.kept h.replay; tree = h.tree } };
 
     ghost invariant = { λ h. MayServe h.serves h.kept × MayFollow h.follows h.kept h.replay };
 }
@@ -169,6 +174,7 @@ impl History {
             serves: false,
             follows: false,
             replay: Replay::new(alloc),
+            tree: None,
         }
     }
 
@@ -226,6 +232,17 @@ impl History {
         }
     }
 
+    /// Whether the host keeps anything.
+    pub(crate) fn keeps(&self) -> bool
+        ensures some { result ≡ true → IsSome self.now.kept }
+        ensures none { result ≡ false → self.now.kept ≡ None }
+    {
+        match &self.kept {
+            Some(_) => true,
+            None => false,
+        }
+    }
+
     /// How many entries the host keeps, if it keeps anything.
     pub(crate) fn kept_count(&self) -> Option<u64>
         ensures { result ≡ option_map (λ (k : spec.Kept). length k.entries) self.now.kept }
@@ -249,7 +266,7 @@ impl History {
     /// Reads the words of the next slot, which the gate counts: its entry joins those that were found, or the reason
     /// against it is given. Where memory lacks for an entry that joins, what was found stays.
     #[inline(always)]
-    pub(crate) fn read_slot(
+    fn read_slot(
         &mut self,
         params: &Params,
         gate: u64,
@@ -281,6 +298,97 @@ impl History {
             return reason_behind_kept(&self.kept, words);
         }
         self.replay.read_slot(params, gate, words)
+    }
+
+    /// Reads the words of the next slot as `read_slot` does. Behind the last slot of a logplay, as `last` says, the tree is at
+    /// hand for its answer.
+    #[inline(always)]
+    pub(crate) fn read_slot_of(
+        &mut self,
+        last: bool,
+        params: &Params,
+        gate: u64,
+        words: &[u64],
+    ) -> Result<Option<Reason>, OutOfMemory>
+        requires sound { SoundParams params.now }
+        requires fits { IsReplayOf params.now gate self.old.replay }
+        requires gate { gate ≤ params.now.slots }
+        requires left { length (entries_in self.old.replay) < gate }
+        requires last { last ≡ true → gate ≤ length (entries_in self.old.replay) + 1 }
+        requires count { length words.now ≡ (geometry params.now).words }
+
+        ensures reads { IfOk result (λ reason. ReadsNext reason params.now words.now
+            (entries_in self.old.replay) (entries_in self.new.replay)) }
+        ensures hand { last ≡ true → IfOk result (λ reason. reason ≡ None → IsAtHand self.new) }
+        ensures fits { IsReplayOf params.now gate self.new.replay }
+        ensures err { OnErr result (entries_in self.new.replay ≡ entries_in self.old.replay) }
+        ensures want { OnErr result (JoinsNext params.now words.now (entries_in self.old.replay)) }
+        ensures kept { self.new.kept ≡ self.old.kept }
+    {
+        if last {
+            return self.read_last_slot(params, gate, words);
+        }
+        self.read_slot(params, gate, words)
+    }
+
+    /// Reads the words of the last slot of a logplay, and makes its tree. It stands apart, since it is done once.
+    #[inline(never)]
+    fn read_last_slot(
+        &mut self,
+        params: &Params,
+        gate: u64,
+        words: &[u64],
+    ) -> Result<Option<Reason>, OutOfMemory>
+        requires sound { SoundParams params.now }
+        requires fits { IsReplayOf params.now gate self.old.replay }
+        requires gate { gate ≤ params.now.slots }
+        requires left { length (entries_in self.old.replay) < gate }
+        requires last { gate ≤ length (entries_in self.old.replay) + 1 }
+        requires count { length words.now ≡ (geometry params.now).words }
+
+        ensures reads { IfOk result (λ reason. ReadsNext reason params.now words.now
+            (entries_in self.old.replay) (entries_in self.new.replay)) }
+        ensures hand { IfOk result (λ reason. reason ≡ None → IsAtHand self.new) }
+        ensures fits { IsReplayOf params.now gate self.new.replay }
+        ensures err { OnErr result (entries_in self.new.replay ≡ entries_in self.old.replay) }
+        ensures want { OnErr result (JoinsNext params.now words.now (entries_in self.old.replay)) }
+        ensures kept { self.new.kept ≡ self.old.kept }
+    {
+        let found = self.count();
+        match self.read_slot(params, gate, words)? {
+            Some(reason) => Ok(Some(reason)),
+            None => match self.lay_out(found) {
+                Ok(()) => Ok(None),
+                Err(full) => Err(full),
+            },
+        }
+    }
+
+    /// The tree of the entries that were found is at hand from here on, where the host keeps nothing. Where memory lacks, those
+    /// behind the first `count` are to be found again. Nothing else may be kept.
+    fn lay_out(&mut self, count: u64) -> Result<(), OutOfMemory>
+        requires all { HasFoundAll self.old.replay }
+        requires within { count ≤ length (entries_in self.old.replay) }
+        ensures hand { OnOk result (IsAtHand self.new) }
+        ensures same { OnOk result (self.new.replay ≡ self.old.replay) }
+        ensures fits { (p : Params) (gate : ℕ) → IsReplayOf p gate self.old.replay → IsReplayOf p gate self.new.replay }
+        ensures err { OnErr result (entries_in self.new.replay ≡ take count (entries_in self.old.replay)) }
+        ensures kept { self.new.kept ≡ self.old.kept }
+    {
+        match &self.kept {
+            Some(_kept) => Ok(()),
+            None => match self.copy_tree() {
+                Ok(tree) => {
+                    self.tree = Some(tree);
+                    Ok(())
+                }
+                Err(full) => {
+                    self.follows = false;
+                    self.replay.step_back(count);
+                    Err(full)
+                }
+            },
+        }
     }
 
     /// How many slots behind those that were read have words that an earlier task found. No contract hangs on it.
@@ -390,22 +498,34 @@ impl History {
         self.kept = Some(keep_found(&mut self.replay, params));
     }
 
-    /// The tree of the entries that were found, of the file system with these parameters. A host that keeps something
-    /// keeps these entries from here on, and the tree is a copy of theirs. On another one the caller takes the tree over,
-    /// and nothing is kept of it. Nothing else may be kept of the slots before.
+    /// A copy of the tree of the entries that were found, of the file system with these parameters. The host, which keeps
+    /// something, keeps these entries from here on. Nothing else may be kept of the slots before.
     pub(crate) fn play(&mut self, params: &Params) -> Result<Tree, OutOfMemory>
-        requires { HasFoundAll self.old.replay }
+        requires all { HasFoundAll self.old.replay }
         ensures tree { IfOk result (λ tree. tree ≡ replay (entries_in self.old.replay)) }
-        ensures kept { (gate : ℕ) → IsReplayOf params.now gate self.old.replay → OnOk result (self.new.kept
-            ≡ option_map (λ (k : spec.Kept). kept_of params.now self.old.replay) self.old.kept) }
+        ensures kept { (gate : ℕ) → IsReplayOf params.now gate self.old.replay
+            → OnOk result (self.new.kept ≡ Some (kept_of params.now self.old.replay)) }
         ensures err { OnErr result (self.new ≡ self.old) }
-        ensures want { OnErr result (IsSome self.old.kept) }
     {
-        let Some(_kept) = &self.kept else {
-            return Ok(self.replay.take_tree());
-        };
         let tree = self.copy_tree()?;
         self.keep(params);
         Ok(tree)
+    }
+
+    /// The tree of the entries that were found, on a host that keeps nothing. The caller takes it over, and the entries stay.
+    pub(crate) fn hand_out(&mut self) -> Tree
+        requires none { self.old.kept ≡ None }
+        requires hand { IsAtHand self.old }
+        ensures tree { result ≡ replay (entries_in self.old.replay) }
+        ensures kept { self.new.kept ≡ self.old.kept }
+        ensures replay { self.new.replay ≡ self.old.replay }
+    {
+        if self.count() == 0 {
+            return Tree::new(self.alloc);
+        }
+        match self.tree.take() {
+            Some(tree) => tree,
+            None => unreachable!(),
+        }
     }
 }

@@ -1,6 +1,6 @@
 //! A task: a command, its phase, and what it has read. Its turns stand in the files of `task/`.
 
-ghost use Rattle.std.specs.Prelude.{ℕ, ◌≡◌, ◌≢◌, ◌-◌, ◌≤◌, ◌<◌, nat_lt, if◌then◌else◌, true, false, None, Option, Some, IfOk, OnErr, OnOk, length, option_map};
+ghost use Rattle.std.specs.Prelude.{ℕ, ◌≡◌, ◌≢◌, ◌-◌, ◌≤◌, ◌<◌, nat_lt, if◌then◌else◌, true, false, None, Option, Some, IfOk, IsSome, OnErr, OnOk, length, option_map};
 ghost use Rattle.fam_base.specs.Commands.{IsSoundCmd};
 ghost use Rattle.fam_base.specs.declared.line.LineNo.{LineNo};
 ghost use Rattle.fam_format.specs.Layout.{geometry, least_lines};
@@ -16,10 +16,10 @@ ghost use Rattle.fam_tasks.specs.declared.answer.Answer.TheVariants.{MediaFault}
 ghost use Rattle.fam_tasks.specs.declared.answer.Turn.TheVariants.{Done, Go};
 ghost use Rattle.fam_rules.specs.Reply.{Reply};
 ghost use Rattle.fam_tasks.specs.Answers.{reply_of};
-ghost use Rattle.fam_tasks.specs.KeptAnew.{KeepsAnew, is_keeping};
+ghost use Rattle.fam_tasks.specs.KeptAnew.{KeepsAnew, has_left, is_keeping, kept_left};
 ghost use Rattle.fam_tasks.specs.Survey.{ShowWants};
 ghost use Rattle.fam_tasks.specs.Sound.{most_lines, HasSuper, IsFileLine, IsLine, IsSound, IsWantedLine};
-ghost use Rattle.fam_tasks.specs.Tells.{Keeps, Tells, WantsMemory, is_digest, is_reading};
+ghost use Rattle.fam_tasks.specs.Tells.{Keeps, Leaves, Tells, WantsMemory, is_digest, is_reading};
 
 mod decide;
 mod digests;
@@ -34,6 +34,7 @@ mod stores;
 
 use crate::answer::{Answer, Turn};
 use crate::buffer::Buffer;
+use crate::commands::is_mount;
 use crate::contents::Contents;
 use crate::history::History;
 use crate::kept::Kept;
@@ -246,16 +247,15 @@ impl Task {
         replace(&mut self.history, History::new(self.alloc, None)).into_parts()
     }
 
-    /// What the host keeps anew behind a task that gave this answer: Some exactly where it is Mounted, or Played of a host that
-    /// keeps something, with the parameters that the task read and the first entries, as many as the answer says. It takes no
-    /// memory. A logplay of another host has moved its tree into its answer: who wants both mounts, by the same operations, and
-    /// takes the tree from there (`Kept::tree`).
+    /// What is kept anew behind a task that gave this answer: Some exactly where it is Mounted or Played, with the parameters
+    /// that the task read and the first entries, as many as the answer says. It takes no memory.
     pub fn into_kept(self, answer: &Answer) -> Option<Kept>
-        ensures kept { is_keeping answer.now ≡ true → result ≡ self.kept }
+        ensures kept { is_keeping answer.now ≡ true → result ≡ kept_left self }
         ensures none { is_keeping answer.now ≡ false → result ≡ None }
 
-        // So it is of what the task has read, where this is its own answer.
+        // So it is what the task has read, where this is its own answer.
         ensures anew { (t : spec.Task) (word : Option ℕ) (reply : Reply) → turn_of t word ≡ Ends reply → Keeps t (turn_of t word) self
+            → (is_digest (op_of t) ≡ true → Leaves t (turn_of t word) self)
             → reply_of answer.now ≡ Some reply → KeepsAnew reply t result }
     {
         if !is_keeping(answer) {
@@ -265,8 +265,39 @@ impl Task {
         self.into_all_kept()
     }
 
+    /// What is kept of the task behind a logplay or a mount.
+    fn into_all_kept(self) -> Option<Kept>
+        ensures { result ≡ kept_left self }
+    {
+        if self.keeps() {
+            return self.into_host_kept();
+        }
+        if self.has_left() {
+            return self.into_left();
+        }
+        self.into_host_kept()
+    }
+
+    /// Whether the task stands as a mount that decides.
+    fn has_left(&self) -> bool
+        ensures { result ≡ has_left self.now.phase self.now.cmd }
+    {
+        match self.phase {
+            Phase::Decide => is_mount(&self.cmd),
+            _ => false,
+        }
+    }
+
+    /// Whether the host keeps anything.
+    fn keeps(&self) -> bool
+        ensures some { result ≡ true → IsSome self.now.kept }
+        ensures none { result ≡ false → self.now.kept ≡ None }
+    {
+        self.history.keeps()
+    }
+
     /// What the host keeps behind the task.
-    fn into_all_kept(mut self) -> Option<Kept>
+    fn into_host_kept(mut self) -> Option<Kept>
         ensures { result ≡ self.kept }
     {
         let (kept, found) = self.take_parts();
@@ -391,6 +422,7 @@ impl Task {
 
         ensures turn { IfOk result (λ turn. Tells (turn_of self.old None) turn self.new) }
         ensures kept { OnOk result (Keeps self.old (turn_of self.old None) self.new) }
+        ensures left { OnOk result (Leaves self.old (turn_of self.old None) self.new) }
         ensures own { (line : LineNo) → IfOk result (λ turn. turn ≢ Done (MediaFault line)) }
         ensures err { OnErr result (self.new ≡ self.old) }
         ensures want { OnErr result (WantsMemory self.old (turn_of self.old None)) }

@@ -12,20 +12,22 @@ ghost use Rattle.fam_rules.specs.Decide.{wish_of};
 ghost use Rattle.fam_rules.specs.Reply.{Length};
 ghost use Rattle.fam_commands.specs.declared.phase.Phase.TheVariants as at;
 ghost use Rattle.fam_commands.specs.Task as spec;
+ghost use Rattle.fam_commands.specs.Keeping.{read_by};
 ghost use Rattle.fam_commands.specs.Turns as turns;
 ghost use Rattle.fam_commands.specs.Turns.{turn_of};
 ghost use Rattle.fam_commands.specs.Classes.{IsCheck, IsRead, IsVerify, is_fsck};
 ghost use Rattle.fam_replay.specs.Replay.{entries_in, HasFoundAll};
 ghost use Rattle.fam_tasks.specs.declared.answer.Turn.TheVariants.{Done};
 ghost use Rattle.fam_tasks.specs.Commands.{content_used};
-ghost use Rattle.fam_tasks.specs.Tells.{Keeps, Tells, WantsMemory};
+ghost use Rattle.fam_tasks.specs.Tells.{Keeps, Leaves, Tells, WantsMemory};
 
-use super::{Task, done};
+use super::{Task, done, let_go};
 use crate::answer::{Answer, TaskNote, Turn};
 use crate::boxed_report::BoxedReport;
 use crate::commands::content_used;
 use crate::contents::Contents;
 use crate::history::History;
+use crate::kept::Kept;
 use crate::replies::refusal_answer;
 use crate::survey::report_of;
 use crate::wanted::{wanted_end, wanted_start};
@@ -36,6 +38,7 @@ use fam_fsck::check;
 use fam_rules::Checked;
 use fam_tree::Tree;
 use std::alloc::Global;
+use std::mem::replace;
 
 /// The content of a new file of `size` bytes, with its first line taken where there is one.
 fn new_contents(cmd: &Cmd, size: u64) -> Result<Contents, OutOfMemory>
@@ -123,6 +126,7 @@ impl Task {
         requires { self.old.phase ≡ at.Decide }
         ensures turn { IfOk result (λ turn. Tells (turn_of self.old None) turn self.new) }
         ensures kept { OnOk result (Keeps self.old (turn_of self.old None) self.new) }
+        ensures left { OnOk result (Leaves self.old (turn_of self.old None) self.new) }
         ensures err { OnErr result (self.new ≡ self.old) }
         ensures want { OnErr result (WantsMemory self.old (turn_of self.old None)) }
     {
@@ -152,8 +156,37 @@ impl Task {
         requires logplay { self.old.cmd ≡ cmd.Logplay }
         ensures turn { IfOk result (λ turn. Tells (turns.decide_turn cmd.Logplay self.old) turn self.new) }
         ensures kept { OnOk result (Keeps self.old (turns.decide_turn cmd.Logplay self.old) self.new) }
+        ensures left { OnOk result (Leaves self.old (turns.decide_turn cmd.Logplay self.old) self.new) }
         ensures err { OnErr result (self.new ≡ self.old) }
         ensures want { OnErr result (WantsMemory self.old (turns.decide_turn cmd.Logplay self.old)) }
+    {
+        if self.keeps() {
+            return self.play_kept();
+        }
+        Ok(self.play_alone())
+    }
+
+    /// Does so where the host keeps nothing. The task keeps the entries, and stands from here on as a mount that decides.
+    fn play_alone(&mut self) -> Turn
+        requires phase { self.old.phase ≡ at.Decide }
+        requires logplay { self.old.cmd ≡ cmd.Logplay }
+        requires none { self.old.kept ≡ None }
+        ensures turn { Tells (turns.decide_turn cmd.Logplay self.old) result self.new }
+        ensures left { self.new ≡ record self.old { cmd = cmd.Mount } }
+    {
+        let m = self.history.count();
+        let tree = self.history.hand_out();
+        let_go(replace(&mut self.cmd, Cmd::Mount));
+        Turn::Done(Answer::Played { m, tree })
+    }
+
+    /// Does so where the host keeps something: it keeps these entries from here on.
+    fn play_kept(&mut self) -> Result<Turn, OutOfMemory>
+        requires phase { self.old.phase ≡ at.Decide }
+        requires logplay { self.old.cmd ≡ cmd.Logplay }
+        ensures turn { IfOk result (λ turn. Tells (turns.decide_turn cmd.Logplay self.old) turn self.new) }
+        ensures kept { OnOk result (self.new.kept ≡ Some (read_by self.old)) }
+        ensures err { OnErr result (self.new ≡ self.old) }
     {
         let m = self.history.count();
         match self.history.play(&self.params) {
@@ -163,6 +196,16 @@ impl Task {
             }
             Err(full) => Err(full),
         }
+    }
+
+    /// What a logplay whose host keeps nothing has left: all that it read.
+    pub(super) fn into_left(mut self) -> Option<Kept>
+        requires phase { self.phase ≡ at.Decide }
+        requires mount { self.cmd ≡ cmd.Mount }
+        ensures { result ≡ Some (read_by self) }
+    {
+        let_go(self.mount());
+        self.into_host_kept()
     }
 
     /// Answers how many entries were read. The host keeps these from here on.

@@ -14,7 +14,7 @@ ghost use Rattle.fam_tasks.specs.Tells.{Keeps, Tells, WantsMemory, slot_turn_by}
 
 use super::{Task, slot_or_decide};
 use crate::answer::{Answer, Turn};
-use crate::commands::is_fsck;
+use crate::commands::{is_fsck, plays_out};
 use crate::survey::show;
 use fam_base::OutOfMemory;
 use fam_format::Reason;
@@ -58,7 +58,7 @@ impl Task {
         self.read_slot(slot)
     }
 
-    /// Reads the words of a slot: its entry joins those before it, or not.
+    /// Reads the words of a slot: its entry joins those before it, or not. With the last one a logplay has its tree.
     fn read_slot(&mut self, slot: u64) -> Result<Option<Reason>, OutOfMemory>
         requires phase { self.old.phase ≡ at.Check slot }
         requires other { is_fsck self.old.cmd ≡ false }
@@ -69,8 +69,12 @@ impl Task {
         ensures want { OnErr result (WantsMemory self.old (turns.slot_turn self.old slot
             (entry_of self.old.params self.old.words slot))) }
     {
+        let last = plays_out(&self.cmd, slot + 1, self.gate);
         let words = self.buffer.as_slice();
-        match self.history.read_slot(&self.params, self.gate, words)? {
+        match self
+            .history
+            .read_slot_of(last, &self.params, self.gate, words)?
+        {
             Some(reason) => Ok(Some(reason)),
             None => {
                 self.buffer.clear();

@@ -8,7 +8,7 @@ ghost use Rattle.fam_commands.specs.declared.phase.Phase.TheVariants as at;
 ghost use Rattle.fam_tasks.specs.SlotLines.{FindsSlot};
 
 use super::{SlotDue, Task, slot_or_decide};
-use crate::commands::is_fsck;
+use crate::commands::{is_fsck, plays_out};
 use fam_base::Line;
 
 impl Task {
@@ -26,7 +26,7 @@ impl Task {
 
     /// Takes a slot that has the words which an earlier task of the host found in it, and says whether it has. Its lines were
     /// dropped, all their words were loaded, which are these, and they were looked at: its entry joins those before it. Where
-    /// it has others nothing changes.
+    /// it has others nothing changes, and so with the last slot of a logplay, whose Digest makes the tree.
     #[inline(always)]
     pub fn find_slot(&mut self, due: SlotDue, lines: &[Line]) -> bool
         requires due { self.old.phase ≡ at.Drop (part.Slot due.slot) 0 }
@@ -41,6 +41,9 @@ impl Task {
         ensures other { result ≡ false → self.new ≡ self.old }
     {
         if is_fsck(&self.cmd) {
+            return false;
+        }
+        if plays_out(&self.cmd, due.slot + 1, self.gate) {
             return false;
         }
         let words = lines.as_flattened();

@@ -11,7 +11,7 @@ use Rattle.fam_tasks.specs.Model.{task_of}
 use Rattle.fam_tasks.specs.Sound.{HasValidGate, IsSoundAt}
 use Rattle.fam_tasks.specs.Survey.{added_in, IsScanFor}
 use Rattle.fam_tasks.specs.declared.task.Task.TheInside.{Inside}
-use Rattle.fam_tasks.proofs.Begun.{begun_sound, uses_none}
+use Rattle.fam_tasks.proofs.Begun.{begun_sound, uses_none, uses_nothing}
 use Rattle.fam_tasks.proofs.GateTurns.{gate_finds, gate_goes}
 use Rattle.fam_tasks.proofs.Phases.{held_by, next_phase, same_super}
 use Rattle.fam_tasks.proofs.task.Task.begin_slots.Goals as goal
@@ -64,5 +64,6 @@ invariant_of-self c =
         stands = subst (λ (p : Phase). IsSoundAt p (task_of u)) (sym phase) (begun_sound (task_of u) i n (nat_lt i n) refl told valid stands.1);
         kept = subst IsKept (sym begins.kept) sound.kept;
       };
-      held = subst (λ (p : Phase). IsInvariantAt p u) (sym phase) (held_by u i n (nat_lt i n) told refl within looked);
+      held = subst (λ (p : Phase). IsInvariantAt p u) (sym phase) (held_by u i n (nat_lt i n) told refl within looked (λ _ _ none some.
+          absurd (omega (arith, some, ap length (begins.entries ∙ uses_nothing c.self.inside.cmd c.self.inside.history.kept c.self.inside.params c.args.gate (sym begins.kept ∙ none))))));
     }

@@ -1,6 +1,6 @@
 use Rattle.std.proofs.Common.{ℕ, None, Ok, refl, sym, subst, ◌∙◌}
 use Rattle.fam_commands.specs.Classes.{IsRead, IsVerify}
-use Rattle.fam_tasks.proofs.Deciding.{append_keeps, decision_keeps, decision_told, decision_wants}
+use Rattle.fam_tasks.proofs.Deciding.{append_keeps, append_leaves, class_leaves, decision_keeps, decision_leaves, decision_told, decision_wants}
 use Rattle.fam_tasks.proofs.Keeping.{done_so, keeps_other, read_other, verify_other}
 use Rattle.fam_tasks.proofs.task.Task.decide.Goals as goal
 
@@ -109,3 +109,41 @@ returns-in-Mount-clause-turn c =
 pub returns-in-Mount-clause-kept : goal.returns-in-Mount-clause-kept
 returns-in-Mount-clause-kept c =
     decision_keeps {E = ℕ} (Ok c.mount.result) c.args.self.now c.mount.new.self _ c.requires (sym c.command.ensures ∙ c.in-Mount.is) c.mount.ensures.kept
+
+pub returns-in-Logplay-clause-left : goal.returns-in-Logplay-clause-left
+returns-in-Logplay-clause-left c =
+    decision_leaves c.play.result c.args.self.now c.play.new.self _ c.requires (sym c.command.ensures ∙ c.in-Logplay.is) c.play.ensures.left
+
+pub returns-in-Mount-clause-left : goal.returns-in-Mount-clause-left
+returns-in-Mount-clause-left c =
+    decision_leaves {E = ℕ} (Ok c.mount.result) c.args.self.now c.mount.new.self _ c.requires (sym c.command.ensures ∙ c.in-Mount.is) tt
+
+pub returns-in-Mkdir-clause-left : goal.returns-in-Mkdir-clause-left
+returns-in-Mkdir-clause-left c =
+    append_leaves c.append.result c.args.self.now c.append.new.self _ (sym c.command.ensures ∙ c.in-Mkdir.is) refl
+
+pub returns-in-Creat-clause-left : goal.returns-in-Creat-clause-left
+returns-in-Creat-clause-left c =
+    append_leaves c.append-in-Creat.result c.args.self.now c.append-in-Creat.new.self _ (sym c.command.ensures ∙ c.in-Creat.is) refl
+
+pub returns-in-Cp-clause-left : goal.returns-in-Cp-clause-left
+returns-in-Cp-clause-left c =
+    append_leaves c.append-in-Cp.result c.args.self.now c.append-in-Cp.new.self _ (sym c.command.ensures ∙ c.in-Cp.is) refl
+
+pub returns-in-Verify-clause-left : goal.returns-in-Verify-clause-left
+returns-in-Verify-clause-left c =
+    let is : IsVerify c.args.self.now.cmd = subst IsVerify (sym (sym c.command.ensures ∙ c.in-Verify.is)) tt in
+    class_leaves c.verify.result c.args.self.now c.verify.new.self (verify_other c.args.self.now.cmd is)
+
+pub returns-in-Read-clause-left : goal.returns-in-Read-clause-left
+returns-in-Read-clause-left c =
+    let is : IsRead c.args.self.now.cmd = subst IsRead (sym (sym c.command.ensures ∙ c.in-Read.is)) tt in
+    class_leaves c.read.result c.args.self.now c.read.new.self (read_other c.args.self.now.cmd is)
+
+pub returns-in-Check-clause-left : goal.returns-in-Check-clause-left
+returns-in-Check-clause-left c =
+    decision_leaves c.check.result c.args.self.now c.check.new.self _ c.requires (sym c.command.ensures ∙ c.in-Check.is) (done_so c.check.result tt)
+
+pub returns-in-Fsck-clause-left : goal.returns-in-Fsck-clause-left
+returns-in-Fsck-clause-left c =
+    decision_leaves c.report.result c.args.self.now c.report.new.self _ c.requires (sym c.command.ensures ∙ c.in-Fsck.is) (done_so c.report.result tt)

@@ -1,6 +1,7 @@
 use Rattle.std.proofs.Common.{◌≡◌, None, sym, ap, ◌∙◌}
 use Rattle.fam_commands.specs.Task.{Task}
 use Rattle.fam_commands.specs.declared.phase.Phase.TheVariants as at
+use Rattle.fam_tasks.proofs.Deciding.{leaves_nothing}
 use Rattle.fam_tasks.proofs.Keeping.{done_so, keeps_same}
 use Rattle.fam_tasks.proofs.task.Task.digest.Goals as goal
 
@@ -33,3 +34,12 @@ returns-in-Decide-clause-err c = c.decide.ensures.err
 
 pub returns-in-Decide-clause-want : goal.returns-in-Decide-clause-want
 returns-in-Decide-clause-want c = c.decide.ensures.want
+
+pub returns-in-Check-clause-left : goal.returns-in-Check-clause-left
+returns-in-Check-clause-left c =
+    let phase : c.args.self.now.phase ≡ at.Check c.in-Check.slot = ap (λ (t : Task). t.phase) (sym c.self.view_is) ∙ c.in-Check.is in
+    leaves_nothing c.digest_slot.result c.args.self.now c.digest_slot.new.self
+    (λ decides. let both : at.Check c.in-Check.slot ≡ at.Decide = sym phase ∙ decides in cc)
+
+pub returns-in-Decide-clause-left : goal.returns-in-Decide-clause-left
+returns-in-Decide-clause-left c = c.decide.ensures.left

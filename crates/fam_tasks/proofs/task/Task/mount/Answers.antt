@@ -2,9 +2,15 @@ use Rattle.std.proofs.Common.{◌≡◌, Some, ap, ◌∙◌}
 use Rattle.fam_commands.specs.Keeping.{read_by}
 use Rattle.fam_commands.specs.Task.{Task}
 use Rattle.fam_commands.specs.declared.phase.Phase.TheVariants as at
-use Rattle.fam_tasks.proofs.AllFound.{fits_at}
+use Rattle.fam_commands.specs.Classes.{is_fsck}
+use Rattle.fam_tasks.proofs.AllFound.{all_found_at, fits_at}
 use Rattle.fam_tasks.proofs.Keeping.{ended_task}
 use Rattle.fam_tasks.proofs.task.Task.mount.Goals as goal
+
+pub keep-requires : goal.keep-requires
+keep-requires c =
+    all_found_at c.self.inside c.self.invariant (ap (λ (t : Task). t.phase) c.self.view_is ∙ c.requires.phase)
+    (ap is_fsck (ap (λ (t : Task). t.cmd) c.self.view_is ∙ c.requires.mount))
 
 pub invariant_of-self : goal.invariant_of-self
 invariant_of-self c =

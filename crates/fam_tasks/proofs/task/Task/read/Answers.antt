@@ -19,5 +19,5 @@ read_file-requires-clause-proper c =
     let phase : c.self.inside.phase ≡ at.Decide = ap (λ (t : Task). t.phase) c.self.view_is ∙ c.requires.phase in
     let held : IsInvariantAt at.Decide c.self.inside = subst (λ (p : Phase). IsInvariantAt p c.self.inside) phase c.self.invariant.held in
     let proper : Proper c.self.inside.params c.in-Ok.entry = subst (λ (o : Option Entry). IfSome o (Proper c.self.inside.params)) c.in-Ok.ensures.is
-    (c.at.ensures.proper c.self.inside.params c.self.inside.gate held.replay) in
+    (c.at.ensures.proper c.self.inside.params c.self.inside.gate held.0.replay) in
     subst (λ (t : Task). Proper t.params c.in-Ok.entry) c.self.view_is proper

@@ -20,9 +20,9 @@ invariant_of-self-in-None c =
     let other : is_fsck t.cmd ≡ false = ap (λ (u : Task). is_fsck u.cmd) c.self.view_is ∙ c.requires.other in
     let held : HasLooked c.args.slot t = subst (λ (p : Phase). IsInvariantAt p t) phase c.self.invariant.held in
     let told : t.gate ≡ slots_told t.cmd t.params t.gate = sym (ap (λ (b : Bool). cond b t.params.slots t.gate) other) in
-    let found : FindsNext t.params c.as_slice-words.result.now old (entries_in c.read_slot.new.self.replay) =
-    subst (λ (r : Option Reason). ReadsNext r t.params c.as_slice-words.result.now old (entries_in c.read_slot.new.self.replay)) c.in-None.is c.in_ok-reason.ensures.reads in
-    behind_slot t c.args.slot t.gate c.slot_or_decide-self-inside.result c.read_slot.new.self t.scan c.clear.new.self c.self.invariant phase
+    let found : FindsNext t.params c.as_slice-words.result.now old (entries_in c.read_slot_of.new.self.replay) =
+    subst (λ (r : Option Reason). ReadsNext r t.params c.as_slice-words.result.now old (entries_in c.read_slot_of.new.self.replay)) c.in-None.is c.in_ok-reason.ensures.reads in
+    behind_slot t c.args.slot t.gate c.slot_or_decide-self-inside.result c.read_slot_of.new.self t.scan c.clear.new.self c.self.invariant phase
     c.slot_or_decide-self-inside.ensures told c.in_ok-reason.ensures.kept c.clear.ensures
     (record {
       replay = c.in_ok-reason.ensures.fits;
@@ -30,3 +30,4 @@ invariant_of-self-in-None c =
       entries = λ _. ap length found.added ∙ length-append old (found.entry ∷ []) ∙ ap (λ (n : ℕ). n + 1) (held.entries other);
       slots = λ fsck. absurd cc;
     })
+    (λ last plays. c.in_ok-reason.ensures.hand (c.plays_out-last.ensures.all plays last) c.in-None.is)

@@ -16,4 +16,4 @@ report_of-report-requires c =
     let phase : t.phase ≡ at.Decide = ap (λ (u : Task). u.phase) c.self.view_is ∙ c.requires.phase in
     let looked : IsInvariantAt at.Decide t = subst (λ (p : Phase). IsInvariantAt p t) phase c.self.invariant.held in
     let stands : IsSoundAt at.Decide (task_of t) = subst (λ (p : Phase). IsSoundAt p (task_of t)) phase c.self.invariant.sound.stands in
-    record { shown = some_shown t (ap (λ (u : Task). is_fsck u.cmd) c.self.view_is ∙ c.requires.fsck) stands.super.sound looked }
+    record { shown = some_shown t (ap (λ (u : Task). is_fsck u.cmd) c.self.view_is ∙ c.requires.fsck) stands.super.sound looked.0 }

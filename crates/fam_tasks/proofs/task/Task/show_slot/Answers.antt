@@ -6,6 +6,7 @@ use Rattle.fam_commands.specs.Task.{Task}
 use Rattle.fam_tasks.specs.declared.task.Task.TheInside.{Inside}
 use Rattle.fam_tasks.specs.Commands.{slots_told}
 use Rattle.fam_tasks.specs.Invariant.{HasLooked, IsInvariantAt}
+use Rattle.fam_tasks.proofs.Phases.{surveys_other}
 use Rattle.fam_tasks.proofs.SlotTurns.{behind_slot}
 use Rattle.fam_tasks.proofs.task.Task.show_slot.Goals as goal
 
@@ -24,3 +25,4 @@ invariant_of-self-2 c =
       entries = λ other. absurd cc;
       slots = λ _. c.in_ok-show.ensures.added ∙ ap (λ (n : ℕ). n + 1) (held.slots fsck);
     })
+    (λ last plays. absurd (let other = surveys_other t.cmd fsck in cc))
