@@ -112,7 +112,7 @@ six : (a b c d e f : List ℕ) → a ++ b ++ c ++ d ++ e ++ f ≡ a ++ (b ++ (c 
 six a b c d e f = simp append_assoc refl
 
 -- a command's text is its words, with a space between
-text_spaced : (cmd : Cmd) → cmd_text cmd ≡ name_word cmd ++ spaced (more_words cmd)
+pub text_spaced : (cmd : Cmd) → cmd_text cmd ≡ name_word cmd ++ spaced (more_words cmd)
 text_spaced Logplay = refl
 text_spaced Mount = refl
 text_spaced Fsck = refl
@@ -156,7 +156,7 @@ against_are content.Zero is = tt
 against_are (content.Seed seed) is = (keyed 115 (codes "eed=") (decimal seed) refl (decimal_no_blank seed is), tt)
 against_are (content.Bytes bytes) is = (keyed 98 (codes "ytes=") (decimal (length bytes)) refl (decimal_no_blank (length bytes) is), tt)
 
-more_are : (cmd : Cmd) → IsTelling cmd → AreWords (more_words cmd)
+pub more_are : (cmd : Cmd) → IsTelling cmd → AreWords (more_words cmd)
 more_are Logplay is = tt
 more_are Mount is = tt
 more_are Fsck is = tt
@@ -176,7 +176,7 @@ more_are (Read path offset count) is =
     (path_word path is.0, (decimal_word offset is.1, (decimal_word count (omega (arith, is.2)), tt)))
 more_are (Check entries) is = (decimal_word (length entries) is, tt)
 
-name_is : (cmd : Cmd) → IsOneWord (name_word cmd)
+pub name_is : (cmd : Cmd) → IsOneWord (name_word cmd)
 name_is Logplay = free (codes "logplay") refl
 name_is Mount = free (codes "mount") refl
 name_is Fsck = free (codes "fsck") refl

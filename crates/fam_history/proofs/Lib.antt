@@ -5,3 +5,8 @@ pub mod PrintedRefusals
 pub mod PrintedAnswers
 pub mod PrintedReports
 pub mod ByteSpellings
+pub mod ListedWords
+pub mod ExtentSpellings
+pub mod PrintedEntries
+pub mod PrintedNotes
+pub mod HostNumbers

@@ -288,7 +288,7 @@ answer_more (told.BadHeader (BadLog f found wanted)) = codes "log" ∷ log_field
 answer_more (told.BadSlot seq why) = codes "entry" ∷ decimal seq ∷ reason_first why ∷ reason_more why
 answer_more (told.MediaFault at) = codes "fault" ∷ decimal at ∷ []
 
-answer_spaced : (given : ToldAnswer) → told_answer_text given ≡ answer_first given ++ spaced (answer_more given)
+pub answer_spaced : (given : ToldAnswer) → told_answer_text given ≡ answer_first given ++ spaced (answer_more given)
 answer_spaced (told.Ok seq) = simp append-nil refl
 answer_spaced (told.NotAppended (cause.NotMaster me master)) = simp (append_assoc, append-nil) refl
 answer_spaced (told.NotAppended (cause.LongPath limit)) = simp append-nil refl
@@ -327,7 +327,7 @@ answer_spaced (told.BadHeader (BadLog f found wanted)) = simp (append_assoc, app
 answer_spaced (told.BadSlot seq why) = ap (λ (l : List ℕ). codes "bad entry " ++ (decimal seq ++ (codes " " ++ l))) (reason_spaced why)
 answer_spaced (told.MediaFault at) = simp append-nil refl
 
-answer_is : (given : ToldAnswer) → IsOneWord (answer_first given)
+pub answer_is : (given : ToldAnswer) → IsOneWord (answer_first given)
 answer_is (told.Ok seq) = free (codes "ok") refl
 answer_is (told.NotAppended (cause.NotMaster me master)) = free (codes "not") refl
 answer_is (told.NotAppended (cause.LongPath limit)) = free (codes "path") refl
@@ -354,7 +354,7 @@ answer_is (told.BadHeader (BadLog f found wanted)) = free (codes "bad") refl
 answer_is (told.BadSlot seq why) = free (codes "bad") refl
 answer_is (told.MediaFault at) = free (codes "media") refl
 
-answer_are : (given : ToldAnswer) → IsTellingAnswer given → AreWords (answer_more given)
+pub answer_are : (given : ToldAnswer) → IsTellingAnswer given → AreWords (answer_more given)
 answer_are (told.Ok seq) is = (decimal_word seq is, tt)
 answer_are (told.NotAppended (cause.NotMaster me master)) is = (free (codes "master") refl, (uuid_is_word me, (uuid_is_word master, tt)))
 answer_are (told.NotAppended (cause.LongPath limit)) is = (free (codes "too") refl, (free (codes "long") refl, (decimal_word limit is, tt)))

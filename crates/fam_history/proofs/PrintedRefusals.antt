@@ -14,7 +14,7 @@ use Rattle.fam_history.specs.ToldRefusals.{IsTellingRefusal, told_of_refusal}
 use Rattle.fam_history.proofs.Spaced.{file_back, file_is_word, free, name_back, name_is_word, placed_words, spaced, uuid_back, uuid_is_word}
 
 -- the first word of a refusal
-abbrev first_of : Refusal → List ℕ
+abbrev pub first_of : Refusal → List ℕ
 first_of why.NoHost = codes "no"
 first_of (why.SameHost host) = codes "same"
 first_of why.TooManyHosts = codes "too"
@@ -34,7 +34,7 @@ first_of (why.BadListing at) = codes "bad"
 first_of (why.MediaFault at) = codes "media"
 
 -- the words behind it
-abbrev more_of : List (List ℕ) → Refusal → List (List ℕ)
+abbrev pub more_of : List (List ℕ) → Refusal → List (List ℕ)
 more_of names why.NoHost = codes "host" ∷ []
 more_of names (why.SameHost host) = codes "host" ∷ host_name names host.0 ∷ []
 more_of names why.TooManyHosts = codes "many" ∷ codes "hosts" ∷ []
@@ -54,7 +54,7 @@ more_of names (why.BadListing at) = codes "listing" ∷ decimal at ∷ []
 more_of names (why.MediaFault at) = codes "fault" ∷ decimal at.0 ∷ []
 
 -- a refusal's text is its words, with a space between
-text_spaced : (names : List (List ℕ)) (cause : Refusal) → refusal_text names cause ≡ first_of cause ++ spaced (more_of names cause)
+pub text_spaced : (names : List (List ℕ)) (cause : Refusal) → refusal_text names cause ≡ first_of cause ++ spaced (more_of names cause)
 text_spaced names why.NoHost = refl
 text_spaced names (why.SameHost host) = simp append-nil refl
 text_spaced names why.TooManyHosts = refl
@@ -73,7 +73,7 @@ text_spaced names (why.CopyLimit sum) = simp append-nil refl
 text_spaced names (why.BadListing at) = simp append-nil refl
 text_spaced names (why.MediaFault at) = simp append-nil refl
 
-first_is : (cause : Refusal) → IsOneWord (first_of cause)
+pub first_is : (cause : Refusal) → IsOneWord (first_of cause)
 first_is why.NoHost = free (codes "no") refl
 first_is (why.SameHost host) = free (codes "same") refl
 first_is why.TooManyHosts = free (codes "too") refl
@@ -92,7 +92,7 @@ first_is (why.CopyLimit sum) = free (codes "copy") refl
 first_is (why.BadListing at) = free (codes "bad") refl
 first_is (why.MediaFault at) = free (codes "media") refl
 
-more_are : (names : List (List ℕ)) (cause : Refusal) → IsTellingRefusal names cause → AreWords (more_of names cause)
+pub more_are : (names : List (List ℕ)) (cause : Refusal) → IsTellingRefusal names cause → AreWords (more_of names cause)
 more_are names why.NoHost is = (free (codes "host") refl, tt)
 more_are names (why.SameHost host) is = (free (codes "host") refl, (name_is_word (host_name names host.0) is, tt))
 more_are names why.TooManyHosts is = (free (codes "many") refl, (free (codes "hosts") refl, tt))
@@ -111,7 +111,7 @@ more_are names (why.CopyLimit sum) is = (free (codes "limit") refl, (decimal_wor
 more_are names (why.BadListing at) is = (free (codes "listing") refl, (decimal_word at is, tt))
 more_are names (why.MediaFault at) is = (free (codes "fault") refl, (decimal_word at.0 is, tt))
 
-words_read : (names : List (List ℕ)) (cause : Refusal) (column end : ℕ) → IsTellingRefusal names cause
+pub words_read : (names : List (List ℕ)) (cause : Refusal) (column end : ℕ) → IsTellingRefusal names cause
     → refusal_line end (placed column (first_of cause ∷ more_of names cause)) ≡ Reads (told_of_refusal names cause) []
 unfolding refusal_line refusal_word
 words_read names why.NoHost column end is = refl

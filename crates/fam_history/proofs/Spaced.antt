@@ -27,7 +27,7 @@ spaced-append [] b = refl
 spaced-append (word ∷ words) b =
     ap (λ (l : List ℕ). 32 ∷ (word ++ l)) (spaced-append words b) ∙ ap (λ (l : List ℕ). 32 ∷ l) (sym (append_assoc word (spaced words) (spaced b)))
 
-joined : (word : List ℕ) (words : List (List ℕ)) → join_with_byte 32 (word ∷ words) ≡ word ++ spaced words
+pub joined : (word : List ℕ) (words : List (List ℕ)) → join_with_byte 32 (word ∷ words) ≡ word ++ spaced words
 joined word [] = sym (append-nil word)
 joined word (next ∷ words) = ap (λ (l : List ℕ). word ++ 32 ∷ l) (joined next words)
 

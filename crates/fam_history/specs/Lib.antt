@@ -9,3 +9,6 @@ pub mod Faults
 pub mod ByteWords
 pub mod Answers
 pub mod ReportLines
+pub mod ListedEntries
+pub mod Notes
+pub mod ToldNotes

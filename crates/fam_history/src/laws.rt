@@ -1,9 +1,11 @@
 //! Laws of what a history tells, with empty bodies.
 
-ghost use Rattle.std.specs.Prelude.{◌≡◌, ◌++◌, ◌<◌, ◌^◌, ℕ, [], List, Option, codes};
+ghost use Rattle.std.specs.Prelude.{◌≡◌, ◌++◌, ◌<◌, ◌^◌, ℕ, [], List, Option, Some, codes, length};
 ghost use Rattle.fam_base.specs.declared.cmd.Cmd.{Cmd};
 ghost use Rattle.fam_base.specs.declared.entry.Entry.{Entry};
 ghost use Rattle.fam_format.specs.Tree.{Tree};
+ghost use Rattle.fam_tree.specs.Lines.{entry_line};
+ghost use Rattle.fam_tree.specs.Listings.{IsListed};
 ghost use Rattle.fam_rules.specs.Checks.{checked};
 ghost use Rattle.fam_grammar.specs.Reading.{Reads};
 ghost use Rattle.fam_grammar.specs.Words.{words_from};
@@ -14,12 +16,15 @@ ghost use Rattle.fam_history.specs.Refusals.{refusal_line};
 ghost use Rattle.fam_history.specs.ToldAnswers.{IsTellingAnswer, answer_lines, answer_told, checked_told, told_answer_text};
 ghost use Rattle.fam_history.specs.ToldRefusals.{IsTellingRefusal, told_of_refusal};
 ghost use Rattle.fam_history.specs.declared.answer.ToldAnswer.{ToldAnswer};
-ghost use Rattle.fam_journal.specs.Notes.{Answer};
+ghost use Rattle.fam_history.specs.ListedEntries.{listed_entry};
+ghost use Rattle.fam_history.specs.Notes.{history_line, host_number};
+ghost use Rattle.fam_history.specs.ToldNotes.{AreDistinctNames, IsTellingNote, further_lines, head_line, line_told};
+ghost use Rattle.fam_journal.specs.Notes.{Answer, Note};
 ghost use Rattle.fam_journal.specs.declared.refusal.Refusal.{Refusal};
 ghost use Rattle.fam_format.specs.declared.faults.Reason.{Reason};
 ghost use Rattle.fam_history.specs.ReportLines.{bad_entry_line, files_line, log_state_line, overlap_line, past_line, superblock_line, units_line};
 ghost use Rattle.fam_history.specs.ToldReports.{IfTellingPair, IfTellingSlot, IsTellingLogState, IsTellingSuperState};
-ghost use Rattle.fam_outcomes.specs.Texts.{answer_text, bad_text, cmd_text, line, log_state_text, number, overlap_text, refusal_text, super_state_text};
+ghost use Rattle.fam_outcomes.specs.Texts.{answer_text, bad_text, cmd_text, host_name, line, log_state_text, note_line, number, overlap_text, refusal_text, super_state_text};
 ghost use Rattle.fam_rules.specs.declared.answers.LogState.{LogState};
 ghost use Rattle.fam_rules.specs.declared.answers.SuperState.{SuperState};
 
@@ -65,4 +70,25 @@ pub fn a_printed_report_reads()
         → bad_entry_line end (words_from column (bad_text slot)) ≡ Reads slot [] }
     ensures past { (n : ℕ) (column end : ℕ) → n < 2 ^ 64
         → past_line end (words_from column (codes "past gate" ++ number n)) ≡ Reads n [] }
+{}
+
+/// An entry in print reads as it is.
+pub fn a_printed_entry_reads()
+    ensures { (entry : Entry) (column end : ℕ) → IsListed entry
+        → listed_entry end (words_from column (entry_line entry)) ≡ Reads entry [] }
+{}
+
+/// The first line of a note reads as what is told of it (`reads`); and a note's lines are that line, and behind it those of an
+/// answer's listing or report (`prints`).
+pub fn a_printed_note_reads()
+    ensures reads { (names : List (List ℕ)) (note : Note) (column end : ℕ) → IsTellingNote names note
+        → history_line end (words_from column (head_line names note)) ≡ Reads (line_told names note) [] }
+    ensures prints { (names : List (List ℕ)) (note : Note)
+        → note_line names note ≡ line (head_line names note) ++ further_lines note }
+{}
+
+/// Where no two hosts have one name, a host's name gives its number.
+pub fn a_host_has_its_number()
+    ensures { (names : List (List ℕ)) (host : ℕ) → host < length names → AreDistinctNames names
+        → host_number names (host_name names host) ≡ Some host }
 {}
