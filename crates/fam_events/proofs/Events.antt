@@ -136,7 +136,7 @@ host_call name uuid = record {
   partly = λ lines hosts notes x. inl x;
 }
 
-pub mkfs_call : (name : List ℕ) (request : MkfsRequest) → IsCallOf (event.Mkfs name request.fs request.unit request.log request.format request.force request.halt) (call.Makes name request)
+pub mkfs_call : (name : List ℕ) (request : MkfsRequest) → IsCallOf (event.Mkfs name request) (call.Makes name request)
 mkfs_call name request = record {
   does = λ files old notes new x. x;
   shape = λ lines hosts notes x. x;

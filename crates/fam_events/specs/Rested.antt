@@ -18,7 +18,7 @@ IsUnstoredOf name numbered world = (h : ℕ) → number_in name numbered ≡ Som
 -- a host runs a command
 abbrev pub IsRun : Event → Type 0
 IsRun (event.Host name uuid) = ⊥
-IsRun (event.Mkfs name fs unit log format force halt) = ⊥
+IsRun (event.Mkfs name request) = ⊥
 IsRun (event.Begin name what) = ⊥
 IsRun (event.Run name what) = ⊤
 IsRun (event.Step name count) = ⊥

@@ -3,7 +3,6 @@ use Rattle.std.specs.Prelude.{ℕ, ◌≡◌}
 use Rattle.fam_base.specs.declared.cmd.Cmd.{Cmd}
 use Rattle.fam_commands.specs.Classes.{is_mount}
 use Rattle.fam_machine.specs.HostMoves as how
-use Rattle.fam_machine.specs.MkfsRequest.{mkfs_request}
 use Rattle.fam_journal.specs.Calls.{Begins, Finishes, Makes, Moves, Steps}
 use Rattle.fam_journal.specs.Events.{mounts}
 use Rattle.fam_journal.specs.declared.event.Event.{Event}
@@ -16,8 +15,8 @@ use Rattle.fam_world.specs.Answers.{IsUntouched}
 -- by any command that is one, or none. Hosts that are declared, begin, stop, halt or forget never come to the media.
 abbrev pub IsUntouchedBy : {M : Type 0} → Event → ℕ → WorldView → M → M → Type 0
 IsUntouchedBy (event.Host name uuid) lines world before behind = behind ≡ before
-IsUntouchedBy (event.Mkfs name fs unit log format force halt) lines world before behind =
-    IsUntouched (Makes name (mkfs_request fs unit log format force halt)) lines world before behind
+IsUntouchedBy (event.Mkfs name request) lines world before behind =
+    IsUntouched (Makes name request) lines world before behind
 IsUntouchedBy (event.Begin name what) lines world before behind = behind ≡ before
 IsUntouchedBy (event.Run name what) lines world before behind =
     (cmd : Cmd) → is_mount cmd ≡ mounts what → IsUntouched (Begins name cmd) lines world before behind

@@ -20,7 +20,6 @@ use crate::fault::EventFault;
 use crate::steps::step;
 use fam_base::HostName;
 use fam_journal::{Ask, Event};
-use fam_machine::MkfsRequest;
 use fam_media::{Media, Shelf};
 use fam_world::World;
 use std::alloc::Global;
@@ -144,25 +143,7 @@ pub fn happen<M: Media, S: Shelf>(
 {
     match event {
         Event::Host(name, uuid) => declare(world, &name, uuid),
-        Event::Mkfs {
-            name,
-            fs,
-            unit,
-            log,
-            format,
-            force,
-            halt,
-        } => {
-            let request = MkfsRequest {
-                fs,
-                unit,
-                log,
-                format,
-                force,
-                halt,
-            };
-            make(world, media, &name, request)
-        }
+        Event::Mkfs(name, request) => make(world, media, &name, request),
         Event::Begin(name, what) => {
             begin(alloc, world, media, shelf, copied, name, what.into_inner())
         }

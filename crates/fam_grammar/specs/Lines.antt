@@ -21,6 +21,7 @@ use Rattle.fam_grammar.specs.Options.{file_options, keyed, mkfs_options, no_file
 use Rattle.fam_grammar.specs.Reading.{Reading, Reads, word_of, then_reads, ends_with}
 use Rattle.fam_grammar.specs.Spellings.{count_of, file_of, mask_of, name_of, path_of, steps_of, uuid_of, value_behind}
 use Rattle.fam_grammar.specs.Words.{Word}
+use Rattle.fam_machine.specs.MkfsRequest.{mkfs_request}
 
 -- Commands.
 
@@ -142,7 +143,7 @@ mkfs_line end words =
     then_reads (word_of name_of end words) (λ name rest.
     then_reads (word_of uuid_of end rest) (λ fs rest.
     then_reads (mkfs_options no_mkfs_options rest) (λ o none.
-    Reads (event.Mkfs name fs (unwrap_or o.unit default_unit) (unwrap_or o.log default_log) (unwrap_or o.format first_number) o.force o.halt) none)))
+    Reads (event.Mkfs name (mkfs_request fs (unwrap_or o.unit default_unit) (unwrap_or o.log default_log) (unwrap_or o.format first_number) o.force o.halt)) none)))
 
 -- begin and run: NAME, a command
 abbrev pub begin_line : ℕ → List Word → Reading Event

@@ -17,7 +17,7 @@ IsSoundAsk (Check source) = ⊤
 -- its ask is within its limits, its format is one that there is, and some operations are done
 abbrev pub IsSoundEvent : Event → Type 0
 IsSoundEvent (event.Host name uuid) = ⊤
-IsSoundEvent (event.Mkfs name fs unit log format force halt) = IsTrue (is_format format)
+IsSoundEvent (event.Mkfs name request) = IsTrue (is_format request.format)
 IsSoundEvent (event.Begin name what) = IsSoundAsk what
 IsSoundEvent (event.Run name what) = IsSoundAsk what
 IsSoundEvent (event.Step name count) = 0 < count

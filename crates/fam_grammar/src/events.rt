@@ -15,6 +15,7 @@ use crate::words::{Line, Words};
 use fam_base::{Boxed, LineNo, Mask};
 use fam_format::FIRST_FORMAT;
 use fam_journal::Event;
+use fam_machine::MkfsRequest;
 use std::alloc::Global;
 
 fn host(words: &mut Words<'_>, line: Line) -> Result<Event, LineFault>
@@ -54,15 +55,15 @@ fn mkfs(words: &mut Words<'_>, line: Line) -> Result<Event, LineFault>
     let name = words.name(line)?;
     let fs = words.uuid(line)?;
     let options = mkfs_options(words, line)?;
-    Ok(Event::Mkfs {
-        name,
+    let request = MkfsRequest {
         fs,
         unit: options.unit.unwrap_or(DEFAULT_UNIT),
         log: options.log.unwrap_or(DEFAULT_LOG),
         format: options.format.unwrap_or(FIRST_FORMAT),
         force: options.force,
         halt: options.halt,
-    })
+    };
+    Ok(Event::Mkfs(name, request))
 }
 
 fn begin(alloc: Global, words: &mut Words<'_>, line: Line) -> Result<Event, LineFault>

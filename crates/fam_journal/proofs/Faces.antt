@@ -53,16 +53,8 @@ dirty_map maker i (x ∷ xs) = ap (λ (o : Option ℕ). if not (i == maker) && n
 
 -- all calls but the making of a file system, which looks at dirty lines
 abbrev pub IsNoMake : Call → Type 0
-IsNoMake (call.Declares name uuid) = ⊤
 IsNoMake (call.Makes name request) = ⊥
-IsNoMake (call.Begins name cmd) = ⊤
-IsNoMake (call.Steps name) = ⊤
-IsNoMake (call.Finishes name) = ⊤
-IsNoMake (call.Stops name) = ⊤
-IsNoMake (call.Halts name) = ⊤
-IsNoMake (call.Umounts name) = ⊤
-IsNoMake (call.Moves name line move) = ⊤
-IsNoMake (call.Refuses name cause) = ⊤
+IsNoMake c = ⊤
 
 module _ (a b : Machines) (alike : map face a.hosts ≡ map face b.hosts) where
   place : (t : Face → Bool) → index_of (λ x. t (face x)) a.hosts ≡ index_of (λ x. t (face x)) b.hosts

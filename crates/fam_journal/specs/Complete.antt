@@ -181,7 +181,7 @@ pub record CanEnd (h : ℕ) (state : Machines) : Type 0 where
 -- a command that is run and isn't refused ends in an answer
 abbrev pub RunAnswers : Event → List Note → Type 0
 RunAnswers (event.Host name uuid) notes = ⊤
-RunAnswers (event.Mkfs name fs unit log format force halt) notes = ⊤
+RunAnswers (event.Mkfs name request) notes = ⊤
 RunAnswers (event.Begin name what) notes = ⊤
 RunAnswers (event.Run name what) notes = EndsInAnswer notes ⊎ ((why : Refusal) × (notes ≡ Refused name why ∷ []))
 RunAnswers (event.Step name count) notes = ⊤

@@ -11,7 +11,6 @@ use Rattle.fam_media.specs.Files.{Files}
 use Rattle.fam_rules.specs.Asks.{entries_of}
 use Rattle.fam_journal.specs.declared.event.Event.{Event}
 use Rattle.fam_machine.specs.Mkfs.{asked, first_sent}
-use Rattle.fam_machine.specs.MkfsRequest.{mkfs_request}
 use Rattle.fam_journal.specs.declared.event.Event.TheVariants as event
 use Rattle.fam_journal.specs.declared.refusal.Refusal.{Refusal}
 use Rattle.fam_journal.specs.Calls as call
@@ -137,8 +136,8 @@ CutCallReads (call.Refuses name cause) begun state after = ⊥
 
 -- so it is behind an event of a script that a media fault cut
 abbrev pub CutEventReads : Event → Session → State → Image → Type 0
-CutEventReads (event.Mkfs name fs unit log format force halt) begun state after =
-    CutCallReads (call.Makes name (mkfs_request fs unit log format force halt)) begun.machines state after
+CutEventReads (event.Mkfs name request) begun state after =
+    CutCallReads (call.Makes name request) begun.machines state after
 CutEventReads (event.Host name uuid) begun state after = ⊥
 CutEventReads (event.Begin name what) begun state after = ⊥
 CutEventReads (event.Run name what) begun state after = ⊥

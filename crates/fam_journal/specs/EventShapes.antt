@@ -4,7 +4,6 @@ use Rattle.fam_base.specs.declared.cmd.Cmd.{Cmd}
 use Rattle.fam_base.specs.declared.cmd.Cmd.TheVariants as cmd
 use Rattle.fam_base.specs.declared.cmd.Content.TheVariants as content
 use Rattle.fam_base.specs.declared.entry.Entry.{Entry}
-use Rattle.fam_machine.specs.MkfsRequest.{mkfs_request}
 use Rattle.fam_machine.specs.HostMoves.{Evict, Leak, Fetch}
 use Rattle.fam_journal.specs.declared.event.Ask.{Ask}
 use Rattle.fam_journal.specs.declared.event.Ask.TheVariants as ask
@@ -97,7 +96,7 @@ StepShape count name lines hosts notes =
 -- what an event adds after which the run goes on
 abbrev pub EventShape : Event → ℕ → List HostShape → List Note → Type 0
 EventShape (event.Host name uuid) lines hosts notes = DoesShape (call.Declares name uuid) lines hosts notes
-EventShape (event.Mkfs name fs unit log format force halt) lines hosts notes = DoesShape (call.Makes name (mkfs_request fs unit log format force halt)) lines hosts notes
+EventShape (event.Mkfs name request) lines hosts notes = DoesShape (call.Makes name request) lines hosts notes
 EventShape (event.Begin name what) lines hosts notes = BeginForm NoMore name what lines hosts notes
 EventShape (event.Run name what) lines hosts notes = BeginForm CompletesShape name what lines hosts notes
 EventShape (event.Step name count) lines hosts notes = StepShape count name lines hosts notes
@@ -112,7 +111,7 @@ EventShape (event.Fetch name line mask) lines hosts notes = DoesShape (call.Move
 -- a media fault cuts an event behind which nothing goes on
 abbrev pub EventBreaksShape : Event → ℕ → List HostShape → List Note → Type 0
 EventBreaksShape (event.Host name uuid) lines hosts notes = ⊥
-EventBreaksShape (event.Mkfs name fs unit log format force halt) lines hosts notes = BreaksShape (call.Makes name (mkfs_request fs unit log format force halt)) lines hosts notes
+EventBreaksShape (event.Mkfs name request) lines hosts notes = BreaksShape (call.Makes name request) lines hosts notes
 EventBreaksShape (event.Begin name what) lines hosts notes = ⊥
 EventBreaksShape (event.Run name what) lines hosts notes = ⊥
 EventBreaksShape (event.Step name count) lines hosts notes = ⊥
@@ -127,7 +126,7 @@ EventBreaksShape (event.Fetch name line mask) lines hosts notes = ⊥
 -- no memory was left for an operation of an event: of its operations some were done, and its command has not answered
 abbrev pub EventPartShape : Event → ℕ → List HostShape → List Note → Type 0
 EventPartShape (event.Host name uuid) lines hosts notes = ⊥
-EventPartShape (event.Mkfs name fs unit log format force halt) lines hosts notes = ⊥
+EventPartShape (event.Mkfs name request) lines hosts notes = ⊥
 EventPartShape (event.Begin name what) lines hosts notes = ⊥
 EventPartShape (event.Run name what) lines hosts notes = StartShape UnfinishedShape name what lines hosts notes
 EventPartShape (event.Step name count) lines hosts notes = SomeShape name lines hosts notes × (length notes ≤ count)

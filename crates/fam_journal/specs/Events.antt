@@ -7,7 +7,6 @@ use Rattle.fam_base.specs.declared.cmd.Content.TheVariants as content
 use Rattle.fam_base.specs.declared.entry.Entry.{Entry}
 use Rattle.fam_base.specs.Image.{Image}
 use Rattle.fam_commands.specs.Classes.{is_mount}
-use Rattle.fam_machine.specs.MkfsRequest.{mkfs_request}
 use Rattle.fam_media.specs.Files.{Files}
 use Rattle.fam_protocol.specs.Tasks.{IsCommand}
 use Rattle.fam_journal.specs.declared.event.Ask.{Ask}
@@ -147,7 +146,7 @@ pub record MayNotStep (name : List ℕ) (old : Session) (notes : List Note) (new
 -- what an event does after which the run goes on
 abbrev pub DoesEvent : Files → Event → Session → List Note → Session → Type 0
 DoesEvent files (event.Host name uuid) old notes new = Calls (call.Declares name uuid) old notes new
-DoesEvent files (event.Mkfs name fs unit log format force halt) old notes new = Calls (call.Makes name (mkfs_request fs unit log format force halt)) old notes new
+DoesEvent files (event.Mkfs name request) old notes new = Calls (call.Makes name request) old notes new
 DoesEvent files (event.Begin name what) old notes new = CommandBegins files name what old notes new ⊎ RefusesEvent files name what old notes new
 DoesEvent files (event.Run name what) old notes new = Continues Completes files name what old notes new ⊎ RefusesEvent files name what old notes new
 DoesEvent files (event.Step name count) old notes new = StepsBy (λ h. DoesOperations h count) name old notes new ⊎ MayNotStep name old notes new
@@ -162,8 +161,8 @@ DoesEvent files (event.Fetch name line mask) old notes new = Calls (call.Moves n
 -- a media fault cuts an event behind which nothing goes on: making a file system
 abbrev pub BreaksEvent : Event → Session → List Note → Session → Type 0
 BreaksEvent (event.Host name uuid) old notes new = ⊥
-BreaksEvent (event.Mkfs name fs unit log format force halt) old notes new =
-    CutCall (call.Makes name (mkfs_request fs unit log format force halt)) old.machines notes new.machines × (new.copied ≡ old.copied)
+BreaksEvent (event.Mkfs name request) old notes new =
+    CutCall (call.Makes name request) old.machines notes new.machines × (new.copied ≡ old.copied)
 BreaksEvent (event.Begin name what) old notes new = ⊥
 BreaksEvent (event.Run name what) old notes new = ⊥
 BreaksEvent (event.Step name count) old notes new = ⊥
@@ -184,7 +183,7 @@ pub record AtMost (limit h : ℕ) (old : Machines) (notes : List Note) (new : Ma
 -- Making a file system takes all its room first, and other events are done whole
 abbrev pub PartOf : Files → Event → Session → List Note → Session → Type 0
 PartOf files (event.Host name uuid) old notes new = ⊥
-PartOf files (event.Mkfs name fs unit log format force halt) old notes new = ⊥
+PartOf files (event.Mkfs name request) old notes new = ⊥
 PartOf files (event.Begin name what) old notes new = ⊥
 PartOf files (event.Run name what) old notes new = Continues Unfinished files name what old notes new
 PartOf files (event.Step name count) old notes new = StepsBy (AtMost count) name old notes new
@@ -204,7 +203,7 @@ named_source name (Some source) = Some (name, source)
 -- the host and the source of an event that reads one
 abbrev pub event_source : Event → Option (List ℕ × List ℕ)
 event_source (event.Host name uuid) = None
-event_source (event.Mkfs name fs unit log format force halt) = None
+event_source (event.Mkfs name request) = None
 event_source (event.Begin name what) = named_source name (source_of what)
 event_source (event.Run name what) = named_source name (source_of what)
 event_source (event.Step name count) = None

@@ -23,7 +23,6 @@ use Rattle.fam_journal.specs.Ends.{Ending, AllDone, MkfsFails, SourceFails, Ends
 use Rattle.fam_rules.specs.Asks.{File}
 use Rattle.fam_rules.specs.Reply.{Reply}
 use Rattle.fam_journal.specs.Calls.{IsSoundRequest}
-use Rattle.fam_machine.specs.MkfsRequest.{mkfs_request}
 use Rattle.fam_journal.specs.Legal.{Legal}
 use Rattle.fam_journal.specs.Notes.{Note, Answered, Replied}
 use Rattle.fam_journal.specs.Past.{Damage, Given, HostPast, Past, State, Bad, Sound, reply_count, first_state, past_of, with_pending}
@@ -98,7 +97,7 @@ pub record AreSame (notes other : List Note) (state left : Session) : Type 0 whe
 -- an event's UUIDs are such, and its format is one
 abbrev pub IsValidEvent : Event → Type 0
 IsValidEvent (event.Host name uuid) = IsUuid uuid
-IsValidEvent (event.Mkfs name fs unit log format force halt) = IsSoundRequest (mkfs_request fs unit log format force halt)
+IsValidEvent (event.Mkfs name request) = IsSoundRequest request
 IsValidEvent (event.Begin name what) = ⊤
 IsValidEvent (event.Run name what) = ⊤
 IsValidEvent (event.Step name count) = ⊤

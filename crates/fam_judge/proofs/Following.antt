@@ -6,7 +6,6 @@ use Rattle.fam_base.specs.declared.cmd.Cmd.{Cmd}
 use Rattle.fam_base.specs.PathOrder.{path_eq}
 use Rattle.fam_machine.specs.declared.request.MkfsRequest.{MkfsRequest}
 use Rattle.fam_machine.specs.HostMoves.{Evict, Fetch, Leak, Move}
-use Rattle.fam_machine.specs.MkfsRequest.{mkfs_request}
 use Rattle.fam_journal.specs.declared.event.Ask.{Ask}
 use Rattle.fam_journal.specs.declared.event.Event.{Event}
 use Rattle.fam_journal.specs.declared.event.Event.TheVariants as event
@@ -17,7 +16,7 @@ use Rattle.fam_journal.specs.Events.{mounts}
 use Rattle.fam_journal.specs.EventShapes.{EventShape, FollowsShape, NoMore, StartShape, StepsShape, UnfitNotes}
 use Rattle.fam_journal.specs.Laws.{AreSound, IsValidEvent}
 use Rattle.fam_journal.specs.Members.{changed_at, index_from}
-use Rattle.fam_journal.specs.Notes.{Note, Host, Made, Cut, Start, Mark, Found, Writes, Answered, Stop, Halt, Umount, Refused}
+use Rattle.fam_journal.specs.Notes.{Note, Host, Start, Mark, Found, Writes, Answered, Stop, Halt, Umount, Refused}
 use Rattle.fam_journal.specs.Shapes.{ActsShape, AtShape, CompletesShape, DirtyShape, DoesShape, FreeShape, HostActsShape, HostShape, OfHostShape, OfRunning, OfTask, OperationsShape, ShapeByRefusal, TaskNote, TaskShape, refusal_told, shapes_after, shapes_behind, shown_shape, shown_shapes}
 use Rattle.fam_judge.specs.Formed.{AreFormed, HavePlaces, AreSoundNotes}
 use Rattle.fam_judge.proofs.Forming.{task_formed}
@@ -38,18 +37,11 @@ started_number lines name h cmd hosts = names_at name h _ (λ x. refl) hosts 0
 
 task_number : (lines : ℕ) (name : List ℕ) (h : ℕ) (me : List ℕ) (t : TaskShape) (hosts : List HostShape) (note : Note) → TaskNote h me t note
     → number_of name (shown_shapes lines (shapes_after hosts note)) ≡ number_of name (shown_shapes lines hosts)
-task_number lines name h me t hosts (Host own uuid) is = absurd is
-task_number lines name h me t hosts (Made host p) is = absurd is
-task_number lines name h me t hosts (Cut host k) is = absurd is
-task_number lines name h me t hosts (Start host cmd) is = absurd is
 task_number lines name h me t hosts (Mark host) is = names_at name host _ (λ x. refl) hosts 0
 task_number lines name h me t hosts (Found host n) is = names_at name host _ (λ x. refl) hosts 0
 task_number lines name h me t hosts (Writes host seq entry) is = names_at name host _ (λ x. refl) hosts 0
 task_number lines name h me t hosts (Answered host answer) is = names_at name host _ (λ x. refl) hosts 0
-task_number lines name h me t hosts (Stop host) is = absurd is
-task_number lines name h me t hosts (Halt host) is = absurd is
-task_number lines name h me t hosts (Umount host) is = absurd is
-task_number lines name h me t hosts (Refused own cause) is = absurd is
+task_number lines name h me t hosts note is = absurd is
 
 -- Notes of a running command.
 
@@ -193,9 +185,8 @@ module _ (lines : ℕ) where
       → AreSoundNotes notes → HavePlaces hosts notes → AreFormed lines hosts notes
   event_formed hosts (event.Host name uuid) notes valid is sound placed =
       alone hosts (event.Host name uuid) notes valid is (few_does lines hosts notes (call.Declares name uuid) (few_one (Host name uuid) notes) is) sound placed
-  event_formed hosts (event.Mkfs name fs unit log format force halt) notes valid is sound placed =
-      let request : MkfsRequest = mkfs_request fs unit log format force halt in
-      alone hosts (event.Mkfs name fs unit log format force halt) notes valid is
+  event_formed hosts (event.Mkfs name request) notes valid is sound placed =
+      alone hosts (event.Mkfs name request) notes valid is
       (few_does lines hosts notes (call.Makes name request) (few_made lines hosts notes name request) is) sound placed
   event_formed hosts (event.Begin name what) notes valid is sound placed =
       alone hosts (event.Begin name what) notes valid is

@@ -7,24 +7,17 @@ use Rattle.fam_journal.specs.declared.refusal.Refusal.TheVariants as why
 use Rattle.fam_journal.specs.declared.event.Event.TheVariants as event
 use Rattle.fam_journal.specs.Calls.{busy_at, idle_refusal, is_busy_host, number_of, on_host, when}
 use Rattle.fam_journal.specs.EventShapes.{StepsShape}
-use Rattle.fam_journal.specs.Notes.{Note, Host, Made, Cut, Start, Mark, Found, Writes, Answered, Stop, Halt, Umount, Refused}
+use Rattle.fam_journal.specs.Notes.{Note, Mark, Found, Writes, Answered}
 use Rattle.fam_journal.specs.Shapes.{HostShape, OfRunning, OfTask, OperationsShape, ShapeByRefusal, TaskNote, TaskShape, shown_running, shown_shape, shown_shapes}
 use Rattle.fam_judge.specs.Formed.{IsFormedNote, HasPlace, IsSoundNote}
 
 -- a running command begins no other
 task_sound : (h : ℕ) (me : List ℕ) (t : TaskShape) (note : Note) → TaskNote h me t note → IsSoundNote note
-task_sound h me t (Host name uuid) is = absurd is
-task_sound h me t (Made host p) is = absurd is
-task_sound h me t (Cut host k) is = absurd is
-task_sound h me t (Start host cmd) is = absurd is
 task_sound h me t (Mark host) is = tt
 task_sound h me t (Found host n) is = tt
 task_sound h me t (Writes host seq entry) is = tt
 task_sound h me t (Answered host answer) is = tt
-task_sound h me t (Stop host) is = absurd is
-task_sound h me t (Halt host) is = absurd is
-task_sound h me t (Umount host) is = absurd is
-task_sound h me t (Refused name cause) is = absurd is
+task_sound h me t note is = absurd is
 
 module _ (lines : ℕ) (hosts : List HostShape) (name : List ℕ) (h : ℕ) (host : HostShape) (t : TaskShape)
     (number : number_of name (shown_shapes lines hosts) ≡ Some h) (declared : slice_get hosts h ≡ Some host) (runs : host.task ≡ Some t) where

@@ -4,7 +4,7 @@ use Rattle.std.proofs.lemmas.Option.{same_Some}
 use Rattle.fam_base.specs.declared.cmd.Cmd.{Cmd}
 use Rattle.fam_base.specs.declared.cmd.Cmd.TheVariants as cmd
 use Rattle.fam_base.specs.declared.cmd.Content.TheVariants as content
-use Rattle.fam_journal.specs.Notes.{Note, Host, Made, Cut, Start, Mark, Found, Writes, Answered, Stop, Halt, Umount, Refused}
+use Rattle.fam_journal.specs.Notes.{Note, Start}
 use Rattle.fam_history.specs.Told.{told_of_command}
 use Rattle.fam_judge.specs.Alike.{AreAlikeNotes, AreWhollyTold, ToldNote, told_note, whole_command, whole_note}
 
@@ -27,18 +27,8 @@ command_back h (cmd.Check entries) note e = absurd (none_is_some note e)
 
 -- so of a note
 note_back : (m note : Note) → whole_note (told_note m) ≡ Some note → m ≡ note
-note_back (Host name uuid) note e = same_Some (Host name uuid) note e
-note_back (Made h p) note e = same_Some (Made h p) note e
-note_back (Cut h k) note e = same_Some (Cut h k) note e
 note_back (Start h c) note e = command_back h c note e
-note_back (Mark h) note e = same_Some (Mark h) note e
-note_back (Found h n) note e = same_Some (Found h n) note e
-note_back (Writes h seq entry) note e = same_Some (Writes h seq entry) note e
-note_back (Answered h answer) note e = same_Some (Answered h answer) note e
-note_back (Stop h) note e = same_Some (Stop h) note e
-note_back (Halt h) note e = same_Some (Halt h) note e
-note_back (Umount h) note e = same_Some (Umount h) note e
-note_back (Refused name cause) note e = same_Some (Refused name cause) note e
+note_back m note e = same_Some m note e
 
 -- equal lists have equal first members
 pub heads : (a b : ToldNote) (xs ys : List ToldNote) → a ∷ xs ≡ b ∷ ys → a ≡ b

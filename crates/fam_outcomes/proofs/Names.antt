@@ -29,7 +29,7 @@ use Rattle.fam_journal.specs.Members.{changed_at, index_from, index_of}
 use Rattle.fam_machine.specs.Mkfs.{EarlyRefusal, early_refusal}
 use Rattle.fam_machine.specs.Mkfs as early
 use Rattle.fam_journal.specs.Names.{AreNamed, NamesHost, NameDeclared, NamesCause, declared_after}
-use Rattle.fam_journal.specs.Notes.{Note, Host, Start, Mark, Writes, Stop, Refused}
+use Rattle.fam_journal.specs.Notes.{Note, Host, Start, Mark, Writes, Refused}
 use Rattle.fam_journal.specs.Past.{HostPast, Past, hosts_after, past_after, past_behind}
 use Rattle.fam_outcomes.specs.Texts.{names_after, names_behind, note_line, render, render_behind}
 
@@ -322,14 +322,7 @@ module _ (old : Machines) (notes : List Note) (new : Machines) where
   acts_named (call.Declares name uuid) may x =
       named_as old new _ notes _ x.0 x.1 (record { named = (tt, tt); count = length-append old.hosts (record { name = name; uuid = uuid; cache = finmap.empty; task = None; kept = None } ∷ []) })
   acts_named (call.Refuses name cause) may x = named_as old new _ notes _ x.0 x.1 (named_same old old _ refl (may, tt) refl)
-  acts_named (call.Makes name request) may x = at_number_named (call.Makes name request) (number_of name old) x
-  acts_named (call.Begins name cmd) may x = at_number_named (call.Begins name cmd) (number_of name old) x
-  acts_named (call.Steps name) may x = at_number_named (call.Steps name) (number_of name old) x
-  acts_named (call.Finishes name) may x = at_number_named (call.Finishes name) (number_of name old) x
-  acts_named (call.Stops name) may x = at_number_named (call.Stops name) (number_of name old) x
-  acts_named (call.Halts name) may x = at_number_named (call.Halts name) (number_of name old) x
-  acts_named (call.Umounts name) may x = at_number_named (call.Umounts name) (number_of name old) x
-  acts_named (call.Moves name line move) may x = at_number_named (call.Moves name line move) (number_of name old) x
+  acts_named c may x = at_number_named c (number_of (asked_name c) old) x
 
   -- the notes of a row name declared hosts
   pub does_named : (c : Call) → CallNames old c → Does c old notes new → Named old notes new

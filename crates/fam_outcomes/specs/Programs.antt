@@ -80,7 +80,7 @@ path_prefixes path = prefixes_behind [] path
 
 -- what the one host does
 abbrev pub shot_events : List ℕ → OneShot → List Event
-shot_events name (Makes request) = event.Mkfs name request.fs request.unit request.log request.format request.force request.halt ∷ []
+shot_events name (Makes request) = event.Mkfs name request ∷ []
 shot_events name (Runs what) = event.Run name what ∷ []
 shot_events name (MakesParents path attr) = map (λ prefix. event.Run name (ask.Plain (cmd.Mkdir prefix attr))) (path_prefixes path)
 

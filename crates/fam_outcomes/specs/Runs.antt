@@ -50,7 +50,7 @@ pub record NoneRose (out : Outside) : Type 0 where
 -- a mkfs for the host of this name
 abbrev pub IsMkfsOf : List ℕ → Event → Type 0
 IsMkfsOf own (event.Host name uuid) = ⊥
-IsMkfsOf own (event.Mkfs name fs unit log format force halt) = name ≡ own
+IsMkfsOf own (event.Mkfs name request) = name ≡ own
 IsMkfsOf own (event.Begin name what) = ⊥
 IsMkfsOf own (event.Run name what) = ⊥
 IsMkfsOf own (event.Step name count) = ⊥

@@ -24,7 +24,7 @@ EventsEnded (Err fault) out events journal = HasEnded (ending_of fault) out even
 -- an event of a command on its own: a mkfs or a run
 abbrev pub IsShotEvent : Event → Type 0
 IsShotEvent (event.Host name uuid) = ⊤
-IsShotEvent (event.Mkfs name fs unit log format force halt) = ⊤
+IsShotEvent (event.Mkfs name request) = ⊤
 IsShotEvent (event.Begin name what) = ⊥
 IsShotEvent (event.Run name what) = ⊤
 IsShotEvent (event.Step name count) = ⊥

@@ -155,16 +155,7 @@ pub fn make_file_system<M: Media, S: Shelf, K: Sink>(
     ensures later { (K.state out.old).faults ≤ (K.state out.new).faults }
 {
     let name = own_name();
-    let making = Event::Mkfs {
-        name,
-        fs: request.fs,
-        unit: request.unit,
-        log: request.log,
-        format: request.format,
-        force: request.force,
-        halt: request.halt,
-    };
-    let Ok(events) = two_events(alloc, name, me, making) else {
+    let Ok(events) = two_events(alloc, name, me, Event::Mkfs(name, request)) else {
         return put_memory(out);
     };
     let mut world = World::new(alloc);

@@ -26,6 +26,7 @@ use Rattle.fam_journal.proofs.Calls.Shown.{refusal_shown}
 use Rattle.fam_journal.proofs.Calls.WorldRows.{row_done}
 use Rattle.fam_journal.proofs.Runs.Following.{broken_state}
 use Rattle.fam_samples.specs.Caller.{ComesTo, ComesToCut, CutTrace, Trace, OutOfMemoryTrace, Wishes, events}
+use Rattle.fam_machine.specs.MkfsRequest.{mkfs_request}
 
 module _ (start : Image) (state : Machines) (old : WorldView) (held : Held start state old state.memory) where
   lines_are : length state.memory ≡ length start
@@ -196,7 +197,7 @@ module _ (start : Image) (files : Files) (w : Wishes) (image : IsImage start) wh
         last = at_session m2.state;
         follows = record {
           count = 1;
-          event = event.Mkfs w.name w.fs 4096 65536 1 false None;
+          event = event.Mkfs w.name (mkfs_request w.fs 4096 65536 1 false None);
           is = refl;
           mid = at_session m1.state;
           whole_notes = m1.notes;
@@ -207,8 +208,8 @@ module _ (start : Image) (files : Files) (w : Wishes) (image : IsImage start) wh
         };
         left = m2.told_is;
         legal = m2.legal;
-        reads = subst (λ (s : State). CutEventReads (event.Mkfs w.name w.fs 4096 65536 1 false None) (at_session m1.state) s m2.state.memory)
-            (sym (broken_state start (event.Mkfs w.name w.fs 4096 65536 1 false None) (at_session m1.state) (at_session m2.state) t.declared.journal
+        reads = subst (λ (s : State). CutEventReads (event.Mkfs w.name (mkfs_request w.fs 4096 65536 1 false None)) (at_session m1.state) s m2.state.memory)
+            (sym (broken_state start (event.Mkfs w.name (mkfs_request w.fs 4096 65536 1 false None)) (at_session m1.state) (at_session m2.state) t.declared.journal
             m2.notes t.cut.world.journal (m2.row, refl) m2.joined)) m2.reads;
       }
 

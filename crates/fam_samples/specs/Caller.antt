@@ -61,7 +61,7 @@ pub record Trace (start : Image) (w : Wishes) : Type 0 where
 -- the events of a script that these calls run
 abbrev pub events : Wishes → List Event
 events w =
-    event.Host w.name w.uuid ∷ event.Mkfs w.name w.fs 4096 65536 1 false None ∷ event.Begin w.name (ask.Plain w.cmd) ∷ event.Step w.name 1 ∷ event.Finish w.name ∷ event.Evict w.name w.line ∷ event.Halt w.name ∷ []
+    event.Host w.name w.uuid ∷ event.Mkfs w.name (mkfs_request w.fs 4096 65536 1 false None) ∷ event.Begin w.name (ask.Plain w.cmd) ∷ event.Step w.name 1 ∷ event.Finish w.name ∷ event.Evict w.name w.line ∷ event.Halt w.name ∷ []
 
 -- a world that is held, at the last state of events with this ending, whose notes are its journal; and the media has its image
 pub record ComesTo (start : Image) (ending : Ending) (files : Files) (events : List Event) (world : WorldView) (told : Option Image) : Type 0 where

@@ -23,6 +23,7 @@ use Rattle.fam_journal.specs.Shapes.{HostShape, shapes_after}
 use Rattle.fam_journal.specs.Machines.{HostState, Machines, TaskState, task_begun}
 use Rattle.fam_journal.specs.Notes.{Note, Host, Made, Cut, Start, Mark, Found, Writes, Answered, Halt, Refused, Replied}
 use Rattle.fam_journal.specs.Past.{Bad, Damage, Given, Past, State, new_host, past_of}
+use Rattle.fam_machine.specs.MkfsRequest.{mkfs_request}
 
 -- a UUID of zeros and this last byte
 abbrev pub uuid : ℕ → List ℕ
@@ -166,8 +167,8 @@ ten_events =
     ∷ event.Finish (codes "m")
     ∷ event.Evict (codes "m") (record { 0 = 0 })
     ∷ event.Halt (codes "m")
-    ∷ event.Mkfs (codes "m") (uuid 255) 5000 8388608 1 false None
-    ∷ event.Mkfs (codes "m") (uuid 255) 4096 65536 1 false None ∷ []
+    ∷ event.Mkfs (codes "m") (mkfs_request (uuid 255) 5000 8388608 1 false None)
+    ∷ event.Mkfs (codes "m") (mkfs_request (uuid 255) 4096 65536 1 false None) ∷ []
 
 -- the notes that they come to
 abbrev pub ten_notes : List Note

@@ -4,7 +4,7 @@ use Rattle.std.specs.Prelude.{⊤, ◌==◌, ◌||◌, is_some, nat_lt}
 use Rattle.std.specs.List.{list_any}
 use Rattle.fam_base.specs.declared.entry.Params.{Params}
 use Rattle.fam_journal.specs.Ends.{is_made_note}
-use Rattle.fam_journal.specs.Notes.{Answer, Replied, MediaFault, Note, Host, Made, Cut, Start, Mark, Found, Writes, Answered, Stop, Halt, Umount, Refused}
+use Rattle.fam_journal.specs.Notes.{Answer, Replied, MediaFault, Note, Made, Cut, Found, Writes, Answered}
 use Rattle.fam_journal.specs.Past as past
 use Rattle.fam_journal.specs.Past.{Bad, Past, Sound, State, past_after, past_behind, past_of, state_after, with_pending}
 use Rattle.fam_format.specs.declared.faults.SuperFault.TheVariants as super
@@ -107,19 +107,8 @@ cut_told k state = go (nat_lt k first_sent) state
 
 -- behind a note that makes no file system
 unmade : (note : Note) → is_made_note note ≡ false → (o : Option Settled) → later_by (continued note) o ≡ length_after note o
-unmade note none (Some s) = refl
-unmade (Host name uuid) none None = refl
 unmade (Made h p) none None = cc
-unmade (Cut h k) none None = refl
-unmade (Start h cmd) none None = refl
-unmade (Mark h) none None = refl
-unmade (Found h n) none None = refl
-unmade (Writes h seq e) none None = refl
-unmade (Answered h answer) none None = refl
-unmade (Stop h) none None = refl
-unmade (Halt h) none None = refl
-unmade (Umount h) none None = refl
-unmade (Refused name cause) none None = refl
+unmade note none None = refl
 
 -- what goes on with what was told
 as_later : (f : Settled → Settled) (o : Option Settled) → later f o ≡ later_by (λ s. Some (f s)) o

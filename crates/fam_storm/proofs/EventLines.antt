@@ -31,6 +31,7 @@ use Rattle.fam_storm.specs.Draws.{after, drawn}
 use Rattle.fam_storm.specs.Events.{IsEventLine}
 use Rattle.fam_storm.specs.Storm.{Round, Words, append_round, begin_words, begun_words, cache_round, client, client_step_words, client_round, creat_words, cut_round, end_lines, evict_words, fetch_words, finish_words, front_lines, leak_words, line_number, line_text, logplay_words, mkdir_words, seed_word, step_words, storm_lines, round, round_of, rounds, verify_words}
 use Rattle.fam_storm.proofs.PlainWords.{path_read}
+use Rattle.fam_machine.specs.MkfsRequest.{mkfs_request}
 
 -- Words: no blank in them, no carriage return and no line feed.
 
@@ -352,7 +353,7 @@ mkfs_line : IsWholeLine (codes "mkfs" ∷ codes "m" ∷ codes "00000000-0000-000
 unfolding event_line event_word is_host_name by_index mkfs_option_of size_of_text number_of_text AreGood
 mkfs_line =
     event_is (codes "mkfs" ∷ codes "m" ∷ codes "00000000-0000-0000-0000-0000000000ff" ∷ codes "unit=4096" ∷ codes "log=65536" ∷ codes "force" ∷ [])
-    (event.Mkfs (codes "m") (0 ∷ 0 ∷ 0 ∷ 0 ∷ 0 ∷ 0 ∷ 0 ∷ 0 ∷ 0 ∷ 0 ∷ 0 ∷ 0 ∷ 0 ∷ 0 ∷ 0 ∷ 255 ∷ []) 4096 65536 1 true None)
+    (event.Mkfs (codes "m") (mkfs_request (0 ∷ 0 ∷ 0 ∷ 0 ∷ 0 ∷ 0 ∷ 0 ∷ 0 ∷ 0 ∷ 0 ∷ 0 ∷ 0 ∷ 0 ∷ 0 ∷ 0 ∷ 255 ∷ []) 4096 65536 1 true None))
     (literal _ _ refl, (literal _ _ refl, (literal _ _ refl, (literal _ _ refl, (literal _ _ refl, (literal _ _ refl, tt)))))) refl refl
     (λ end. rw (uuid_read (codes "00000000-0000-0000-0000-0000000000ff") (0 ∷ 0 ∷ 0 ∷ 0 ∷ 0 ∷ 0 ∷ 0 ∷ 0 ∷ 0 ∷ 0 ∷ 0 ∷ 0 ∷ 0 ∷ 0 ∷ 0 ∷ 255 ∷ []) refl refl) refl)
 

@@ -1,6 +1,6 @@
 -- Whole events, one after another: the image is the fold of the notes, nothing is pending, and answers are of all of it.
 use Prim.Native.Nat.{zero, suc}
-use Rattle.std.proofs.Common.{◌≡◌, ℕ, ◌*◌, ◌≤◌, inl, inr, List, [], ◌∷◌, ◌++◌, length, map, Option, Some, None, refl, ap, ap₂, sym, ◌∙◌, subst, Bool}
+use Rattle.std.proofs.Common.{◌≡◌, ℕ, ◌*◌, ◌≤◌, inl, inr, List, [], ◌∷◌, ◌++◌, length, map, Option, Some, None, refl, ap, ap₂, sym, ◌∙◌, subst}
 use Rattle.std.specs.Prelude.{slice_get}
 use Rattle.std.specs.FinMap as finmap
 use Rattle.std.proofs.lemmas.Bool.{cases_eq}
@@ -11,7 +11,6 @@ use Rattle.fam_base.specs.declared.entry.Params.{Params}
 use Rattle.fam_base.specs.Image.{Image, eight, line_at, with_line}
 use Rattle.fam_base.proofs.ImageLemmas.{with_line-line_at}
 use Rattle.fam_machine.specs.declared.request.MkfsRequest.{MkfsRequest}
-use Rattle.fam_machine.specs.MkfsRequest.{mkfs_request}
 use Rattle.fam_format.specs.Layout.{device_limit, least_lines}
 use Rattle.fam_machine.specs.Caches.{Cache, IsClean, IsCleanCell, cell_at}
 use Rattle.fam_machine.specs.OneLine.{current}
@@ -158,12 +157,9 @@ module _ (start : Image) (files : Files) (old : Machines) (journal : List Note) 
       })
 
   -- what a maker, which has begun, leaves: by after how many operations it is to halt
-  module _ (name fs : List ℕ) (unit log format : ℕ) (force : Bool) (halt : Option ℕ) (new : Machines) (notes : List Note) (h : ℕ) (host : HostState) (is : slice_get old.hosts h ≡ Some host) where
+  module _ (name : List ℕ) (request : MkfsRequest) (new : Machines) (notes : List Note) (h : ℕ) (host : HostState) (is : slice_get old.hosts h ≡ Some host) where
     abbrev making : Event
-    making = event.Mkfs name fs unit log format force halt
-
-    abbrev request : MkfsRequest
-    request = mkfs_request fs unit log format force halt
+    making = event.Mkfs name request
 
     abbrev p : Params
     p = here.asked request host.uuid (length old.memory)
@@ -381,12 +377,12 @@ module _ (start : Image) (files : Files) (old : Machines) (journal : List Note) 
   event_exact (event.Host name uuid) sound whole s new same notes clean does =
       by_refusal (call.Declares name uuid) old new.machines notes (subst (λ (z : Machines). Does (call.Declares name uuid) z notes new.machines) same does.0)
       (λ cause e f. quiet (event.Host name uuid) name cause new.machines notes e f) (λ free acts. declared_exact name uuid new.machines notes acts)
-  event_exact (event.Mkfs name fs unit log format force halt) sound whole s new same notes clean does =
-      by_refusal (call.Makes name (mkfs_request fs unit log format force halt)) old new.machines notes
-      (subst (λ (z : Machines). Does (call.Makes name (mkfs_request fs unit log format force halt)) z notes new.machines) same does.0)
-      (λ cause e f. quiet (event.Mkfs name fs unit log format force halt) name cause new.machines notes e f)
-      (λ free acts. by_host (call.Makes name (mkfs_request fs unit log format force halt)) old new.machines notes acts
-      (λ h host number is at. makes_exact name fs unit log format force halt new.machines notes h host is at))
+  event_exact (event.Mkfs name request) sound whole s new same notes clean does =
+      by_refusal (call.Makes name request) old new.machines notes
+      (subst (λ (z : Machines). Does (call.Makes name request) z notes new.machines) same does.0)
+      (λ cause e f. quiet (event.Mkfs name request) name cause new.machines notes e f)
+      (λ free acts. by_host (call.Makes name request) old new.machines notes acts
+      (λ h host number is at. makes_exact name request new.machines notes h host is at))
   event_exact (event.Run name what) sound whole s new same notes clean (inl run) = run_exact name what s new same notes clean run
   event_exact (event.Run name what) sound whole s new same notes clean (inr (inl x)) =
       quiet (event.Run name what) name x.cause new.machines notes x.notes_are (ap (λ (z : Session). z.machines) x.same ∙ same)

@@ -67,9 +67,9 @@ module _ (start : Image) (me : List ℕ) (request : MkfsRequest) (files : Files)
   abbrev p : Params
   p = asked request me (length start)
 
-  two : Two start name me files image me_sound (event.Mkfs name request.fs request.unit request.log request.format request.force request.halt) journal x.run.last
+  two : Two start name me files image me_sound (event.Mkfs name request) journal x.run.last
   two =
-      one_event start name me files image me_sound (event.Mkfs name request.fs request.unit request.log request.format request.force request.halt)
+      one_event start name me files image me_sound (event.Mkfs name request)
       (ends_shot (Makes request)) refl journal x.run.last x.steps.count x.events x.steps.events_are x.run.follows x.ended
 
   does : Does (call.Makes name request) old two.notes left

@@ -2,7 +2,6 @@
 use Rattle.std.proofs.Common.{◌≡◌, Bool, true, false, List, [], ◌∷◌, ◌++◌, refl, ap, ap₂, sym, ◌∙◌, subst}
 use Rattle.std.specs.Prelude.{if◌then◌else◌}
 use Rattle.fam_base.specs.Image.{Image}
-use Rattle.fam_machine.specs.MkfsRequest.{mkfs_request}
 use Rattle.fam_media.specs.Files.{Files}
 use Rattle.fam_journal.specs.declared.event.Event.{Event}
 use Rattle.fam_journal.specs.declared.event.Event.TheVariants as event
@@ -37,10 +36,10 @@ module _ (start : Image) (files : Files) where
       → DoesEvent files e t b n → Alike a b m n
   command_same (event.Host name uuid) is sound whole s t m n j k a b bs bt twins clean_a clean_b x y =
       call_same (call.Declares name uuid) s t m n j k a b bs bt twins x y (host_same start files s.machines t.machines j k bs bt twins.machines a b m.machines n.machines name uuid)
-  command_same (event.Mkfs name fs unit log format force halt) is sound whole s t m n j k a b bs bt twins clean_a clean_b x y =
-      call_same (call.Makes name (mkfs_request fs unit log format force halt)) s t m n j k a b bs bt twins x y
+  command_same (event.Mkfs name request) is sound whole s t m n j k a b bs bt twins clean_a clean_b x y =
+      call_same (call.Makes name request) s t m n j k a b bs bt twins x y
       (makes_same start files s.machines t.machines j k bs bt twins.machines a b m.machines n.machines name
-      (mkfs_request fs unit log format force halt))
+      request)
   command_same (event.Run name what) is sound whole s t m n j k a b bs bt twins clean_a clean_b x y =
       let both = ask_same start files name what s t m n j k a b bs bt twins clean_a clean_b x y in
       record { notes = both.notes; sessions = both.sessions }

@@ -9,7 +9,6 @@ use Rattle.fam_format.specs.Reading as read
 use Rattle.fam_format.specs.Reading.{reading}
 use Rattle.fam_machine.specs.declared.request.MkfsRequest.{MkfsRequest}
 use Rattle.fam_machine.specs.Mkfs.{asked, halted_image}
-use Rattle.fam_machine.specs.MkfsRequest.{mkfs_request}
 use Rattle.fam_media.specs.Files.{Files}
 use Rattle.fam_media.specs.Outside.{with_piece}
 use Rattle.fam_rules.specs.Solo.{solo_reply}
@@ -38,7 +37,7 @@ use Rattle.fam_commands.specs.ReplyClasses.{ReplyClass, reply_class, Appending, 
 -- an event that no other host's step interrupts. In a mkfs its maker may halt: that is all that is left undone, and is noted
 abbrev pub IsWholeEvent : Event → Type 0
 IsWholeEvent (event.Host name uuid) = ⊤
-IsWholeEvent (event.Mkfs name fs unit log format force halt) = ⊤
+IsWholeEvent (event.Mkfs name request) = ⊤
 IsWholeEvent (event.Begin name what) = ⊥
 IsWholeEvent (event.Run name what) = ⊤
 IsWholeEvent (event.Step name count) = ⊥
@@ -89,8 +88,8 @@ cut_by (Some host) request k image = halted_image k (asked request host.uuid (le
 -- so it is by the event that notes it: only a mkfs does, and its host is the maker
 abbrev pub cut_image : Event → Past → Image → (host k : ℕ) → Image
 cut_image (event.Host name uuid) past image host k = image
-cut_image (event.Mkfs name fs unit log format force halt) past image host k =
-    cut_by (slice_get past.hosts host) (mkfs_request fs unit log format force halt) k image
+cut_image (event.Mkfs name request) past image host k =
+    cut_by (slice_get past.hosts host) request k image
 cut_image (event.Begin name what) past image host k = image
 cut_image (event.Run name what) past image host k = image
 cut_image (event.Step name count) past image host k = image
@@ -230,7 +229,7 @@ pub record IsExact {files : Files} {events : List Event} {start : Image} (run : 
 -- an event that is a cache's own move
 abbrev pub is_move : Event → Bool
 is_move (event.Host name uuid) = false
-is_move (event.Mkfs name fs unit log format force halt) = false
+is_move (event.Mkfs name request) = false
 is_move (event.Begin name what) = false
 is_move (event.Run name what) = false
 is_move (event.Step name count) = false

@@ -132,14 +132,7 @@ module _ (start : Image) where
     acts_ruled : (c : Call) → Acts c state notes new → AreRuled (past_of start journal) notes
     acts_ruled (call.Declares name uuid) x = subst (AreRuled (past_of start journal)) (sym x.0) (tt, tt)
     acts_ruled (call.Refuses name cause) x = subst (AreRuled (past_of start journal)) (sym x.0) (tt, tt)
-    acts_ruled (call.Makes name request) x = number_ruled (call.Makes name request) (number_of name state) x
-    acts_ruled (call.Begins name cmd) x = number_ruled (call.Begins name cmd) (number_of name state) x
-    acts_ruled (call.Steps name) x = number_ruled (call.Steps name) (number_of name state) x
-    acts_ruled (call.Finishes name) x = number_ruled (call.Finishes name) (number_of name state) x
-    acts_ruled (call.Stops name) x = number_ruled (call.Stops name) (number_of name state) x
-    acts_ruled (call.Halts name) x = number_ruled (call.Halts name) (number_of name state) x
-    acts_ruled (call.Umounts name) x = number_ruled (call.Umounts name) (number_of name state) x
-    acts_ruled (call.Moves name line move) x = number_ruled (call.Moves name line move) (number_of name state) x
+    acts_ruled c x = number_ruled c (number_of (asked_name c) state) x
 
     does_ruled : (c : Call) → Does c state notes new → AreRuled (past_of start journal) notes
     does_ruled c x = by_refusal (refusal_of c state) x

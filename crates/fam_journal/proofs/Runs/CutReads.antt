@@ -10,7 +10,6 @@ use Rattle.fam_machine.specs.declared.request.MkfsRequest.{MkfsRequest}
 use Rattle.fam_machine.specs.Cuts.{Cuts}
 use Rattle.fam_machine.specs.EightWords.{HasEightWords}
 use Rattle.fam_machine.specs.Mkfs.{IsHeadSent, IsOldNoneOrNew, asked, expected_ops}
-use Rattle.fam_machine.specs.MkfsRequest.{mkfs_request}
 use Rattle.fam_machine.specs.OneLine.{IsDirty}
 use Rattle.fam_machine.specs.Operations.{Machine}
 use Rattle.fam_machine.proofs.CutMkfs.{cut_is}
@@ -18,7 +17,7 @@ use Rattle.fam_journal.specs.declared.event.Event.{Event}
 use Rattle.fam_journal.specs.declared.refusal.Refusal.{Refusal}
 use Rattle.fam_journal.specs.declared.event.Event.TheVariants as event
 use Rattle.fam_journal.specs.Calls as call
-use Rattle.fam_journal.specs.Calls.{AtNumber, CutCall, Call, MakesCut, OnHost, makes_refusal, number_of, on_host, refusal_of, IsSoundRequest}
+use Rattle.fam_journal.specs.Calls.{AtNumber, CutCall, Call, MakesCut, OnHost, makes_refusal, number_of, on_host, refusal_of, IsSoundRequest, asked_name}
 use Rattle.fam_journal.specs.CallRecords.{IsSoundCall}
 use Rattle.fam_journal.specs.Ends.{CutCallReads, CutEventReads, CutReads, ReadsAs, StillReads}
 use Rattle.fam_journal.specs.Events.{BreaksEvent, Session}
@@ -109,21 +108,13 @@ module _ (start : Image) (state : Machines) (journal : List Note) (kept : Reache
 
   pub call_cut : (c : Call) → IsSoundCall c → (notes : List Note) (new : Machines) → CutCall c state notes new → CutCallReads c state s new.memory
   call_cut (call.Makes name request) sound notes new x = make_cut name request sound x.0 notes new x.1
-  call_cut (call.Declares name uuid) sound notes new x = no_cut (number_of name state) x.1
-  call_cut (call.Begins name cmd) sound notes new x = no_cut (number_of name state) x.1
-  call_cut (call.Steps name) sound notes new x = no_cut (number_of name state) x.1
-  call_cut (call.Finishes name) sound notes new x = no_cut (number_of name state) x.1
-  call_cut (call.Stops name) sound notes new x = no_cut (number_of name state) x.1
-  call_cut (call.Halts name) sound notes new x = no_cut (number_of name state) x.1
-  call_cut (call.Umounts name) sound notes new x = no_cut (number_of name state) x.1
-  call_cut (call.Moves name line move) sound notes new x = no_cut (number_of name state) x.1
-  call_cut (call.Refuses name cause) sound notes new x = no_cut (number_of name state) x.1
+  call_cut c sound notes new x = no_cut (number_of (asked_name c) state) x.1
 
 -- of an event
 pub event_cut : (start : Image) (e : Event) → IsValidEvent e → (old new : Session) (journal notes : List Note) → Reached start old.machines journal
     → BreaksEvent e old notes new → CutEventReads e old (past_of start journal).state new.machines.memory
-event_cut start (event.Mkfs name fs unit log format force halt) sound old new journal notes kept x =
-    call_cut start old.machines journal kept (call.Makes name (mkfs_request fs unit log format force halt)) sound notes new.machines x.0
+event_cut start (event.Mkfs name request) sound old new journal notes kept x =
+    call_cut start old.machines journal kept (call.Makes name request) sound notes new.machines x.0
 event_cut start e sound old new journal notes kept x = absurd x
 
 -- a refusal settles nothing

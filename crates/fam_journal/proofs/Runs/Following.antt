@@ -9,7 +9,6 @@ use Rattle.fam_base.specs.Image.{Image}
 use Rattle.fam_commands.specs.Classes.{is_mount}
 use Rattle.fam_machine.specs.declared.request.MkfsRequest.{MkfsRequest}
 use Rattle.fam_machine.specs.Mkfs.{asked}
-use Rattle.fam_machine.specs.MkfsRequest.{mkfs_request}
 use Rattle.fam_media.specs.Files.{Files}
 use Rattle.fam_journal.specs.declared.event.Ask.{Ask}
 use Rattle.fam_journal.specs.declared.event.Event.{Event}
@@ -185,8 +184,8 @@ module _ (start : Image) (files : Files) where
   pub event_kept : (e : Event) → IsValidEvent e → (old new : Session) (journal notes : List Note) → Reached start old.machines journal
       → DoesEvent files e old notes new → Reached start new.machines (journal ++ notes)
   event_kept (event.Host name uuid) sound old new journal notes kept x = does_kept start old.machines journal kept notes new.machines (call.Declares name uuid) sound x.0
-  event_kept (event.Mkfs name fs unit log format force halt) sound old new journal notes kept x =
-      does_kept start old.machines journal kept notes new.machines (call.Makes name (mkfs_request fs unit log format force halt)) sound x.0
+  event_kept (event.Mkfs name request) sound old new journal notes kept x =
+      does_kept start old.machines journal kept notes new.machines (call.Makes name request) sound x.0
   event_kept (event.Begin name what) sound old new journal notes kept (inl x) = begun_kept name what old new journal notes kept x
   event_kept (event.Begin name what) sound old new journal notes kept (inr x) = refused_event_kept name what old new journal notes kept x
   event_kept (event.Run name what) sound old new journal notes kept (inl x) = goes_kept Completes completes_kept name what old new journal notes kept x
@@ -225,16 +224,8 @@ pub cut_notes : (c : Call) (old new : Machines) (notes : List Note) → CutCall 
 cut_notes c old new notes x = by_number (number_of (asked_name c) old) x.1
   where
     at_host : (c : Call) (h : ℕ) (host : HostState) → CutsAt c h host old notes new → (who : List ℕ) × (cause : Refusal) × (notes ≡ Refused who cause ∷ [])
-    at_host (call.Declares name uuid) h host y = absurd y
     at_host (call.Makes name request) h host y = (name, why.MediaFault y.line, y.notes_are)
-    at_host (call.Begins name cmd) h host y = absurd y
-    at_host (call.Steps name) h host y = absurd y
-    at_host (call.Finishes name) h host y = absurd y
-    at_host (call.Stops name) h host y = absurd y
-    at_host (call.Halts name) h host y = absurd y
-    at_host (call.Umounts name) h host y = absurd y
-    at_host (call.Moves name line move) h host y = absurd y
-    at_host (call.Refuses name cause) h host y = absurd y
+    at_host c h host y = absurd y
 
     by_host : (h : ℕ) (o : Option HostState) → OnHost o (λ host. CutsAt c h host old notes new) → (who : List ℕ) × (cause : Refusal) × (notes ≡ Refused who cause ∷ [])
     by_host h None y = absurd y
@@ -245,7 +236,7 @@ cut_notes c old new notes x = by_number (number_of (asked_name c) old) x.1
     by_number (Some h) y = by_host h (slice_get old.hosts h) y
 
 broken_notes : (e : Event) (old new : Session) (notes : List Note) → BreaksEvent e old notes new → (name : List ℕ) × (cause : Refusal) × (notes ≡ Refused name cause ∷ [])
-broken_notes (event.Mkfs name fs unit log format force halt) old new notes x = cut_notes (call.Makes name (mkfs_request fs unit log format force halt)) old.machines new.machines notes x.0
+broken_notes (event.Mkfs name request) old new notes x = cut_notes (call.Makes name request) old.machines new.machines notes x.0
 broken_notes e old new notes x = absurd x
 
 -- so the state behind it is the one before

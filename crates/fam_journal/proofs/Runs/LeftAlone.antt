@@ -1,7 +1,6 @@
 -- While a state is bad, memory stays over whole runs: whatever events come, one after another or in part, that end no history.
 use Rattle.std.proofs.Common.{◌≡◌, ℕ, inl, inr, List, [], ◌∷◌, ◌++◌, take, ap, ◌∙◌, subst}
 use Rattle.fam_base.specs.Image.{Image}
-use Rattle.fam_machine.specs.MkfsRequest.{mkfs_request}
 use Rattle.fam_media.specs.Files.{Files}
 use Rattle.fam_journal.specs.declared.event.Ask.{Ask}
 use Rattle.fam_journal.specs.declared.event.Event.{Event}
@@ -75,8 +74,8 @@ module _ (start : Image) (files : Files) (origin : Origin) (damage : Damage) (ga
   -- one event, done whole
   event_stays : (e : Event) (old new : Session) (journal notes : List Note) → IsBadAt old.machines journal → NoneEnds notes
       → DoesEvent files e old notes new → new.machines.memory ≡ old.machines.memory
-  event_stays (event.Mkfs name fs unit log format force halt) old new journal notes bad none x =
-      call_stays (call.Makes name (mkfs_request fs unit log format force halt)) old.machines new.machines journal notes bad none x.0
+  event_stays (event.Mkfs name request) old new journal notes bad none x =
+      call_stays (call.Makes name request) old.machines new.machines journal notes bad none x.0
   event_stays (event.Begin name what) old new journal notes bad none (inl x) = begun_stays name what old new journal notes bad none x
   event_stays (event.Begin name what) old new journal notes bad none (inr x) = refused_event_stays name what old new journal notes bad none x
   event_stays (event.Run name what) old new journal notes bad none (inl x) = goes_stay Completes completes_stay name what old new journal notes bad none x

@@ -169,14 +169,7 @@ module _ (old : Machines) (a b : List Note) (m n : Machines) (clean_a : IsFaultl
   one_act : (c : Call) → Acts c old a m → Acts c old b n → Same a b m n
   one_act (call.Declares name uuid) x y = same_by x.0 x.1 y.0 y.1
   one_act (call.Refuses name cause) x y = same_by x.0 x.1 y.0 y.1
-  one_act (call.Makes name request) x y = at_number (call.Makes name request) (number_of name old) x y
-  one_act (call.Begins name c) x y = at_number (call.Begins name c) (number_of name old) x y
-  one_act (call.Steps name) x y = at_number (call.Steps name) (number_of name old) x y
-  one_act (call.Finishes name) x y = at_number (call.Finishes name) (number_of name old) x y
-  one_act (call.Stops name) x y = at_number (call.Stops name) (number_of name old) x y
-  one_act (call.Halts name) x y = at_number (call.Halts name) (number_of name old) x y
-  one_act (call.Umounts name) x y = at_number (call.Umounts name) (number_of name old) x y
-  one_act (call.Moves name line move) x y = at_number (call.Moves name line move) (number_of name old) x y
+  one_act c x y = at_number c (number_of (asked_name c) old) x y
 
   by_refusal : (c : Call) (name : List ℕ) (o : Option Refusal) → ByRefusal name o a old m (Acts c old a m) → ByRefusal name o b old n (Acts c old b n) → Same a b m n
   by_refusal c name (Some cause) x y = same_by x.0 x.1 y.0 y.1

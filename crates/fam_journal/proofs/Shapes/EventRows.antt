@@ -6,7 +6,6 @@ use Rattle.std.specs.FinMap as finmap
 use Rattle.std.proofs.lemmas.Option.{same_Some}
 use Rattle.fam_base.specs.declared.cmd.Cmd.{Cmd}
 use Rattle.fam_commands.specs.Classes.{is_mount}
-use Rattle.fam_machine.specs.MkfsRequest.{mkfs_request}
 use Rattle.fam_media.specs.Files.{Files}
 use Rattle.fam_journal.specs.declared.event.Ask.{Ask}
 use Rattle.fam_journal.specs.declared.event.Ask.TheVariants as ask
@@ -254,7 +253,7 @@ module _ (lines : ℕ) (files : Files) (old : Session) (hosts : List HostShape) 
   event_shape e notes new x = row _ notes new.machines x.0
 
   pub event_breaks : (e : Event) (notes : List Note) (new : Session) → BreaksEvent e old notes new → EventBreaksShape e lines hosts notes
-  event_breaks (event.Mkfs name fs unit log format force halt) notes new x = breaks_shape lines m hosts shaped notes new.machines name (mkfs_request fs unit log format force halt) x.0
+  event_breaks (event.Mkfs name request) notes new x = breaks_shape lines m hosts shaped notes new.machines name request x.0
   event_breaks e notes new x = absurd x
 
   pub event_part : (e : Event) (notes : List Note) (new : Session) → PartOf files e old notes new → EventPartShape e lines hosts notes

@@ -8,7 +8,7 @@ use Rattle.fam_commands.specs.Kept.{IsKept, Kept}
 use Rattle.fam_commands.specs.Task.{Task}
 use Rattle.fam_journal.specs.declared.event.Event.{Event}
 use Rattle.fam_journal.specs.Calls as call
-use Rattle.fam_journal.specs.Calls.{AtNumber, CutCall, Call, CutsAt, Does, OnHost, number_of}
+use Rattle.fam_journal.specs.Calls.{AtNumber, CutCall, Call, CutsAt, Does, OnHost, number_of, asked_name}
 use Rattle.fam_journal.specs.CallRecords.{DoesPart}
 use Rattle.fam_journal.specs.Ends.{Ending, EventsDone}
 use Rattle.fam_journal.specs.EventShapes.{EndsShape, FollowsShape}
@@ -69,16 +69,8 @@ module _ (lines : ℕ) (state left : Machines) (hosts : List HostShape) (notes :
       at_host (Some host) x = none h host x
 
   pub cut_shape : (c : Call) → CutCall c state notes left → BreaksShape c lines hosts notes
-  cut_shape (call.Declares name uuid) x = absurd (no_cut (call.Declares name uuid) (λ h host z. z) (number_of name state) x.1)
   cut_shape (call.Makes name request) x = breaks_shape lines state hosts shaped notes left name request x
-  cut_shape (call.Begins name cmd) x = absurd (no_cut (call.Begins name cmd) (λ h host z. z) (number_of name state) x.1)
-  cut_shape (call.Steps name) x = absurd (no_cut (call.Steps name) (λ h host z. z) (number_of name state) x.1)
-  cut_shape (call.Finishes name) x = absurd (no_cut (call.Finishes name) (λ h host z. z) (number_of name state) x.1)
-  cut_shape (call.Stops name) x = absurd (no_cut (call.Stops name) (λ h host z. z) (number_of name state) x.1)
-  cut_shape (call.Halts name) x = absurd (no_cut (call.Halts name) (λ h host z. z) (number_of name state) x.1)
-  cut_shape (call.Umounts name) x = absurd (no_cut (call.Umounts name) (λ h host z. z) (number_of name state) x.1)
-  cut_shape (call.Moves name line move) x = absurd (no_cut (call.Moves name line move) (λ h host z. z) (number_of name state) x.1)
-  cut_shape (call.Refuses name cause) x = absurd (no_cut (call.Refuses name cause) (λ h host z. z) (number_of name state) x.1)
+  cut_shape c x = absurd (no_cut c (λ h host z. z) (number_of (asked_name c) state) x.1)
 
   pub part_shape : (c : Call) → DoesPart c state notes left → PartShape c lines hosts notes
   part_shape (call.Finishes name) (inl x) =

@@ -16,6 +16,7 @@ use Rattle.fam_journal.specs.ByWorld.{refusal_in, world_after}
 use Rattle.fam_journal.specs.CallRecords.{Answers, DoesPart}
 use Rattle.fam_journal.specs.Machines.{HostState, unused}
 use Rattle.fam_journal.specs.Notes.{Host, Refused}
+use Rattle.fam_machine.specs.MkfsRequest.{mkfs_request}
 
 abbrev id : List ℕ
 id = 0 ∷ 0 ∷ 0 ∷ 0 ∷ 0 ∷ 0 ∷ 0 ∷ 0 ∷ 0 ∷ 0 ∷ 0 ∷ 0 ∷ 0 ∷ 0 ∷ 0 ∷ 1 ∷ []
@@ -39,7 +40,7 @@ refused : script_status AllDone (Refused (codes "m") why.Idle ∷ []) ≡ status
 refused = refl
 
 -- the sink fails at the first note: the mkfs behind it isn't run
-sink_fails : (files : Files) → EventsDone SinkFails files (event.Host (codes "m") id ∷ event.Mkfs (codes "m") id 4096 65536 1 false None ∷ []) (first_session []) (Host (codes "m") id ∷ []) with_m
+sink_fails : (files : Files) → EventsDone SinkFails files (event.Host (codes "m") id ∷ event.Mkfs (codes "m") (mkfs_request id 4096 65536 1 false None) ∷ []) (first_session []) (Host (codes "m") id ∷ []) with_m
 unfolding refusal_of
 sink_fails files = record {
   count = 0;

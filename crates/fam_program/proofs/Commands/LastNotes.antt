@@ -147,7 +147,7 @@ module _ (name : List ℕ) (request : MkfsRequest) (lines : ℕ) (unhalted : req
   making_end hosts notes (Some cause) x = only ends_mkfs (Refused name cause) notes x refl
 
   pub mkfs_end : (hosts : List HostShape) (journal : List Note)
-      → FollowsShape lines (event.Mkfs name request.fs request.unit request.log request.format request.force request.halt ∷ []) hosts journal
+      → FollowsShape lines (event.Mkfs name request ∷ []) hosts journal
       → last_passes ends_mkfs journal ≡ true
   mkfs_end hosts journal f =
       let alone : journal ≡ f.0 = f.4 ∙ ap (λ (ns : List Note). f.0 ++ ns) f.3 ∙ append-nil f.0 in

@@ -251,10 +251,10 @@ module _ (name me : List ℕ) (out : Outside) (journal : List Note) where
         by_count (suc zero) is = by_stop (last_stops journal) refl is
         by_count (suc (suc k)) is =
             behind_first ends_mkfs (event.Host name me)
-            (event.Mkfs name request.fs request.unit request.log request.format request.force request.halt ∷ []) out.lines [] journal
+            (event.Mkfs name request ∷ []) out.lines [] journal
             (mkfs_end name request out.lines unhalted)
             (subst (λ (es : List Event). FollowsShape out.lines
-            (event.Host name me ∷ event.Mkfs name request.fs request.unit request.log request.format request.force request.halt ∷ es) [] journal)
+            (event.Host name me ∷ event.Mkfs name request ∷ es) [] journal)
             (take_none k) (shape_at (suc (suc k)) is))
 
   shot_ends : (shot : OneShot) → IsUnhalted shot → HasStopped out (alone_events name me shot) journal → last_passes (ends_shot shot) journal ≡ true

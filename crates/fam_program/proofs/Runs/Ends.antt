@@ -108,9 +108,9 @@ module _ (b : Base) (count : ℕ) (n m : Now) (far : Far b count n) (e : Event) 
   -- the media failed in a mkfs
   broken_caused : (e : Event) → slice_get b.events count ≡ Some e → (lines : ℕ) (hosts : List HostShape) (notes : List Note)
       → EventBreaksShape e lines hosts notes → m.world.journal ≡ n.world.journal ++ notes → EndsBroken b.events m.world.journal
-  broken_caused (event.Mkfs name fs unit log format force halt) at lines hosts notes shape joined = record {
+  broken_caused (event.Mkfs name request) at lines hosts notes shape joined = record {
     count = count;
-    event = event.Mkfs name fs unit log format force halt;
+    event = event.Mkfs name request;
     event_is = at;
     prefix = n.world.journal;
     name = name;

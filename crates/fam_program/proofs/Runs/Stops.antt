@@ -5,7 +5,6 @@ use Rattle.std.specs.List.{list_any}
 use Rattle.std.proofs.lemmas.List.{append-nil}
 use Rattle.fam_base.specs.declared.cmd.Cmd.{Cmd}
 use Rattle.fam_machine.specs.declared.request.MkfsRequest.{MkfsRequest}
-use Rattle.fam_machine.specs.MkfsRequest.{mkfs_request}
 use Rattle.fam_journal.specs.declared.event.Ask.{Ask}
 use Rattle.fam_journal.specs.declared.event.Event.{Event}
 use Rattle.fam_journal.specs.declared.event.Event.TheVariants as event
@@ -116,9 +115,9 @@ module _ (name : List ℕ) (request : MkfsRequest) (lines : ℕ) (hosts : List H
 -- an event that is done
 pub step_goes : (e : Event) → IsShotEvent e → (lines : ℕ) (hosts : List HostShape) (notes : List Note) → EventShape e lines hosts notes → OnlyLastStops notes
 step_goes (event.Host name uuid) is lines hosts notes x = declared name uuid notes (refusal_told (call.Declares name uuid) lines hosts) x
-step_goes (event.Mkfs name fs unit log format force halt) is lines hosts notes x =
-    made name (mkfs_request fs unit log format force halt) lines hosts notes
-    (refusal_told (call.Makes name (mkfs_request fs unit log format force halt)) lines hosts) x
+step_goes (event.Mkfs name request) is lines hosts notes x =
+    made name request lines hosts notes
+    (refusal_told (call.Makes name request) lines hosts) x
 step_goes (event.Run name what) is lines hosts notes x = begun name what lines hosts notes (may_begin name (mounts what) (shown_shapes lines hosts)) x
 step_goes e is lines hosts notes x = absurd is
 
@@ -172,5 +171,5 @@ none_stops (note ∷ next ∷ notes) goes last =
 
 -- a mkfs in which the media failed has one note
 pub breaks_goes : (e : Event) (lines : ℕ) (hosts : List HostShape) (notes : List Note) → EventBreaksShape e lines hosts notes → OnlyLastStops notes
-breaks_goes (event.Mkfs name fs unit log format force halt) lines hosts notes x = alone (Refused name (why.MediaFault (record { 0 = x.1.0 }))) notes x.1.1
+breaks_goes (event.Mkfs name request) lines hosts notes x = alone (Refused name (why.MediaFault (record { 0 = x.1.0 }))) notes x.1.1
 breaks_goes e lines hosts notes x = absurd x

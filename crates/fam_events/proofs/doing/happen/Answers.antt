@@ -1,5 +1,4 @@
 use Rattle.std.proofs.Common.{ap, le_refl, refl, subst, sym}
-use Rattle.fam_machine.specs.MkfsRequest.{mkfs_request}
 use Rattle.fam_media.specs.States.{change, ShelfChange}
 use Rattle.fam_journal.specs.declared.event.Event.{Event}
 use Rattle.fam_journal.specs.declared.event.Event.TheVariants as event
@@ -29,9 +28,8 @@ returns-in-Mkfs-clause-says g c =
     let a : WorldChange = world_change g.M.Media.size g.M.Media.state c.args.media.now c.make.new.media c.args.world.now c.make.new.world
     (g.S.Shelf.state c.args.shelf.now).files c.args.copied.now c.args.copied.now in
     subst (λ (e : Event). EventSays e shelf a c.make.result) (sym c.in-Mkfs.is)
-    (event_says (event.Mkfs c.in-Mkfs.name c.in-Mkfs.fs c.in-Mkfs.unit c.in-Mkfs.log c.in-Mkfs.format c.in-Mkfs.force c.in-Mkfs.halt)
-    (call.Makes c.in-Mkfs.name (mkfs_request c.in-Mkfs.fs c.in-Mkfs.unit c.in-Mkfs.log c.in-Mkfs.format c.in-Mkfs.force c.in-Mkfs.halt)) shelf a
-    (mkfs_call c.in-Mkfs.name (mkfs_request c.in-Mkfs.fs c.in-Mkfs.unit c.in-Mkfs.log c.in-Mkfs.format c.in-Mkfs.force c.in-Mkfs.halt)) refl
+    (event_says (event.Mkfs c.in-Mkfs.name c.in-Mkfs.request) (call.Makes c.in-Mkfs.name c.in-Mkfs.request) shelf a
+    (mkfs_call c.in-Mkfs.name c.in-Mkfs.request) refl
     c.make.result (c.make.ensures.says (g.S.Shelf.state c.args.shelf.now).files c.args.copied.now))
 
 pub returns-in-Step-clause-says : goal.returns-in-Step-clause-says
