@@ -507,9 +507,9 @@ impl Replay {
         ensures fits { (p : Params) (gate : ℕ) → IsReplayOf p gate self.old → IsReplayOf p gate self.new }
     {
         let keeps = self.keeps;
-        match &mut self.replica {
-            Some(replica) => replica.rewind(found, keeps),
-            None => {}
-        }
+        let Some(replica) = &mut self.replica else {
+            return;
+        };
+        replica.rewind(found, keeps);
     }
 }

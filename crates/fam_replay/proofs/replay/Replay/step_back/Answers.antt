@@ -10,12 +10,12 @@ rewind-requires c =
     subst (λ (o : Option ReplicaState). IfSome o (λ (s : ReplicaState). c.args.found ≤ length s.entries)) c.in-Some.is
     (back_within c.self.inside.replica c.args.found (subst (λ (o : Option ReplicaState). c.args.found ≤ length (entries_in o)) (sym c.self.view_is) c.requires))
 
-pub returns-in-Some-clause-entries : goal.returns-in-Some-clause-entries
-returns-in-Some-clause-entries c =
+pub returns-clause-entries : goal.returns-clause-entries
+returns-clause-entries c =
     ap (λ (s : ReplicaState). take s.found s.entries) c.rewind.ensures
-    ∙ back_to _ c.args.found (subst (λ (o : Option ReplicaState). c.args.found ≤ length (entries_in o)) (sym c.self.view_is ∙ c.in-Some.is) c.requires)
+    ∙ back_to c.in-Some.replica c.args.found (subst (λ (o : Option ReplicaState). c.args.found ≤ length (entries_in o)) (sym c.self.view_is ∙ c.in-Some.is) c.requires)
     ∙ ap (λ (o : Option ReplicaState). take c.args.found (entries_in o)) (sym c.in-Some.is ∙ c.self.view_is)
 
-pub returns-in-Some-clause-fits : goal.returns-in-Some-clause-fits
-returns-in-Some-clause-fits c = λ p gate fits.
+pub returns-clause-fits : goal.returns-clause-fits
+returns-clause-fits c = λ p gate fits.
     subst (λ (s : ReplicaState). IsReplayOf p gate (Some s)) (sym c.rewind.ensures) (subst (IsReplayOf p gate) (sym c.self.view_is ∙ c.in-Some.is) fits)
