@@ -50,9 +50,16 @@ pub(crate) struct History {
 }
 
 impl Model for History {
-    ghost use Rattle.fam_tasks.specs.History.{HistoryState, MayFollow, MayServe, read_by};
+    ghost use Rattle.fam_base.specs.PathOrder.{path_cmp};
+    ghost use Rattle.fam_base.specs.contracts.entry.Entry as entry_type;
+    ghost use Rattle.fam_replay.specs.Replica.{replica_code};
+    ghost use Rattle.fam_tasks.specs.History.{HistoryState, MayFollow, MayServe, kept_code, read_by};
+    ghost use Rattle.std.specs.Coded.{codes, coded_list, coded_ℕ};
+    ghost use Rattle.std.specs.FinMap as map;
 
     ghost Value = { HistoryState };
+
+    ghost coded = { Prim.hlevel (codes, kept_code, replica_code, map.code {R = path_cmp} (coded_list coded_ℕ) entry_type.the_row.coded) };
 
     ghost view = { λ h. record { kept = h.kept; replay = read_by h.serves h.kept h.replay; tree = h.tree } };
 

@@ -49,3 +49,11 @@ returns-in-Err-clause-want c =
     let found : FindsNext c.args.params.now words (entries_in old) (entries_in new) =
     subst (λ (r : Option Reason). ReadsNext r c.args.params.now words (entries_in old) (entries_in new)) c.in-None.is c.in_ok-reason.ensures.reads in
     joins_next c.args.params.now c.args.gate words old new c.in_ok-reason.ensures.fits found
+
+pub returns-in-Some-clause-reads : goal.returns-in-Some-clause-reads
+returns-in-Some-clause-reads c =
+    subst (λ (r : Option Reason). ReadsNext r c.args.params.now c.args.words.now (entries_in c.args.self.now.replay) (entries_in c.read_slot.new.self.replay))
+    c.in-Some.is c.in_ok-reason.ensures.reads
+
+pub returns-in-Err-clause-fits : goal.returns-in-Err-clause-fits
+returns-in-Err-clause-fits c = c.in-Err.ensures.fits c.args.params.now c.args.gate c.in_ok-reason.ensures.fits
