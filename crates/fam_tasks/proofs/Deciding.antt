@@ -137,14 +137,14 @@ append_leaves r t new cmd is appends =
 -- A logplay of a host that keeps something.
 module _ {T E : Type 0} (r : Result T E) (t : Task) where
   of_some : (o : Option Kept) → IsSome o → option_map (λ (k : Kept). read_by t) o ≡ Some (read_by t)
-  of_some None is = absurd is
+  of_some None is = absurd cc
   of_some (Some k) is = refl
 
   pub played_keeps : (new : Task) → IsSome t.kept → OnOk r (new.kept ≡ Some (read_by t)) → OnOk r (Keeps t (decide_turn Logplay t) new)
   played_keeps new some = subst (λ (o : Option Kept). OnOk r (new.kept ≡ o)) (sym (of_some t.kept some))
 
   pub played_leaves : (new : Task) → IsSome t.kept → OnOk r (Leaves t (decide_turn Logplay t) new)
-  played_leaves new some = done_so r (λ none. absurd (subst IsSome none some))
+  played_leaves new some = done_so r (λ none. let bad : IsSome {T = Kept} None = subst IsSome none some in absurd cc)
 
   pub played_wants : IsSome t.kept → OnErr r (WantsMemory t (decide_turn Logplay t))
   played_wants some = failed_so r (inr (inl (some, (length t.entries, (replay t.entries, refl)))))

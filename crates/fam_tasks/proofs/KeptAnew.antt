@@ -38,7 +38,7 @@ keeping_listing a reply is = same_listing (is_keeping a) _ reply is refl
 
 -- what the host keeps, where that is anything
 first_kept : (o other : Option Kept) → IsSome o → or_else o other ≡ o
-first_kept None other is = absurd is
+first_kept None other is = absurd cc
 first_kept (Some k) other is = refl
 
 pub is_host_kept : (t : Task) → IsSome t.kept → kept_left t ≡ t.kept

@@ -8,9 +8,10 @@ use Rattle.fam_tasks.proofs.Keeping.{ended_task}
 use Rattle.fam_tasks.proofs.task.Task.play_kept.Goals as goal
 
 pub play-requires : goal.play-requires
-play-requires c =
-    all_found_at c.self.inside c.self.invariant (ap (λ (t : Task). t.phase) c.self.view_is ∙ c.requires.phase)
-    (ap is_fsck (ap (λ (t : Task). t.cmd) c.self.view_is ∙ c.requires.logplay))
+play-requires c = record {
+  all = all_found_at c.self.inside c.self.invariant (ap (λ (t : Task). t.phase) c.self.view_is ∙ c.requires.phase)
+      (ap is_fsck (ap (λ (t : Task). t.cmd) c.self.view_is ∙ c.requires.logplay));
+}
 
 pub invariant_of-self : goal.invariant_of-self
 invariant_of-self c =
