@@ -22,7 +22,7 @@ pub(crate) fn is_fsck(cmd: &Cmd) -> bool
 }
 
 /// Whether a command lists the tree.
-fn is_logplay(cmd: &Cmd) -> bool
+pub(crate) fn is_logplay(cmd: &Cmd) -> bool
     ensures { result ≡ is_logplay cmd.now }
 {
     match cmd {

@@ -253,7 +253,7 @@ impl Task {
         ensures kept { is_keeping answer.now ≡ true → result ≡ kept_left self }
         ensures none { is_keeping answer.now ≡ false → result ≡ None }
 
-        // So it is what the task has read, where this is its own answer.
+        // So it is what the task has read, where this is its own answer, by what the contract of `digest` says.
         ensures anew { (t : spec.Task) (word : Option ℕ) (reply : Reply) → turn_of t word ≡ Ends reply → Keeps t (turn_of t word) self
             → (is_digest (op_of t) ≡ true → Leaves t (turn_of t word) self)
             → reply_of answer.now ≡ Some reply → KeepsAnew reply t result }

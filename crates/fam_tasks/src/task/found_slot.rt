@@ -8,20 +8,24 @@ ghost use Rattle.fam_commands.specs.declared.phase.Phase.TheVariants as at;
 ghost use Rattle.fam_tasks.specs.SlotLines.{FindsSlot};
 
 use super::{SlotDue, Task, slot_or_decide};
-use crate::commands::{is_fsck, plays_out};
+use crate::commands::{is_fsck, is_logplay, plays_out};
 use fam_base::Line;
 
 impl Task {
     /// How many slots from this one on may have the words that an earlier task of the host found in them, of those that the
-    /// gate counts. No contract hangs on more of it: it tells how far it is worth to look.
+    /// gate counts, and but for the last one of a logplay. No contract hangs on more of it: it tells how far it is worth to look.
     #[inline(always)]
     pub fn kept_ahead(&self, slot: u64) -> u64
         ensures gate { 0 < result → slot + result ≤ self.now.gate }
         ensures small { slot + result < 2 ^ 64 }
     {
-        self.history
-            .kept_ahead()
-            .min(self.gate.saturating_sub(slot))
+        let left = self.gate.saturating_sub(slot);
+        let found = if is_logplay(&self.cmd) {
+            left.saturating_sub(1)
+        } else {
+            left
+        };
+        self.history.kept_ahead().min(found)
     }
 
     /// Takes a slot that has the words which an earlier task of the host found in it, and says whether it has. Its lines were
