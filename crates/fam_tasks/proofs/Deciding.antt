@@ -127,7 +127,8 @@ pub class_leaves : {T E : Type 0} (r : Result T E) (t new : Task) → (class_of 
 class_leaves r t new other = done_so r (leaves_by t new t.phase (turn_of t None) (turn_tells t.phase t 0) other)
 
 -- what is left behind the turn of its command is left behind this one
-pub decision_leaves : {T E : Type 0} (r : Result T E) (t new : Task) (cmd : Cmd) → t.phase ≡ at.Decide → t.cmd ≡ cmd → OnOk r (Leaves t (decide_turn cmd t) new) → OnOk r (Leaves t (turn_of t None) new)
+pub decision_leaves : {T E : Type 0} (r : Result T E) (t new : Task) (cmd : Cmd) → t.phase ≡ at.Decide → t.cmd ≡ cmd
+    → OnOk r (Leaves t (decide_turn cmd t) new) → OnOk r (Leaves t (turn_of t None) new)
 decision_leaves r t new cmd phase is = subst (λ (said : turns.Turn). OnOk r (Leaves t said new)) (sym (decided t cmd phase is))
 
 pub append_leaves : {T E : Type 0} (r : Result T E) (t new : Task) (cmd : Cmd) → t.cmd ≡ cmd → class_of cmd ≡ Appends → OnOk r (Leaves t (turn_of t None) new)

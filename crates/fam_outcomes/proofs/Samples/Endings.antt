@@ -40,7 +40,8 @@ refused : script_status AllDone (Refused (codes "m") why.Idle ∷ []) ≡ status
 refused = refl
 
 -- the sink fails at the first note: the mkfs behind it isn't run
-sink_fails : (files : Files) → EventsDone SinkFails files (event.Host (codes "m") id ∷ event.Mkfs (codes "m") (mkfs_request id 4096 65536 1 false None) ∷ []) (first_session []) (Host (codes "m") id ∷ []) with_m
+sink_fails : (files : Files) → EventsDone SinkFails files (event.Host (codes "m") id ∷ event.Mkfs (codes "m") (mkfs_request id 4096 65536 1 false None) ∷ [])
+    (first_session []) (Host (codes "m") id ∷ []) with_m
 unfolding refusal_of
 sink_fails files = record {
   count = 0;
