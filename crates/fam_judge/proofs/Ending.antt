@@ -1,4 +1,4 @@
--- The journal of a run has the form of the tables, however the run ends, but that the media fails in a mkfs.
+-- The journal of a run has the form of the tables, however the run ends.
 use Prim.Native.Nat.{zero, suc}
 use Rattle.std.proofs.Common.{◌≡◌, inl, inr, ℕ, List, [], ◌∷◌, length, take, Some, sym, ◌∙◌, subst}
 use Rattle.std.specs.Prelude.{slice_get}
@@ -11,15 +11,16 @@ use Rattle.fam_journal.proofs.Shapes.Rows.{may_told}
 use Rattle.fam_journal.specs.declared.event.Event.{Event}
 use Rattle.fam_journal.specs.declared.event.Event.TheVariants as event
 use Rattle.fam_journal.specs.Ends.{AllDone, Ending, EndsOutOfMemory, EndsOutOfMemoryBroken, EventsDone, MkfsFails, SinkFails, SourceFails}
-use Rattle.fam_journal.specs.Events.{DoesEvent, PartOf, Session, first_session, mounts}
+use Rattle.fam_journal.specs.Events.{BreaksEvent, DoesEvent, PartOf, Session, first_session, mounts}
 use Rattle.fam_journal.specs.Follows.{Follows, FollowsUpTo}
-use Rattle.fam_journal.specs.Laws.{AreSound, IsImage, IsUncut, IsValidEvent}
+use Rattle.fam_journal.specs.Laws.{AreSound, IsImage, IsValidEvent}
 use Rattle.fam_journal.specs.Notes.{Note}
 use Rattle.fam_journal.specs.Shapes.{AreShaped, HostShape, SomeShape, UnfinishedShape, shapes_behind}
 use Rattle.fam_judge.specs.Asks.{AskSoundCommands}
 use Rattle.fam_judge.specs.Explained.{IsExplained}
 use Rattle.fam_judge.specs.Formed.{AreFormed, AreSoundNotes, HavePlaces, IsSoundCommand}
 use Rattle.fam_judge.proofs.Beginning.{asks_sound, notes_sound}
+use Rattle.fam_judge.proofs.Cutting.{cut_formed}
 use Rattle.fam_judge.proofs.Explaining.{legal_explained}
 use Rattle.fam_judge.proofs.Following.{event_formed, follows_formed, formed_both, operations_formed, placed_parts, sound_parts, started}
 use Rattle.fam_judge.proofs.Operating.{AreFit}
@@ -57,6 +58,12 @@ module _ (lines : ℕ) (files : Files) where
       some_formed hosts name notes (event_part lines files old hosts shaped (event.Finish name) notes new x) placed
   part_formed old hosts shaped e valid notes new x sound placed = absurd x
 
+  -- a mkfs that a media fault cut
+  break_formed : AreAllFormed BreaksEvent
+  break_formed old hosts shaped (event.Mkfs name request) valid notes new x sound placed =
+      cut_formed lines old.machines hosts shaped name request notes new.machines x.0
+  break_formed old hosts shaped e valid notes new x sound placed = absurd x
+
   whole_formed : AreAllFormed (DoesEvent files)
   whole_formed old hosts shaped e valid notes new x sound placed =
       event_formed lines hosts e notes valid (event_shape lines files old hosts shaped e notes new x).shape sound placed
@@ -79,14 +86,14 @@ module _ (lines : ℕ) (files : Files) where
         (each x.mid (shapes_behind hosts x.whole_notes) first.next x.event (valid_at x.count events x.event valid x.is) x.part_notes new x.part sounds.1 places.1))
 
     -- however it ends
-    pub ends_formed : (ending : Ending) → IsUncut ending → EventsDone ending files events old journal new → AreFormed lines hosts journal
-    ends_formed AllDone uncut x = follows_formed lines events hosts journal valid (follows_shape lines files events old hosts shaped journal new x).shape sound placed
-    ends_formed MkfsFails uncut x = absurd uncut
-    ends_formed (SourceFails end) uncut x = prefix_formed x.count x.follows
-    ends_formed EndsOutOfMemory uncut (inl x) = prefix_formed x.count x.follows
-    ends_formed EndsOutOfMemory uncut (inr x) = up_to_formed (PartOf files) part_formed x
-    ends_formed EndsOutOfMemoryBroken uncut x = absurd uncut
-    ends_formed SinkFails uncut x = up_to_formed (DoesEvent files) whole_formed x
+    pub ends_formed : (ending : Ending) → EventsDone ending files events old journal new → AreFormed lines hosts journal
+    ends_formed AllDone x = follows_formed lines events hosts journal valid (follows_shape lines files events old hosts shaped journal new x).shape sound placed
+    ends_formed MkfsFails x = up_to_formed BreaksEvent break_formed x
+    ends_formed (SourceFails end) x = prefix_formed x.count x.follows
+    ends_formed EndsOutOfMemory (inl x) = prefix_formed x.count x.follows
+    ends_formed EndsOutOfMemory (inr x) = up_to_formed (PartOf files) part_formed x
+    ends_formed EndsOutOfMemoryBroken x = up_to_formed BreaksEvent break_formed x
+    ends_formed SinkFails x = up_to_formed (DoesEvent files) whole_formed x
 
 -- From an image.
 
@@ -103,7 +110,7 @@ module _ (start : Image) (files : Files) (events : List Event) (journal : List N
   run_sound = notes_sound journal fit.1
 
   -- it is legal and formed, and so explains itself
-  pub run_explained : AreSound events → IsUncut ending → IsImage start → IsExplained start journal
-  run_explained valid uncut image =
+  pub run_explained : AreSound events → IsImage start → IsExplained start journal
+  run_explained valid image =
       legal_explained start journal (run_settled start image files events valid ending journal last done).legal
-      (ends_formed (length start) files events valid (first_session start) [] shaped journal last run_sound fit.0 ending uncut done)
+      (ends_formed (length start) files events valid (first_session start) [] shaped journal last run_sound fit.0 ending done)

@@ -8,4 +8,5 @@ pub mod Operating
 pub mod Acting
 pub mod Running
 pub mod Beginning
+pub mod Cutting
 pub mod Ending

@@ -8,7 +8,7 @@ ghost use Rattle.fam_journal.specs.Ends.{Ending, EventsDone};
 ghost use Rattle.fam_journal.specs.Events.{Session, first_session};
 ghost use Rattle.fam_journal.specs.EventShapes.{FollowsShape};
 ghost use Rattle.fam_journal.specs.Follows.{Follows};
-ghost use Rattle.fam_journal.specs.Laws.{AreSound, IsImage, IsUncut};
+ghost use Rattle.fam_journal.specs.Laws.{AreSound, IsImage};
 ghost use Rattle.fam_journal.specs.Legal.{Legal};
 ghost use Rattle.fam_journal.specs.Calls.{number_of, Call, Does};
 ghost use Rattle.fam_journal.specs.Machines.{Machines};
@@ -82,13 +82,12 @@ pub fn commands_that_begin_are_sound()
 {}
 
 /// The journal of a run is explained as it stands, where the events are within their limits (`AreSound` of fam_journal), and so
-/// is what stands in their asks (`AskSoundCommands`): behind all events (`follows`), and however the run ends but that the
-/// media fails in a mkfs (`ends`).
+/// is what stands in their asks (`AskSoundCommands`): behind all events (`follows`), and however the run ends (`ends`).
 pub fn a_run_is_explained()
     ensures follows { (start : Image) (files : Files) (events : List Event) (journal : List Note) (last : Session)
         → IsImage start → AreSound events → AskSoundCommands events → Follows files events (first_session start) journal last
         → IsExplained start journal }
     ensures ends { (start : Image) (files : Files) (events : List Event) (journal : List Note) (last : Session) (ending : Ending)
-        → IsImage start → AreSound events → AskSoundCommands events → IsUncut ending
+        → IsImage start → AreSound events → AskSoundCommands events
         → EventsDone ending files events (first_session start) journal last → IsExplained start journal }
 {}
