@@ -9,4 +9,5 @@ pub mod Acting
 pub mod Running
 pub mod Beginning
 pub mod Cutting
+pub mod Scripting
 pub mod Ending

@@ -9,7 +9,7 @@ use Rattle.fam_journal.specs.declared.event.Ask.TheVariants.{Plain, Cp, VerifySo
 use Rattle.fam_journal.specs.declared.event.Event.{Event}
 use Rattle.fam_journal.specs.declared.event.Event.TheVariants as event
 
--- a listing that stands in an ask has entries such as a source's lines have. A script has none there: its listings are sources
+-- a listing that stands in an ask has entries such as a source's lines have. A script has none there: its listings are in sources
 abbrev pub HasListedAsk : Ask → Type 0
 HasListedAsk (Plain cmd) = (entries : List Entry) → cmd ≡ Checks entries → All IsListed entries
 HasListedAsk (Cp source path attr stripe) = ⊤

@@ -1,7 +1,8 @@
 //! Laws of histories that are explained, with empty bodies.
 
-ghost use Rattle.std.specs.Prelude.{◌≡◌, ◌++◌, ℕ, [], List, Some, length, slice_get};
+ghost use Rattle.std.specs.Prelude.{◌≡◌, ◌++◌, ℕ, [], List, Ok, Some, length, slice_get};
 ghost use Rattle.fam_base.specs.Image.{Image};
+ghost use Rattle.fam_grammar.specs.Scripts.{script_events};
 ghost use Rattle.fam_media.specs.Files.{Files};
 ghost use Rattle.fam_journal.specs.declared.event.Event.{Event};
 ghost use Rattle.fam_journal.specs.Ends.{Ending, EventsDone};
@@ -89,5 +90,14 @@ pub fn a_run_is_explained()
         → IsExplained start journal }
     ensures ends { (start : Image) (files : Files) (events : List Event) (journal : List Note) (last : Session) (ending : Ending)
         → IsImage start → AreSound events → AskSoundCommands events
+        → EventsDone ending files events (first_session start) journal last → IsExplained start journal }
+{}
+
+/// What stands in the asks of a script that reads is within the limits (`asks`): no text has a listing in an ask. So its journal
+/// is explained as it stands, from an image of at most 1 TiB, however the run ends (`explained`).
+pub fn a_script_is_explained()
+    ensures asks { (bytes : List ℕ) (events : List Event) → script_events bytes ≡ Ok events → AskSoundCommands events }
+    ensures explained { (start : Image) (files : Files) (bytes : List ℕ) (events : List Event) (journal : List Note) (last : Session)
+        (ending : Ending) → IsImage start → script_events bytes ≡ Ok events
         → EventsDone ending files events (first_session start) journal last → IsExplained start journal }
 {}

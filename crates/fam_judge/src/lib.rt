@@ -8,7 +8,7 @@
 mod laws;
 
 pub use laws::{
-    a_run_is_explained, a_task_is_formed, answers_stand_at_their_places,
+    a_run_is_explained, a_script_is_explained, a_task_is_formed, answers_stand_at_their_places,
     commands_that_begin_are_sound, first_lines_are_explained, the_same_but_for_bytes,
     what_follows_is_formed, what_is_legal_is_explained, where_no_line_is_left_out,
 };
