@@ -61,7 +61,8 @@ note_runs : (h : ℕ) (hosts : List HostShape) (note : Note) (o : Option HostSha
 note_runs h hosts note None declared is = absurd is
 note_runs h hosts note (Some host) declared is = task_runs h hosts note host declared host.task refl is
 
-operations_formed : (lines : ℕ) (name : List ℕ) (h : ℕ) (notes : List Note) (hosts : List HostShape) → number_of name (shown_shapes lines hosts) ≡ Some h
+-- one behind another
+pub operations_formed : (lines : ℕ) (name : List ℕ) (h : ℕ) (notes : List Note) (hosts : List HostShape) → number_of name (shown_shapes lines hosts) ≡ Some h
     → OperationsShape h hosts notes → HavePlaces hosts notes → AreFormed lines hosts notes
 operations_formed lines name h [] hosts number is placed = tt
 operations_formed lines name h (note ∷ notes) hosts number is placed =
@@ -132,23 +133,28 @@ module _ (lines : ℕ) where
       (record { event = e; valid = valid; shape = shape; sound = sound.0; placed = placed.0 }, tt)
   alone hosts e (note ∷ next ∷ notes) valid shape few sound placed = absurd (omega arith)
 
-  started : (hosts : List HostShape) (name : List ℕ) (what : Ask) (notes : List Note) → may_begin name (mounts what) (shown_shapes lines hosts) ≡ None
-      → (start : StartShape CompletesShape name what lines hosts notes) → AreSoundNotes (Start start.host start.cmd ∷ start.rest)
-      → HavePlaces hosts (Start start.host start.cmd ∷ start.rest) → AreFormed lines hosts (Start start.host start.cmd ∷ start.rest)
-  started hosts name what notes free start sound placed =
+  -- a command begins where it may, and notes of its operations follow
+  pub started : (Q : ℕ → List HostShape → List Note → Type 0)
+      → ((h : ℕ) (hosts : List HostShape) (notes : List Note) → Q h hosts notes → OperationsShape h hosts notes)
+      → (hosts : List HostShape) (name : List ℕ) (what : Ask) (notes : List Note) → may_begin name (mounts what) (shown_shapes lines hosts) ≡ None
+      → (start : StartShape Q name what lines hosts notes) → AreSoundNotes notes → HavePlaces hosts notes → AreFormed lines hosts notes
+  started Q operate hosts name what notes free start sound placed =
       let first : Note = Start start.host start.cmd in
       let begins : StartShape NoMore name what lines hosts (first ∷ []) =
-      record { host = start.host; number = start.number; cmd = start.cmd; asked = start.asked; rest = []; notes_are = refl; follow = refl } in (
+      record { host = start.host; number = start.number; cmd = start.cmd; asked = start.asked; rest = []; notes_are = refl; follow = refl } in
+      let sounds : AreSoundNotes (first ∷ start.rest) = subst AreSoundNotes start.notes_are sound in
+      let places : HavePlaces hosts (first ∷ start.rest) = subst (HavePlaces hosts) start.notes_are placed in
+      subst (λ (l : List Note). AreFormed lines hosts l) (sym start.notes_are) (
         record {
           event = event.Begin name what;
           valid = tt;
           shape = subst (λ (o : Option Refusal). ShapeByRefusal name o (first ∷ []) (UnfitNotes name what (first ∷ []) ⊎ StartShape NoMore name what lines hosts (first ∷ [])))
               (sym free) (inr begins);
-          sound = sound.0;
+          sound = sounds.0;
           placed = tt;
         },
         operations_formed lines name start.host start.rest (shapes_after hosts first) (started_number lines name start.host start.cmd hosts ∙ start.number)
-            start.follow.operations placed.1,
+            (operate start.host (shapes_after hosts first) start.rest start.follow) places.1,
       )
 
   run_by : (hosts : List HostShape) (name : List ℕ) (what : Ask) (notes : List Note) (o : Option Refusal) → may_begin name (mounts what) (shown_shapes lines hosts) ≡ o
@@ -157,8 +163,7 @@ module _ (lines : ℕ) where
   run_by hosts name what notes (Some why) e whole is sound placed = alone hosts (event.Run name what) notes tt whole (few_one (Refused name why) notes is) sound placed
   run_by hosts name what notes None e whole (inl unfit) sound placed = alone hosts (event.Run name what) notes tt whole (few_one _ notes unfit.notes_are) sound placed
   run_by hosts name what notes None e whole (inr start) sound placed =
-      subst (λ (l : List Note). AreFormed lines hosts l) (sym start.notes_are)
-      (started hosts name what notes e start (subst AreSoundNotes start.notes_are sound) (subst (HavePlaces hosts) start.notes_are placed))
+      started CompletesShape (λ h hosts notes complete. complete.operations) hosts name what notes e start sound placed
 
   step_by : (hosts : List HostShape) (name : List ℕ) (count : ℕ) (notes : List Note) (o : Option Refusal) → EventShape (event.Step name count) lines hosts notes
       → ShapeByRefusal name o notes (StepsShape count name lines hosts notes) → AreSoundNotes notes → HavePlaces hosts notes → AreFormed lines hosts notes
@@ -181,7 +186,7 @@ module _ (lines : ℕ) where
   finish_by hosts name notes None whole is sound placed = finish_at hosts name notes (number_of name (shown_shapes lines hosts)) refl is placed
 
   -- what one event adds
-  event_formed : (hosts : List HostShape) (e : Event) (notes : List Note) → IsValidEvent e → EventShape e lines hosts notes
+  pub event_formed : (hosts : List HostShape) (e : Event) (notes : List Note) → IsValidEvent e → EventShape e lines hosts notes
       → AreSoundNotes notes → HavePlaces hosts notes → AreFormed lines hosts notes
   event_formed hosts (event.Host name uuid) notes valid is sound placed =
       alone hosts (event.Host name uuid) notes valid is (few_does lines hosts notes (call.Declares name uuid) (few_one (Host name uuid) notes) is) sound placed
@@ -217,15 +222,18 @@ module _ (lines : ℕ) where
 
   -- Journals.
 
-  formed_both : (hosts : List HostShape) (a b : List Note) → AreFormed lines hosts a → AreFormed lines (shapes_behind hosts a) b → AreFormed lines hosts (a ++ b)
+  -- notes behind others
+  pub formed_both : (hosts : List HostShape) (a b : List Note) → AreFormed lines hosts a → AreFormed lines (shapes_behind hosts a) b → AreFormed lines hosts (a ++ b)
   formed_both hosts [] b first more = more
   formed_both hosts (note ∷ a) b first more = (first.0, formed_both (shapes_after hosts note) a b first.1 more)
 
-  sound_parts : (a b : List Note) → AreSoundNotes (a ++ b) → AreSoundNotes a × AreSoundNotes b
+  -- and of both parts
+  pub sound_parts : (a b : List Note) → AreSoundNotes (a ++ b) → AreSoundNotes a × AreSoundNotes b
   sound_parts [] b sound = (tt, sound)
   sound_parts (note ∷ a) b sound = let more = sound_parts a b sound.1 in ((sound.0, more.0), more.1)
 
-  placed_parts : (hosts : List HostShape) (a b : List Note) → HavePlaces hosts (a ++ b) → HavePlaces hosts a × HavePlaces (shapes_behind hosts a) b
+  -- the second part by the hosts behind the first one
+  pub placed_parts : (hosts : List HostShape) (a b : List Note) → HavePlaces hosts (a ++ b) → HavePlaces hosts a × HavePlaces (shapes_behind hosts a) b
   placed_parts hosts [] b placed = (tt, placed)
   placed_parts hosts (note ∷ a) b placed = let more = placed_parts (shapes_after hosts note) a b placed.1 in ((placed.0, more.0), more.1)
 

@@ -3,3 +3,11 @@ pub mod Showing
 pub mod Explaining
 pub mod Forming
 pub mod Following
+pub mod Placing
+pub mod Operating
+pub mod Acting
+pub mod Running
+pub mod Beginning
+pub mod Cutting
+pub mod Scripting
+pub mod Ending

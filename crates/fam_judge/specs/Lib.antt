@@ -1,4 +1,5 @@
 pub mod Alike
 pub mod Shows
 pub mod Formed
+pub mod Asks
 pub mod Explained

@@ -1,15 +1,22 @@
 //! Laws of histories that are explained, with empty bodies.
 
-ghost use Rattle.std.specs.Prelude.{◌≡◌, ◌++◌, ℕ, [], List, Some, length, slice_get};
+ghost use Rattle.std.specs.Prelude.{◌≡◌, ◌++◌, ℕ, [], List, Ok, Some, length, slice_get};
 ghost use Rattle.fam_base.specs.Image.{Image};
+ghost use Rattle.fam_grammar.specs.Scripts.{script_events};
+ghost use Rattle.fam_media.specs.Files.{Files};
 ghost use Rattle.fam_journal.specs.declared.event.Event.{Event};
+ghost use Rattle.fam_journal.specs.Ends.{Ending, EventsDone};
+ghost use Rattle.fam_journal.specs.Events.{Session, first_session};
 ghost use Rattle.fam_journal.specs.EventShapes.{FollowsShape};
-ghost use Rattle.fam_journal.specs.Laws.{AreSound};
+ghost use Rattle.fam_journal.specs.Follows.{Follows};
+ghost use Rattle.fam_journal.specs.Laws.{AreSound, IsImage};
 ghost use Rattle.fam_journal.specs.Legal.{Legal};
-ghost use Rattle.fam_journal.specs.Calls.{number_of};
+ghost use Rattle.fam_journal.specs.Calls.{number_of, Call, Does};
+ghost use Rattle.fam_journal.specs.Machines.{Machines};
 ghost use Rattle.fam_journal.specs.Notes.{Note};
-ghost use Rattle.fam_journal.specs.Shapes.{HostShape, TaskNote, TaskShape, shown_shapes};
+ghost use Rattle.fam_journal.specs.Shapes.{AreShaped, HostShape, TaskNote, TaskShape, shown_shapes};
 ghost use Rattle.fam_judge.specs.Alike.{AreAlikeNotes, AreWhollyTold};
+ghost use Rattle.fam_judge.specs.Asks.{AskSoundCommands};
 ghost use Rattle.fam_judge.specs.Explained.{IsExplained, IsExplainedBy};
 ghost use Rattle.fam_judge.specs.Formed.{AreFormed, HavePlaces, AreSoundNotes, IsFormedNote, HasPlace};
 
@@ -54,4 +61,43 @@ pub fn what_follows_is_formed()
     ensures { (lines : ℕ) (events : List Event) (hosts : List HostShape) (journal : List Note)
         → AreSound events → FollowsShape lines events hosts journal → AreSoundNotes journal → HavePlaces hosts journal
         → AreFormed lines hosts journal }
+{}
+
+/// Whatever the image holds and whatever the media does, each answer in the journal of a run stands where the tables of
+/// operations give it: behind all events (`follows`), and however the run ends (`ends`). So it is of one call on a state whose
+/// hosts are what notes tell (`row`).
+pub fn answers_stand_at_their_places()
+    ensures follows { (files : Files) (events : List Event) (image : Image) (journal : List Note) (last : Session)
+        → Follows files events (first_session image) journal last → HavePlaces [] journal }
+    ensures ends { (files : Files) (events : List Event) (image : Image) (journal : List Note) (last : Session) (ending : Ending)
+        → EventsDone ending files events (first_session image) journal last → HavePlaces [] journal }
+    ensures row { (lines : ℕ) (state left : Machines) (hosts : List HostShape) (notes : List Note) (call : Call)
+        → AreShaped lines state hosts → Does call state notes left → HavePlaces hosts notes }
+{}
+
+/// Each command that begins in a run is sound, where what stands in its events' asks is within the limits
+/// (`AskSoundCommands`): whatever bytes their sources hold.
+pub fn commands_that_begin_are_sound()
+    ensures { (files : Files) (events : List Event) (image : Image) (journal : List Note) (last : Session) (ending : Ending)
+        → AskSoundCommands events → EventsDone ending files events (first_session image) journal last → AreSoundNotes journal }
+{}
+
+/// The journal of a run is explained as it stands, where the events are within their limits (`AreSound` of fam_journal), and so
+/// is what stands in their asks (`AskSoundCommands`): behind all events (`follows`), and however the run ends (`ends`).
+pub fn a_run_is_explained()
+    ensures follows { (start : Image) (files : Files) (events : List Event) (journal : List Note) (last : Session)
+        → IsImage start → AreSound events → AskSoundCommands events → Follows files events (first_session start) journal last
+        → IsExplained start journal }
+    ensures ends { (start : Image) (files : Files) (events : List Event) (journal : List Note) (last : Session) (ending : Ending)
+        → IsImage start → AreSound events → AskSoundCommands events
+        → EventsDone ending files events (first_session start) journal last → IsExplained start journal }
+{}
+
+/// What stands in the asks of a script that reads is within the limits (`asks`): no text has a listing in an ask. So its journal
+/// is explained as it stands, from an image of at most 1 TiB, however the run ends (`explained`).
+pub fn a_script_is_explained()
+    ensures asks { (bytes : List ℕ) (events : List Event) → script_events bytes ≡ Ok events → AskSoundCommands events }
+    ensures explained { (start : Image) (files : Files) (bytes : List ℕ) (events : List Event) (journal : List Note) (last : Session)
+        (ending : Ending) → IsImage start → script_events bytes ≡ Ok events
+        → EventsDone ending files events (first_session start) journal last → IsExplained start journal }
 {}
