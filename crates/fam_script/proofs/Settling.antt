@@ -107,6 +107,7 @@ cut_told k state = go (nat_lt k first_sent) state
 
 -- behind a note that makes no file system
 unmade : (note : Note) → is_made_note note ≡ false → (o : Option Settled) → later_by (continued note) o ≡ length_after note o
+unmade note none (Some s) = refl
 unmade (Made h p) none None = cc
 unmade note none None = refl
 
