@@ -1,8 +1,8 @@
 //! The first difference of two lines.
 
-ghost use Rattle.std.specs.Prelude.{◌≡◌, ◌%◌, ◌<◌, true};
+ghost use Rattle.std.specs.Prelude.{◌≡◌, ◌+◌, ◌*◌, ◌%◌, ◌^◌, ◌<◌, ◌≤◌, length, true};
 ghost use Rattle.fam_rules.specs.Content.{byte_in};
-ghost use Rattle.fam_content.specs.Difference.{IsFirstDifference};
+ghost use Rattle.fam_content.specs.Difference.{IsFirstDifference, IsFirstOfRun};
 
 use fam_base::Line;
 use fam_format::{LINE_WORDS, byte_of};
@@ -46,6 +46,27 @@ pub fn compare(found: &Line, wanted: &Line, start: u64, size: u64) -> Option<(u6
         let (is, should_be) = (byte_at(found, b), byte_at(wanted, b));
         if is != should_be {
             return Some((offset, is, should_be));
+        }
+    }
+    None
+}
+
+/// The first of lines that stand one behind another in the file, as many as are wanted, which differs from the one that was
+/// wanted in its place, and where: as `compare` of each of them tells. `start` is the file offset of the first line.
+pub fn compare_lines(
+    found: &[Line],
+    wanted: &[Line],
+    start: u64,
+    size: u64,
+) -> Option<(usize, (u64, u8, u8))>
+    requires aligned { start % 64 ≡ 0 }
+    requires few { length wanted.now ≤ length found.now }
+    requires fits { start + 64 * length wanted.now < 2 ^ 64 }
+    ensures { IsFirstOfRun found.now wanted.now start size result }
+{
+    'lines: for k in 0..wanted.len() {
+        if let Some(difference) = compare(&found[k], &wanted[k], start + 64 * k as u64, size) {
+            return Some((k, difference));
         }
     }
     None

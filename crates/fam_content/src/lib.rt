@@ -17,7 +17,7 @@ mod prefix;
 mod stream;
 
 pub use bytes::{are_bytes, holds_bytes};
-pub use difference::compare;
+pub use difference::{compare, compare_lines};
 pub use file_lines::{file_line, lines_in_row, lines_of};
 pub use places::place;
 pub use prefix::first_bytes;

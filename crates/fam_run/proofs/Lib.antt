@@ -18,6 +18,7 @@ pub mod RunAlone
 pub mod Checked
 pub mod SentLeft
 pub mod SlotRuns
+pub mod ComparedRuns
 pub mod Readers
 pub mod Shown
 pub mod SlotRows

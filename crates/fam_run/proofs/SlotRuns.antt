@@ -86,24 +86,31 @@ module _ (first : ℕ) (lines : List (List ℕ)) (modelled shown : Option Image)
       (line_more (suc n) mid next sound loads absent read))
 
   -- the next line is dropped, and can't be brought
-  line_breaks : (n : ℕ) (mid dropped : Task) → IsSound mid → DropsLine (line_no (first + n)) mid dropped → IsSound dropped → LacksNone old first (suc n) → Rose before now → first + n < size →
+  pub line_breaks : (n : ℕ) (mid dropped : Task) → IsSound mid → DropsLine (line_no (first + n)) mid dropped → IsSound dropped
+      → LacksNone old first (suc n) → Rose before now → first + n < size →
       HasBrokenOff (change size before now modelled shown mid (brought_run first lines n old) dropped (with_cell (first + n) Absent (brought_run first lines n old))) (line_no (first + n))
   line_breaks n mid dropped sound drops dropped_sound clean rose inside =
       line_unread (line_no (first + n)) mid dropped modelled (brought_run first lines n old) normal sound drops (clean_next n clean) dropped_sound size before now
       (with_cell (first + n) Absent (brought_run first lines n old)) shown same refl rose inside
+
+  -- so behind some that are done
+  pub breaks_behind : (n : ℕ) (mid dropped : Task) → HasDone (change size before now modelled shown t old mid (brought_run first lines n old)) Go → IsSound mid
+      → DropsLine (line_no (first + n)) mid dropped → IsSound dropped → LacksNone old first (suc n) → Rose before now → first + n < size →
+      HasBrokenOff (change size before now modelled shown t old dropped (with_cell (first + n) Absent (brought_run first lines n old))) (line_no (first + n))
+  breaks_behind n mid dropped done sound drops dropped_sound clean rose inside =
+      broken_behind (change size before now modelled shown t old mid (brought_run first lines n old)) same done
+      dropped (with_cell (first + n) Absent (brought_run first lines n old)) shown now size before (line_no (first + n)) (omega arith) refl
+      (subst (λ (m : Option Image). HasBrokenOff
+      (change size before now m shown mid (brought_run first lines n old) dropped
+      (with_cell (first + n) Absent (brought_run first lines n old))) (line_no (first + n))) (sym same)
+      (line_breaks n mid dropped sound drops dropped_sound clean rose inside))
 
   pub run_breaks : (n : ℕ) (mid dropped : Task) → LoadsSlotLines first lines t mid n → IsSound mid → DropsLine (line_no (first + n)) mid dropped
       → IsSound dropped → LacksNone old first (suc n) → Read n → Rose before now → first + n < size →
       HasBrokenOff (change size before now modelled shown t old dropped (with_cell (first + n) Absent (brought_run first lines n old))) (line_no (first + n))
   run_breaks zero mid dropped none sound drops dropped_sound clean read rose inside = line_breaks 0 t dropped sound drops dropped_sound clean rose inside
   run_breaks (suc n) mid dropped run sound drops dropped_sound clean read rose inside =
-      broken_behind (change size before now modelled shown t old mid (brought_run first lines (suc n) old)) same
-      (run_loaded n mid run (λ k below. clean k (omega (arith, below))) read)
-      dropped (with_cell (first + suc n) Absent (brought_run first lines (suc n) old)) shown now size before (line_no (first + suc n)) (omega arith) refl
-      (subst (λ (m : Option Image). HasBrokenOff
-      (change size before now m shown mid (brought_run first lines (suc n) old) dropped
-      (with_cell (first + suc n) Absent (brought_run first lines (suc n) old))) (line_no (first + suc n))) (sym same)
-      (line_breaks (suc n) mid dropped sound drops dropped_sound clean rose inside))
+      breaks_behind (suc n) mid dropped (run_loaded n mid run (λ k below. clean k (omega (arith, below))) read) sound drops dropped_sound clean rose inside
 
   -- the same of a cache that is the one behind them
   pub run_done : (count : ℕ) → 0 < count → (next : Task) → LoadsSlotLines first lines t next count → LacksNone old first count → Read count

@@ -1,10 +1,11 @@
--- Lines of the new file that are stored and sent one behind another, by one write of the media.
-use Rattle.std.specs.Prelude.{ℕ, ◌≡◌, Option, None, Result, Ok, Err}
+-- Lines of the new file that are stored and sent one behind another, by one write of the media; and those of a run in a cache.
+use Rattle.std.specs.Prelude.{ℕ, ◌≡◌, ◌+◌, ◌<◌, Option, None, Result, Ok, Err}
 use Rattle.fam_base.specs.Image.{Image}
 use Rattle.fam_base.specs.declared.line.LineNo.{LineNo}
 use Rattle.fam_cache.specs.declared.fault.OperationFault.{OperationFault}
 use Rattle.fam_cache.specs.declared.fault.OperationFault.TheVariants as fault
-use Rattle.fam_machine.specs.Caches.{Cache}
+use Rattle.fam_machine.specs.declared.cell.Cell.TheVariants.{Absent}
+use Rattle.fam_machine.specs.Caches.{Cache, cell_at}
 use Rattle.fam_commands.specs.Task.{Task}
 use Rattle.fam_commands.specs.declared.phase.Phase.TheVariants as at
 use Rattle.fam_tasks.specs.declared.answer.Turn.{Turn}
@@ -13,6 +14,10 @@ use Rattle.fam_tasks.specs.Sound.{IsSound}
 use Rattle.fam_run.specs.Led.{HasBrokenOff, HasDone}
 use Rattle.fam_run.specs.Operation.{IsUndone}
 use Rattle.fam_run.specs.TaskChange.{TaskChange}
+
+-- the host holds none of so many lines, from line `first` on
+abbrev pub AreAbsent : Cache → ℕ → ℕ → Type 0
+AreAbsent cache first count = (k : ℕ) → k < count → cell_at cache (first + k) ≡ Absent
 
 -- a task and its host's cache, before and behind operations that lead memory's image from one to another, on a media of so many
 -- lines of which no call fails

@@ -17,7 +17,7 @@ ghost use Rattle.fam_run.specs.Room.{WantsRoom};
 ghost use Rattle.fam_run.specs.TaskChange.{task_change};
 
 use crate::checking::check_slot;
-use crate::comparing::compare_line;
+use crate::comparing_run::compare_lines;
 use crate::operation::operate;
 use crate::slots::load_slot;
 use crate::storing_run::store_lines;
@@ -69,7 +69,7 @@ fn go_on<M: Media>(
         Due::Slot(due) => load_slot(cache, task, media, turn, due, lines),
         Due::Checked(slot) => check_slot(task, turn, slot),
         Due::Stored(number) => store_lines(cache, task, media, turn, number, lines),
-        Due::Compared(line) => compare_line(cache, task, media, turn, line),
+        Due::Compared(line) => compare_lines(cache, task, media, turn, line, lines),
         Due::Other => operate(cache, task, media, turn),
     }
 }

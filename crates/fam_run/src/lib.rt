@@ -7,6 +7,7 @@
 mod advancing;
 mod checking;
 mod comparing;
+mod comparing_run;
 mod operation;
 mod rest;
 mod rows;

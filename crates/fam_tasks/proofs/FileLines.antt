@@ -97,7 +97,7 @@ read_kept (Read path offset count) j is = refl
 read_kept other j is = absurd is
 
 -- a command that compares wants a file from its first line on
-verify_first : (cmd : Cmd) → IsVerify cmd → first_line cmd ≡ 0
+pub verify_first : (cmd : Cmd) → IsVerify cmd → first_line cmd ≡ 0
 verify_first (Verify path against) is = refl
 verify_first other is = absurd is
 

@@ -28,7 +28,7 @@ use Rattle.fam_tasks.proofs.Phases.{same_gate}
 use Rattle.fam_tasks.proofs.Slots.{some_line}
 
 -- the device's line of a line of the file is one of the image's
-line_within_image : (o : Option Entry) (t : Task) (j line : ℕ) → t.entry ≡ o → HasSuper t → IsFileLine j t → line ≡ line_of o j → line < t.lines
+pub line_within_image : (o : Option Entry) (t : Task) (j line : ℕ) → t.entry ≡ o → HasSuper t → IsFileLine j t → line ≡ line_of o j → line < t.lines
 line_within_image None t j line is super file at = absurd (subst (IsProperFor t) is file.proper)
 line_within_image (Some e) t j line is super file at = within_image t e j line is super file at
 

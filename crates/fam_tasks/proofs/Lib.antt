@@ -14,6 +14,7 @@ pub mod KeptAnew
 pub mod Rest
 pub mod WholeLine
 pub mod FileRun
+pub mod CompareRun
 pub mod SlotLine
 pub mod SlotRun
 pub mod FlatLines

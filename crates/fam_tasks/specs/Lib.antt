@@ -8,6 +8,7 @@ pub mod Reported
 pub mod Tells
 pub mod Rest
 pub mod StoreRuns
+pub mod CompareRuns
 pub mod Due
 pub mod Sound
 pub mod Model

@@ -73,6 +73,20 @@ impl Contents {
         self.stream.lines(&self.content, size, others);
     }
 
+    /// Takes the next lines of a file of `size` bytes, as many as `lines` has, and gives them. As many must be left. Which of
+    /// them is the last isn't remembered.
+    pub(crate) fn take_lines(&mut self, size: u64, lines: &mut [Line])
+        requires { 64 * (self.old.taken + length lines.old) < size + 64 }
+        ensures lines { (k : ℕ) → k < length lines.old
+            → line_in lines.new k ≡ content_line self.old.content size (self.old.taken + k) }
+        ensures content { self.new.content ≡ self.old.content }
+        ensures taken { self.new.taken ≡ self.old.taken + length lines.old }
+        ensures bytes { HoldsBytes self.old.content }
+    {
+        self.stream.lines(&self.content, size, lines);
+        self.taken += lines.len() as u64;
+    }
+
     /// The line that was taken last.
     pub(crate) fn line(&self) -> &Line
         ensures { result.now ≡ self.now.line }

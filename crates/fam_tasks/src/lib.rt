@@ -24,4 +24,4 @@ pub use fam_base::ByteText;
 pub use fam_machine::Op;
 pub use fam_replay::Replica;
 pub use kept::Kept;
-pub use task::{Due, SlotDue, Task};
+pub use task::{Due, MOST_COMPARED, SlotDue, Task};

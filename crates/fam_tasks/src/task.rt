@@ -21,6 +21,7 @@ ghost use Rattle.fam_tasks.specs.Survey.{ShowWants};
 ghost use Rattle.fam_tasks.specs.Sound.{most_lines, HasSuper, IsFileLine, IsLine, IsSound, IsWantedLine};
 ghost use Rattle.fam_tasks.specs.Tells.{Keeps, Leaves, Tells, WantsMemory, is_digest, is_reading};
 
+mod compare_run;
 mod decide;
 mod digests;
 mod due;
@@ -39,6 +40,7 @@ use crate::contents::Contents;
 use crate::history::History;
 use crate::kept::Kept;
 use crate::wanted::first_line;
+pub use compare_run::MOST_COMPARED;
 pub use due::Due;
 use fam_base::{Cmd, Content, Entry, LineNo, OutOfMemory, Params};
 use fam_commands::{Part, Phase};

@@ -37,8 +37,8 @@ returns-in-Slot-clause-advanced g c =
 pub returns-in-Compared-clause-advanced : goal.returns-in-Compared-clause-advanced
 returns-in-Compared-clause-advanced g c =
     let m = g.M.Media in
-    run_alone (task_change m.size m.state c.args.task.now c.compare_line.new.task c.args.cache.now c.compare_line.new.cache c.args.media.now
-    c.compare_line.new.media) (said_of c.compare_line.result c.compare_line.new.turn) c.compare_line.ensures.advanced
+    run_alone (task_change m.size m.state c.args.task.now c.compare_lines.new.task c.args.cache.now c.compare_lines.new.cache c.args.media.now
+    c.compare_lines.new.media) (said_of c.compare_lines.result c.compare_lines.new.turn) c.compare_lines.ensures.advanced
 
 pub returns-in-Slot-clause-places : goal.returns-in-Slot-clause-places
 returns-in-Slot-clause-places g c =
@@ -47,8 +47,8 @@ returns-in-Slot-clause-places g c =
 
 pub returns-in-Compared-clause-places : goal.returns-in-Compared-clause-places
 returns-in-Compared-clause-places g c =
-    none_kept c.args.task.now c.compare_line.new.task c.args.cache.now c.compare_line.new.cache
-    (said_of c.compare_line.result c.compare_line.new.turn)
+    none_kept c.args.task.now c.compare_lines.new.task c.args.cache.now c.compare_lines.new.cache
+    (said_of c.compare_lines.result c.compare_lines.new.turn)
     (no_places _ c.args.task.now c.args.cache.now c.in-Compared.ensures.phase (λ has. has))
 
 pub returns-in-Checked-clause-places : goal.returns-in-Checked-clause-places
@@ -91,10 +91,10 @@ pub returns-in-Stored-clause-steady : goal.returns-in-Stored-clause-steady
 returns-in-Stored-clause-steady g c = c.store_lines.ensures.steady
 
 pub returns-in-Compared-clause-want : goal.returns-in-Compared-clause-want
-returns-in-Compared-clause-want g c = c.compare_line.ensures.want
+returns-in-Compared-clause-want g c = c.compare_lines.ensures.want
 
 pub returns-in-Compared-clause-steady : goal.returns-in-Compared-clause-steady
-returns-in-Compared-clause-steady g c = c.compare_line.ensures.steady
+returns-in-Compared-clause-steady g c = c.compare_lines.ensures.steady
 
 pub returns-in-Other-clause-steady : goal.returns-in-Other-clause-steady
 returns-in-Other-clause-steady g c = c.operate.ensures.steady
