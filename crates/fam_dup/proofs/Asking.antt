@@ -1,10 +1,10 @@
 -- The line that a fault names is asked for, and each fault that came is counted and told.
-use Rattle.std.proofs.Common.{◌≡◌, ℕ, ◌<◌, Bool, false, Option, Some, refl, sym, subst, inl, inr}
+use Rattle.std.proofs.Common.{◌≡◌, ℕ, Bool, Option, Some, refl, sym, subst, inl, inr}
 use Rattle.fam_base.specs.declared.entry.Params.{Params}
 use Rattle.fam_base.specs.Image.{Image}
 use Rattle.fam_dup.specs.declared.fault.DupFault.{DupFault}
 use Rattle.fam_dup.specs.declared.fault.DupFault.TheVariants as fault
-use Rattle.fam_dup.specs.Ends.{FailsFromAt, FailsToAt, IsAskedIn, IsCausedByFrom, IsCausedByTo, IsCutStep, IsOwn, IsReadAt, from_counted, to_counted}
+use Rattle.fam_dup.specs.Ends.{FailsFromAt, FailsToAt, IsAskedIn, IsCausedByFrom, IsCausedByTo, IsCutStep, IsOwn, IsReadAt, IsReadTo, from_counted, to_counted}
 use Rattle.fam_dup.specs.Findings.{FailsFrom, FailsTo, FaultClass, Refuses, WantsMemory, fault_class}
 
 module _ (from old : Image) (new : Option Image) (p : Params) (force : Bool) where
@@ -23,18 +23,19 @@ module _ (from old : Image) (new : Option Image) (p : Params) (force : Bool) whe
   asked_from fault.OutOfMemory a b same cause at = tt
 
   -- TO alone was, before anything was written
-  pub asked_to : (f : DupFault) (a b : ℕ) → new ≡ Some old → IsCausedByTo a b (fault_class f) → FailsToAt (λ at. (force ≡ false) × (at < 3)) f → IsAskedIn from old new p force f
-  asked_to (fault.ImageSmall lines) a b same cause at = tt
-  asked_to (fault.NoSuper word) a b same cause at = tt
-  asked_to (fault.BadSuper field found wanted) a b same cause at = tt
-  asked_to (fault.BadLog field found wanted) a b same cause at = tt
-  asked_to (fault.BadEntry seq reason) a b same cause at = tt
-  asked_to (fault.TooSmall needed have) a b same cause at = tt
-  asked_to (fault.HasSuper fs) a b same cause at = tt
-  asked_to (fault.Stopped seq refusal) a b same cause at = tt
-  asked_to (fault.FromFault line) a b same cause at = absurd cause
-  asked_to (fault.ToFault line) a b same cause at = inl (same, at.0, at.1)
-  asked_to fault.OutOfMemory a b same cause at = tt
+  pub asked_to : (P : ℕ → Type 0) → ((at : ℕ) → P at → IsReadTo from old p force at) → (f : DupFault) (a b : ℕ) → new ≡ Some old → IsCausedByTo a b (fault_class f) → FailsToAt P f
+      → IsAskedIn from old new p force f
+  asked_to P reads (fault.ImageSmall lines) a b same cause at = tt
+  asked_to P reads (fault.NoSuper word) a b same cause at = tt
+  asked_to P reads (fault.BadSuper field found wanted) a b same cause at = tt
+  asked_to P reads (fault.BadLog field found wanted) a b same cause at = tt
+  asked_to P reads (fault.BadEntry seq reason) a b same cause at = tt
+  asked_to P reads (fault.TooSmall needed have) a b same cause at = tt
+  asked_to P reads (fault.HasSuper fs) a b same cause at = tt
+  asked_to P reads (fault.Stopped seq refusal) a b same cause at = tt
+  asked_to P reads (fault.FromFault line) a b same cause at = absurd cause
+  asked_to P reads (fault.ToFault line) a b same cause at = inl (same, reads line.0 at)
+  asked_to P reads fault.OutOfMemory a b same cause at = tt
 
   -- none was
   pub asked_none : (f : DupFault) → IsOwn (fault_class f) → IsAskedIn from old new p force f

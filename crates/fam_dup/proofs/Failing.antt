@@ -1,5 +1,5 @@
 -- Faults that come later in a pass.
-use Rattle.std.proofs.Common.{◌≡◌, ℕ, ◌≤◌, inl, inr, arith}
+use Rattle.std.proofs.Common.{ℕ, ◌≤◌, inl, inr, arith}
 use Rattle.fam_media.specs.Causes.{Rose}
 use Rattle.fam_dup.specs.Ends.{IsCausedBy, IsCausedByFrom, IsFailure}
 use Rattle.fam_dup.specs.Findings.{FailsFrom, FailsTo, FaultClass, Refuses, WantsMemory}

@@ -1,11 +1,11 @@
 -- How a copy ends, and what each end leaves of TO.
-use Rattle.std.specs.Prelude.{ℕ, ◌≡◌, ◌⊎◌, ◌+◌, ◌*◌, ◌<◌, ⊤, Bool, false, IsTrue, List, length, slice_get, Option, Some, Result, Ok, Err}
+use Rattle.std.specs.Prelude.{ℕ, ◌≡◌, ◌⊎◌, ◌+◌, ◌*◌, ◌<◌, ◌≤◌, ⊤, Bool, false, IsTrue, List, length, slice_get, Option, Some, Result, Ok, Err}
 use Rattle.fam_base.specs.declared.entry.Params.{Params}
 use Rattle.fam_base.specs.declared.entry.Entry.{Entry}
 use Rattle.fam_base.specs.Image.{Image, line_at}
 use Rattle.fam_format.specs.declared.faults.SuperFault.TheVariants as super
-use Rattle.fam_format.specs.Layout.{slots_of}
-use Rattle.fam_format.specs.Params.{is_format, is_log_length, is_unit}
+use Rattle.fam_format.specs.Layout.{least_lines, slots_of}
+use Rattle.fam_format.specs.Params.{is_format, is_log_length, is_unit, need}
 use Rattle.fam_format.specs.Reading.{Reading, NoSuperblock, Sound, reading, super_in}
 use Rattle.fam_media.specs.Causes.{Rose}
 use Rattle.fam_media.specs.Outside.{IfModelled}
@@ -133,10 +133,23 @@ FailsToAt At (fault.FromFault line) = ⊤
 FailsToAt At (fault.ToFault line) = At line.0
 FailsToAt At fault.OutOfMemory = ⊤
 
--- a line that is read of FROM before anything is written: of the superblock, or of the log behind one that reads
+-- a line that is read of FROM before anything is written: FROM has lines enough for a log, and it is one of the superblock, or of the
+-- log behind one that reads
 abbrev pub IsReadAt : Image → ℕ → Type 0
 IsReadAt from at =
-    (at < 3) ⊎ ((p : Params) × (super_in (line_at from) (line_bytes * length from) ≡ Ok p) × IsOfLog (line_at from) p at)
+    (least_lines ≤ length from)
+    × ((at < 3) ⊎ ((p : Params) × (super_in (line_at from) (line_bytes * length from) ≡ Ok p) × IsOfLog (line_at from) p at))
+
+-- a line that is read of TO before anything is written: FROM was read whole by then, and is sound; TO has room for these parameters, and
+-- isn't forced; and it is one of TO's lines 0 to 2
+pub record IsReadTo (from to : Image) (p : Params) (force : Bool) (at : ℕ) : Type 0 where
+  pub enough : least_lines ≤ length from
+  pub params : Params
+  pub entries : List Entry
+  pub sound : reading from ≡ Sound params entries
+  pub room : need p.log_length p.unit ≤ line_bytes * length to
+  pub unforced : force ≡ false
+  pub first : at < 3
 
 -- the step of a copy at which a fault came: TO failed at the line that was to be put
 abbrev pub IsToStep : DupFault → Put → Type 0
@@ -187,8 +200,8 @@ pub record IsCutStep (from old : Image) (new : Option Image) (p : Params) (force
   pub found : finding from old p force ≡ Copies entries copies
   pub cut : AreCutAt (IsStep entries copies fault) (copy_puts (line_at from) p entries copies) (Some old) new
 
--- the line at which a media failed is one that was asked for then. Of FROM it is one that is read before anything is written, or one of
--- the step at which the copy was cut; of TO one of its lines 0 to 2, which are read only where it isn't forced, or that of this step
+-- the line at which a media failed is one that was asked for then: one that is read of FROM or of TO before anything is written, or that
+-- of the step at which the copy was cut
 abbrev pub IsAskedIn : Image → Image → Option Image → Params → Bool → DupFault → Type 0
 IsAskedIn from old new p force (fault.ImageSmall lines) = ⊤
 IsAskedIn from old new p force (fault.NoSuper word) = ⊤
@@ -201,7 +214,7 @@ IsAskedIn from old new p force (fault.Stopped seq refusal) = ⊤
 IsAskedIn from old new p force (fault.FromFault line) =
     ((new ≡ Some old) × IsReadAt from line.0) ⊎ IsCutStep from old new p force (fault.FromFault line)
 IsAskedIn from old new p force (fault.ToFault line) =
-    ((new ≡ Some old) × (force ≡ false) × (line.0 < 3)) ⊎ IsCutStep from old new p force (fault.ToFault line)
+    ((new ≡ Some old) × IsReadTo from old p force line.0) ⊎ IsCutStep from old new p force (fault.ToFault line)
 IsAskedIn from old new p force fault.OutOfMemory = ⊤
 
 -- how often FROM has failed behind a fault, where it counts exactly: once more where the fault tells it, and not at all else

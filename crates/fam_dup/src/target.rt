@@ -1,9 +1,10 @@
 //! What stands on TO.
 
 ghost use Rattle.std.specs.Prelude.{◌≡◌, ◌*◌, ◌<◌, ◌≤◌, IfErr, OnOk, false, true};
-ghost use Rattle.fam_format.specs.Params.{SoundParams};
+ghost use Rattle.fam_format.specs.Params.{SoundParams, need};
 ghost use Rattle.fam_media.specs.Causes.{IsSteady};
 ghost use Rattle.fam_media.specs.Outside.{IfModelled};
+ghost use Rattle.fam_rules.specs.Place.{line_bytes};
 ghost use Rattle.fam_dup.specs.Ends.{AreAsked, FailsToAt, IsCausedByTo, NamesLine, to_counted};
 ghost use Rattle.fam_dup.specs.Findings.{Finding, Names, fault_class, to_or};
 ghost use Rattle.fam_format.specs.Params.{IsUuid};
@@ -41,7 +42,7 @@ pub(crate) fn check_target<N: Media>(
     ensures fault { IfErr result (λ fault. IfModelled (N.state to.old).image (λ image. (rest : Finding)
         → Names (fault_class fault) (to_or image params.now force rest))) }
     ensures cause { IfErr result (λ fault. IsCausedByTo (N.state to.old).faults (N.state to.new).faults (fault_class fault)) }
-    ensures asked { IfErr result (FailsToAt (λ at. (force ≡ false) × (at < 3))) }
+    ensures asked { IfErr result (FailsToAt (λ at. (force ≡ false) × (need params.now.log_length params.now.unit ≤ line_bytes * N.size to.old) × (at < 3))) }
     ensures unread { force ≡ true → to.new ≡ to.old }
     ensures quiet { OnOk result (N.exact ≡ true → (N.state to.new).faults ≡ (N.state to.old).faults) }
     ensures counted { IfErr result (λ fault. N.exact ≡ true → (N.state to.new).faults ≡ to_counted (fault_class fault) (N.state to.old).faults) }

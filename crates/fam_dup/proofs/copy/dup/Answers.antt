@@ -1,9 +1,10 @@
-use Rattle.std.proofs.Common.{◌∙◌, ◌≤◌, ◌*◌, ℕ, Option, Some, refl, sym, ap, subst, inr, length, arith}
+use Rattle.std.proofs.Common.{◌≡◌, ◌∙◌, ◌≤◌, ◌<◌, ◌*◌, ℕ, false, Option, Some, refl, sym, ap, subst, inr, length, arith}
 use Rattle.std.specs.Option.{option_map}
 use Rattle.std.proofs.lemmas.Result.{err_from_is_err_and}
 use Rattle.fam_base.specs.declared.entry.Params.{Params}
 use Rattle.fam_base.specs.Image.{Image, line_at}
 use Rattle.fam_format.specs.Layout.{least_lines}
+use Rattle.fam_format.specs.Params.{need}
 use Rattle.fam_rules.specs.Place.{line_bytes}
 use Rattle.fam_rules.specs.Written.{put_lines}
 use Rattle.fam_dup.specs.Ends.{NamesLine}
@@ -178,9 +179,23 @@ returns-in_err-source-clause-asked g c =
 
 pub returns-in_err-check_target-clause-asked : goal.returns-in_err-check_target-clause-asked
 returns-in_err-check_target-clause-asked g c =
+    let p = c.args.params.now in
+    let force = c.args.force in
+    let lines : ℕ = g.N.Media.size c.args.to.now in
+    let s = c.in_ok-source.source in
     let e = c.in_err-check_target.ensures in
     let q = err_from_is_err_and c.from_residual-in_err-check_target.result c.from_residual-in_err-check_target.ensures.1 in
-    rw (q.1, q.2) (λ source told old is. asked_to source old _ c.args.params.now c.args.force c.in_err-check_target.field-0.0 _ _ (e.same ∙ is) e.cause e.asked)
+    rw (q.1, q.2) (λ source told old is.
+    let enough : least_lines ≤ length source = omega (arith, c.if-lines-lt-LEAST_LINES.false, c.lines-lines.ensures.count, g.met.M.Media.modelled c.args.from.now source told) in
+    asked_to source old _ p force (λ at. (force ≡ false) × (need p.log_length p.unit ≤ line_bytes * lines) × (at < 3)) (λ at read. record {
+      enough = enough;
+      params = s.params;
+      entries = s.entries;
+      sound = c.in_ok-source.ensures.told source told;
+      room = omega (arith, read.1, g.met.N.Media.modelled c.args.to.now old is);
+      unforced = read.0;
+      first = read.2;
+    }) c.in_err-check_target.field-0.0 _ _ (e.same ∙ is) e.cause e.asked)
 
 pub returns-in_err-copies-clause-asked : goal.returns-in_err-copies-clause-asked
 returns-in_err-copies-clause-asked g c =

@@ -1,6 +1,7 @@
-use Rattle.std.proofs.Common.{◌≡◌, ℕ, ◌*◌, ◌∙◌, Ok, ap, sym, subst, inl, inr}
+use Rattle.std.proofs.Common.{◌≡◌, ℕ, ◌*◌, ◌≤◌, ◌∙◌, Ok, length, ap, sym, subst, inl, inr, arith}
 use Rattle.std.proofs.lemmas.Result.{err_from_is_err_and}
 use Rattle.fam_base.specs.Image.{line_at}
+use Rattle.fam_format.specs.Layout.{least_lines}
 use Rattle.fam_format.specs.Reading.{Reading, reading, super_in}
 use Rattle.fam_replay.specs.Sources.{IsOfLog}
 use Rattle.fam_replay.proofs.Sources.{by_header, by_superblock}
@@ -24,7 +25,9 @@ returns-in_err-params-clause-fault g c =
 pub returns-in_err-params-clause-asked : goal.returns-in_err-params-clause-asked
 returns-in_err-params-clause-asked g c =
     let p = err_from_is_err_and c.from_residual.result c.from_residual.ensures.1 in
-    rw (p.1, p.2) (λ image told. from_among _ (IsReadAt image) (λ at early. inl early) c.in_err-params.field-0.0 c.in_err-params.ensures.asked)
+    rw (p.1, p.2) (λ image told.
+    let enough : least_lines ≤ length image = omega (arith, c.requires.within, g.met.M.Media.modelled c.args.from.now image told) in
+    from_among _ (IsReadAt image) (λ at early. (enough, inl early)) c.in_err-params.field-0.0 c.in_err-params.ensures.asked)
 
 pub returns-in-Ok-clause-told : goal.returns-in-Ok-clause-told
 returns-in-Ok-clause-told g c = λ image told.
@@ -44,9 +47,10 @@ pub returns-in-Err-clause-asked : goal.returns-in-Err-clause-asked
 returns-in-Err-clause-asked g c = λ image told.
     let params = c.in_ok-params.ensures in
     let p = c.in_ok-params.params in
+    let enough : least_lines ≤ length image = omega (arith, c.requires.within, g.met.M.Media.modelled c.args.from.now image told) in
     let reads = subst (λ (n : ℕ). super_in (line_at image) (line_bytes * n) ≡ Ok p) (sym (g.met.M.Media.modelled c.args.from.now image told)) (params.told image told) in
     subst (FailsFromAt (IsReadAt image)) (sym c.fault_of_read.ensures)
-    (read_among (IsOfLog (line_at image) p) (IsReadAt image) (λ at behind. inr (p, reads, behind)) c.in-Err.fault (c.in-Err.ensures.asked image (params.same ∙ told)))
+    (read_among (IsOfLog (line_at image) p) (IsReadAt image) (λ at behind. (enough, inr (p, reads, behind))) c.in-Err.fault (c.in-Err.ensures.asked image (params.same ∙ told)))
 
 pub returns-in-Err-clause-cause : goal.returns-in-Err-clause-cause
 returns-in-Err-clause-cause g c =
