@@ -3,3 +3,10 @@ pub mod Showing
 pub mod Explaining
 pub mod Forming
 pub mod Following
+pub mod Members
+pub mod Busier
+pub mod Aside
+pub mod Seen
+pub mod Origins
+pub mod Swapping
+pub mod StartsUp

@@ -2,3 +2,4 @@ pub mod Alike
 pub mod Shows
 pub mod Formed
 pub mod Explained
+pub mod GivesWay

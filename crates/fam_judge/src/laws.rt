@@ -1,17 +1,19 @@
 //! Laws of histories that are explained, with empty bodies.
 
-ghost use Rattle.std.specs.Prelude.{◌≡◌, ◌++◌, ℕ, [], List, Some, length, slice_get};
+ghost use Rattle.std.specs.Prelude.{◌≡◌, ◌++◌, ℕ, [], ◌∷◌, List, Some, length, slice_get};
+ghost use Rattle.fam_base.specs.declared.cmd.Cmd.{Cmd};
 ghost use Rattle.fam_base.specs.Image.{Image};
 ghost use Rattle.fam_journal.specs.declared.event.Event.{Event};
 ghost use Rattle.fam_journal.specs.EventShapes.{FollowsShape};
 ghost use Rattle.fam_journal.specs.Laws.{AreSound};
 ghost use Rattle.fam_journal.specs.Legal.{Legal};
 ghost use Rattle.fam_journal.specs.Calls.{number_of};
-ghost use Rattle.fam_journal.specs.Notes.{Note};
-ghost use Rattle.fam_journal.specs.Shapes.{HostShape, TaskNote, TaskShape, shown_shapes};
+ghost use Rattle.fam_journal.specs.Notes.{Note, Start};
+ghost use Rattle.fam_journal.specs.Shapes.{HostShape, TaskNote, TaskShape, shapes_of, shown_shapes};
 ghost use Rattle.fam_judge.specs.Alike.{AreAlikeNotes, AreWhollyTold};
 ghost use Rattle.fam_judge.specs.Explained.{IsExplained, IsExplainedBy};
 ghost use Rattle.fam_judge.specs.Formed.{AreFormed, HavePlaces, AreSoundNotes, IsFormedNote, HasPlace};
+ghost use Rattle.fam_judge.specs.GivesWay.{GiveWay};
 
 /// A legal journal whose notes have the form of the tables (`AreFormed`) is explained as it stands.
 pub fn what_is_legal_is_explained()
@@ -54,4 +56,11 @@ pub fn what_follows_is_formed()
     ensures { (lines : ℕ) (events : List Event) (hosts : List HostShape) (journal : List Note)
         → AreSound events → FollowsShape lines events hosts journal → AreSoundNotes journal → HavePlaces hosts journal
         → AreFormed lines hosts journal }
+{}
+
+/// What is explained stays so when a start is moved up, over lines that give way (`GiveWay`): they are of other hosts, and make no
+/// file system. So a recorder that notes starts early makes more histories legal, never fewer.
+pub fn a_start_moves_up()
+    ensures { (start : Image) (a lines b : List Note) (h : ℕ) (cmd : Cmd) → GiveWay h (shapes_of a) lines
+        → IsExplained start (a ++ (lines ++ Start h cmd ∷ b)) → IsExplained start (a ++ Start h cmd ∷ (lines ++ b)) }
 {}
