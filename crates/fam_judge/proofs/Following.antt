@@ -45,19 +45,20 @@ task_number lines name h me t hosts note is = absurd is
 
 -- Notes of a running command.
 
-record RunsNote (h : ℕ) (hosts : List HostShape) (note : Note) : Type 0 where
-  host : HostShape
-  declared : slice_get hosts h ≡ Some host
-  task : TaskShape
-  runs : host.task ≡ Some task
-  is : TaskNote h host.uuid task note
+-- the host runs a command, which may give the note next
+pub record RunsNote (h : ℕ) (hosts : List HostShape) (note : Note) : Type 0 where
+  pub host : HostShape
+  pub declared : slice_get hosts h ≡ Some host
+  pub task : TaskShape
+  pub runs : host.task ≡ Some task
+  pub is : TaskNote h host.uuid task note
 
 task_runs : (h : ℕ) (hosts : List HostShape) (note : Note) (host : HostShape) → slice_get hosts h ≡ Some host → (k : Option TaskShape) → host.task ≡ k
     → OfTask k (λ t. TaskNote h host.uuid t note) → RunsNote h hosts note
 task_runs h hosts note host declared None runs is = absurd is
 task_runs h hosts note host declared (Some t) runs is = record { host = host; declared = declared; task = t; runs = runs; is = is }
 
-note_runs : (h : ℕ) (hosts : List HostShape) (note : Note) (o : Option HostShape) → slice_get hosts h ≡ o → OfRunning o (λ me t. TaskNote h me t note) → RunsNote h hosts note
+pub note_runs : (h : ℕ) (hosts : List HostShape) (note : Note) (o : Option HostShape) → slice_get hosts h ≡ o → OfRunning o (λ me t. TaskNote h me t note) → RunsNote h hosts note
 note_runs h hosts note None declared is = absurd is
 note_runs h hosts note (Some host) declared is = task_runs h hosts note host declared host.task refl is
 

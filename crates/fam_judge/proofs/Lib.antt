@@ -10,3 +10,10 @@ pub mod Seen
 pub mod Origins
 pub mod Swapping
 pub mod StartsUp
+pub mod Sizes
+pub mod States
+pub mod Replies
+pub mod Easier
+pub mod Masters
+pub mod Sided
+pub mod AnswersDown

@@ -20,8 +20,11 @@ use Rattle.fam_judge.specs.Formed.{HasPlace, IsFormedNote, IsSoundCommand}
 use Rattle.fam_judge.specs.GivesWay.{GivesWay, number_named}
 use Rattle.fam_judge.specs.Shows.{is_inner}
 
--- a note that is of no command
+-- a note that is of no command, declares no host and makes no file system
 abbrev pub IsPlain : Note → Type 0
+IsPlain (Host name uuid) = ⊥
+IsPlain (Made k p) = ⊥
+IsPlain (Cut k n) = ⊥
 IsPlain (Start k cmd) = ⊥
 IsPlain (Mark k) = ⊥
 IsPlain (Found k n) = ⊥
@@ -43,11 +46,28 @@ pub record MayGive (hosts : List HostShape) (h : ℕ) (y : Note) : Type 0 where
   pub number : number_named name hosts ≡ Some h
   pub task : OfRunning (slice_get hosts h) (λ me t. TaskNote h me t y)
 
+-- a note of a file system that is made, or was begun
+abbrev pub IsMaking : Note → Type 0
+IsMaking (Made k p) = ⊤
+IsMaking (Cut k n) = ⊤
+IsMaking note = ⊥
+
 -- where a note comes from
 pub data Origin (lines : ℕ) (hosts : List HostShape) (y : Note) : Type 0 where
   begins : (h : ℕ) (cmd : Cmd) → y ≡ Start h cmd → MayBegin lines hosts h cmd → Origin lines hosts y
   gives : (h : ℕ) → MayGive hosts h y → Origin lines hosts y
+  declares : (name uuid : List ℕ) → y ≡ Host name uuid → refusal_told (call.Declares name uuid) lines hosts ≡ None → Origin lines hosts y
+  makes : (name : List ℕ) (request : MkfsRequest) → IsMaking y → refusal_told (call.Makes name request) lines hosts ≡ None → Origin lines hosts y
   plain : IsPlain y → Origin lines hosts y
+
+-- no command gives nothing
+none_task : (k : Option TaskShape) → OfTask k (λ t. ⊥) → ⊥
+none_task None x = x
+none_task (Some t) x = x
+
+pub none_running : (o : Option HostShape) → OfRunning o (λ me t. ⊥) → ⊥
+none_running None x = x
+none_running (Some host) x = none_task host.task x
 
 one_note : (a b : Note) (rest : List Note) → a ∷ [] ≡ b ∷ rest → a ≡ b
 one_note a b rest e = cc
@@ -71,7 +91,7 @@ module _ (lines : ℕ) (hosts : List HostShape) (y : Note) where
       by None is = absurd is
       by (Some host) is = next k host refl is
 
-  made : (halt : Option ℕ) (k : ℕ) (p : Params) → IsPlain (made_note halt k p)
+  made : (halt : Option ℕ) (k : ℕ) (p : Params) → IsMaking (made_note halt k p)
   made None k p = tt
   made (Some n) k p = tt
 
@@ -99,15 +119,17 @@ module _ (lines : ℕ) (hosts : List HostShape) (y : Note) where
       })
 
   pub by_event : (e : Event) → EventShape e lines hosts (y ∷ []) → Origin lines hosts y
-  by_event (event.Host name uuid) is = by_call (call.Declares name uuid) (plainly (Host name uuid) [] tt) is
-  by_event (event.Mkfs name request) is = by_call (call.Makes name request) making is
+  by_event (event.Host name uuid) is =
+      by_refusal name (refusal_told (call.Declares name uuid) lines hosts) (y ∷ [] ≡ Host name uuid ∷ []) (λ e are. declares name uuid (one_note y (Host name uuid) [] are) e) is
+  by_event (event.Mkfs name request) is =
+      by_refusal name (refusal_told (call.Makes name request) lines hosts) (FreeShape (call.Makes name request) lines hosts (y ∷ [])) making is
     where
-      at : (k : ℕ) (host : HostShape) → number_of name (shown_shapes lines hosts) ≡ Some k → ActsShape (call.Makes name request) k host lines hosts (y ∷ []) → Origin lines hosts y
-      at k host number (inl are) = plainly _ [] (made request.halt k _) are
-      at k host number (inr stands) = plainly _ [] tt stands.notes_are
-      making : HostActsShape (call.Makes name request) lines hosts (y ∷ []) ⊎ DirtyShape name lines hosts (y ∷ []) → Origin lines hosts y
-      making (inl acts) = by_host _ (number_of name (shown_shapes lines hosts)) at acts
-      making (inr dirty) = plainly _ [] tt dirty.notes_are
+      at : refusal_told (call.Makes name request) lines hosts ≡ None → (k : ℕ) (host : HostShape) → number_of name (shown_shapes lines hosts) ≡ Some k → ActsShape (call.Makes name request) k host lines hosts (y ∷ []) → Origin lines hosts y
+      at e k host number (inl are) = makes name request (subst IsMaking (sym (one_note y _ [] are)) (made request.halt k _)) e
+      at e k host number (inr stands) = plainly _ [] tt stands.notes_are
+      making : refusal_told (call.Makes name request) lines hosts ≡ None → HostActsShape (call.Makes name request) lines hosts (y ∷ []) ⊎ DirtyShape name lines hosts (y ∷ []) → Origin lines hosts y
+      making e (inl acts) = by_host _ (number_of name (shown_shapes lines hosts)) (at e) acts
+      making e (inr dirty) = plainly _ [] tt dirty.notes_are
   by_event (event.Begin name what) is = by_refusal name (may_begin name (mounts what) (shown_shapes lines hosts)) _ (by_start NoMore name what) is
   by_event (event.Run name what) is = by_refusal name (may_begin name (mounts what) (shown_shapes lines hosts)) _ (by_start CompletesShape name what) is
   by_event (event.Step name count) is =
@@ -148,6 +170,14 @@ plain_inner (Found k n) inner is = is
 plain_inner (Writes k seq entry) inner is = is
 plain_inner y inner is = cc
 
+making_inner : (y : Note) → IsTrue (is_inner y) → IsMaking y → ⊥
+making_inner (Made k p) inner is = cc
+making_inner (Cut k n) inner is = cc
+making_inner y inner is = is
+
+host_inner : (name uuid : List ℕ) → IsTrue (is_inner (Host name uuid)) → ⊥
+host_inner name uuid inner = cc
+
 start_inner : (h : ℕ) (cmd : Cmd) → IsTrue (is_inner (Start h cmd)) → ⊥
 start_inner h cmd inner = cc
 
@@ -160,4 +190,6 @@ inner_way lines hosts h y inner idle is = by (by_event lines hosts y is.event is
     by : Origin lines hosts y → GivesWay h hosts y
     by (begins n c e may) = absurd (start_inner n c (subst (λ (z : Note). IsTrue (is_inner z)) e inner))
     by (gives n give) = running_way h n hosts y (slice_get hosts n) (apart n) give.task
+    by (declares name uuid e none) = absurd (host_inner name uuid (subst (λ (z : Note). IsTrue (is_inner z)) e inner))
+    by (makes name request is none) = absurd (making_inner y inner is)
     by (plain is) = absurd (plain_inner y inner is)

@@ -33,7 +33,7 @@ use Rattle.fam_judge.proofs.Aside.{Apart, counts_alike, number_before, shape_asi
 use Rattle.fam_judge.proofs.Busier.{IsBusier, busy_runs, formed_kept}
 use Rattle.fam_judge.proofs.Explaining.{one_more, sound-append}
 use Rattle.fam_judge.proofs.Members.{changed_count, changed_same, place_first, place_kept}
-use Rattle.fam_judge.proofs.Origins.{MayBegin, MayGive, Origin, begins, by_event, gives, inner_way, plain}
+use Rattle.fam_judge.proofs.Origins.{MayBegin, MayGive, Origin, begins, by_event, declares, gives, inner_way, makes, none_running, plain}
 use Rattle.fam_judge.proofs.Seen.{inner_unseen, runs_seen, shown_seen, way_shown}
 use Rattle.fam_judge.proofs.Showing.{first_line, parts, shows_both}
 use Rattle.fam_judge.proofs.Swapping.{Stands, Swaps, all_swapped, alike_both, behind_one, behind_some, one_alike, shapes_one}
@@ -50,14 +50,6 @@ same_host h k c d e = cc
 same_command : (h k : ℕ) (c d : Cmd) → Start h c ≡ Start k d → c ≡ d
 same_command h k c d e = cc
 
-none_task : (k : Option TaskShape) → OfTask k (λ t. ⊥) → ⊥
-none_task None x = x
-none_task (Some t) x = x
-
-none_running : (o : Option HostShape) → OfRunning o (λ me t. ⊥) → ⊥
-none_running None x = x
-none_running (Some host) x = none_task host.task x
-
 started : (lines : ℕ) (hosts : List HostShape) (h : ℕ) (cmd : Cmd) → IsFormedNote lines hosts (Start h cmd) → Started lines hosts h cmd
 started lines hosts h cmd is = record { may = by (by_event lines hosts (Start h cmd) is.event is.shape); sound = is.sound }
   where
@@ -65,6 +57,8 @@ started lines hosts h cmd is = record { may = by (by_event lines hosts (Start h 
     by (begins k c e may) =
         subst (λ (n : ℕ). MayBegin lines hosts n cmd) (sym (same_host h k cmd c e)) (subst (λ (x : Cmd). MayBegin lines hosts k x) (sym (same_command h k cmd c e)) may)
     by (gives k give) = absurd (none_running (slice_get hosts k) give.task)
+    by (declares name uuid e none) = absurd cc
+    by (makes name request is none) = absurd is
     by (plain is) = absurd is
 
 formed_start : (lines : ℕ) (hosts : List HostShape) (h : ℕ) (cmd : Cmd) → Started lines hosts h cmd → IsFormedNote lines hosts (Start h cmd)

@@ -112,12 +112,17 @@ pub shapes_one : (before : List Note) (note : Note) → shapes_of (before ++ not
 shapes_one before note = shapes_both [] before (note ∷ [])
 
 module _ (start : Image) where
+  -- what stands behind the first note
+  pub behind_first : (before : List Note) (note : Note) (rest : List Note) → Stands start before (note ∷ rest) → Stands start (before ++ note ∷ []) rest
+  behind_first before note rest is =
+      record { formed = subst (λ (s : List HostShape). AreFormed (length start) s rest) (sym (shapes_one before note)) is.formed.1; allowed = is.allowed.1 }
+
   -- one note stays, and what stands behind it changes
   pub behind_one : (before : List Note) (note : Note) (a b : List Note) → (Stands start (before ++ note ∷ []) a → Stands start (before ++ note ∷ []) b)
       → Stands start before (note ∷ a) → Stands start before (note ∷ b)
   behind_one before note a b change is =
       let same = shapes_one before note in
-      let next = change (record { formed = subst (λ (s : List HostShape). AreFormed (length start) s a) (sym same) is.formed.1; allowed = is.allowed.1 }) in
+      let next = change (behind_first before note a is) in
       record { formed = (is.formed.0, subst (λ (s : List HostShape). AreFormed (length start) s b) same next.formed); allowed = (is.allowed.0, next.allowed) }
 
   -- so of some notes

@@ -8,7 +8,7 @@ ghost use Rattle.fam_journal.specs.EventShapes.{FollowsShape};
 ghost use Rattle.fam_journal.specs.Laws.{AreSound};
 ghost use Rattle.fam_journal.specs.Legal.{Legal};
 ghost use Rattle.fam_journal.specs.Calls.{number_of};
-ghost use Rattle.fam_journal.specs.Notes.{Note, Start};
+ghost use Rattle.fam_journal.specs.Notes.{Answer, Answered, Note, Start};
 ghost use Rattle.fam_journal.specs.Shapes.{HostShape, TaskNote, TaskShape, shapes_of, shown_shapes};
 ghost use Rattle.fam_judge.specs.Alike.{AreAlikeNotes, AreWhollyTold};
 ghost use Rattle.fam_judge.specs.Explained.{IsExplained, IsExplainedBy};
@@ -63,4 +63,11 @@ pub fn what_follows_is_formed()
 pub fn a_start_moves_up()
     ensures { (start : Image) (a lines b : List Note) (h : ℕ) (cmd : Cmd) → GiveWay h (shapes_of a) lines
         → IsExplained start (a ++ (lines ++ Start h cmd ∷ b)) → IsExplained start (a ++ Start h cmd ∷ (lines ++ b)) }
+{}
+
+/// What is explained stays so when an answer is moved down, over lines that give way behind it (`GiveWay`): they are of other
+/// hosts, and make no file system. So a recorder that notes answers late makes more histories legal, never fewer.
+pub fn an_answer_moves_down()
+    ensures { (start : Image) (a lines b : List Note) (h : ℕ) (answer : Answer) → GiveWay h (shapes_of (a ++ Answered h answer ∷ [])) lines
+        → IsExplained start (a ++ Answered h answer ∷ (lines ++ b)) → IsExplained start (a ++ (lines ++ Answered h answer ∷ b)) }
 {}

@@ -7,6 +7,6 @@
 mod laws;
 
 pub use laws::{
-    a_start_moves_up, a_task_is_formed, first_lines_are_explained, the_same_but_for_bytes, what_follows_is_formed,
+    a_start_moves_up, a_task_is_formed, an_answer_moves_down, first_lines_are_explained, the_same_but_for_bytes, what_follows_is_formed,
     what_is_legal_is_explained, where_no_line_is_left_out,
 };
