@@ -1,6 +1,6 @@
 -- An answer is moved down, over lines that give way.
-use Rattle.std.proofs.Common.{◌≡◌, ◌≢◌, ◌≤◌, inl, inr, ℕ, Bool, true, false, List, [], ◌∷◌, ◌++◌, length, map, Option, Some, None, refl, ap, ap₂, sym, ◌∙◌, subst, arith}
-use Rattle.std.specs.Prelude.{⊤, IsTrue, ◌||◌, is_some, option_map, slice_get}
+use Rattle.std.proofs.Common.{◌≡◌, ◌≢◌, inl, ℕ, true, false, List, [], ◌∷◌, ◌++◌, length, map, Option, Some, None, refl, ap, ap₂, sym, ◌∙◌, subst, arith}
+use Rattle.std.specs.Prelude.{◌||◌, is_some, option_map, slice_get}
 use Rattle.std.proofs.lemmas.List.{append_assoc, append-nil, length-map, map-append}
 use Rattle.std.proofs.lemmas.Option.{same_Some, slice_get-map}
 use Rattle.fam_base.specs.declared.entry.Entry.{Entry}
@@ -8,16 +8,16 @@ use Rattle.fam_base.specs.Image.{Image}
 use Rattle.fam_journal.specs.Calls.{has_name, is_engaged, is_same}
 use Rattle.fam_journal.specs.Legal.{Allowed, AnswerAllowed, FoundAllowed, OfHost, WritesAllowed}
 use Rattle.fam_journal.specs.Members.{changed_at, index_of}
-use Rattle.fam_journal.specs.Notes.{Answer, Note, Host, Made, Cut, Start, Mark, Found, Writes, Answered, Stop, Halt, Umount, Refused}
-use Rattle.fam_journal.specs.Past.{HostPast, Past, State, ended_state, first_past, first_state, past_after, past_behind, past_of, shows_count}
-use Rattle.fam_journal.specs.Shapes.{AnswerShape, HostShape, Met, OfHostShape, OfRunning, TaskNote, TaskShape, keeps_behind, runs_shape, shapes_after, shapes_of, shown_keeping, shown_running, shown_shape}
+use Rattle.fam_journal.specs.Notes.{Answer, Note, Found, Writes, Answered}
+use Rattle.fam_journal.specs.Past.{HostPast, Past, ended_state, first_past, first_state, past_after, past_behind, past_of, shows_count}
+use Rattle.fam_journal.specs.Shapes.{HostShape, OfHostShape, OfRunning, TaskShape, keeps_behind, runs_shape, shapes_after, shapes_of, shown_keeping, shown_running, shown_shape}
 use Rattle.fam_journal.proofs.Calls.Members.{changed_here, changed_other}
 use Rattle.fam_journal.proofs.Settled.Journals.{past_both}
 use Rattle.fam_judge.specs.Alike.{AreAlikeNotes, ToldNote, told_note, whole_note}
-use Rattle.fam_judge.specs.Explained.{AreAllowedForSome, IsAllowedForSome, IsExplained, IsExplainedBy}
+use Rattle.fam_judge.specs.Explained.{IsAllowedForSome, IsExplained}
 use Rattle.fam_judge.specs.Formed.{AnswerPlace, AreFormed, AreSoundNotes, IsFormedNote}
 use Rattle.fam_judge.specs.GivesWay.{GivesWay, GiveWay, number_named}
-use Rattle.fam_judge.specs.Shows.{ShowsJournal, is_inner}
+use Rattle.fam_judge.specs.Shows.{ShowsJournal}
 use Rattle.fam_judge.proofs.Aside.{Apart, counts_alike, number_behind, shape_aside, shape_order, way_apart}
 use Rattle.fam_judge.proofs.Busier.{IsBusier, formed_kept}
 use Rattle.fam_judge.proofs.Easier.{IsEasier, easier_allows, easier_behind}
@@ -33,7 +33,7 @@ use Rattle.fam_judge.proofs.Showing.{first_line, parts, shows_both}
 use Rattle.fam_judge.proofs.Sided.{BoundSize, MetSize, NoteFits, OtherSize, answer_behind, bound_size, decline_size, fits_told, met_size, named_size, of_map, of_shape, order_easier, writes_before, writes_size}
 use Rattle.fam_judge.proofs.Sizes.{Lost, Size, Sized, effect, ended_is, past_uuid, shape_uuid, size_after, size_of, sized_behind, sizes_behind, told_size, told_sized, uuids_alike}
 use Rattle.fam_judge.proofs.States.{finds_before}
-use Rattle.fam_judge.proofs.Swapping.{Stands, Swaps, all_swapped, alike_both, behind_first, behind_one, behind_some, one_alike, shapes_one}
+use Rattle.fam_judge.proofs.Swapping.{Stands, Swaps, all_swapped, alike_both, behind_first, behind_one, behind_some, shapes_one}
 use Rattle.fam_judge.proofs.Telling.{heads, more_is_none, none_is_more, note_back, tails}
 
 -- What is settled behind a journal.
@@ -184,7 +184,7 @@ module _ (start : Image) (h : ℕ) (answer : Answer) where
     others = λ k ne. sym (changed_other h k ends hosts ne);
     engaged = λ j below e.
         ap (λ l. index_of is_engaged (map shown_shape l)) (sym (changed_same h (λ x. x) hosts (λ x is. refl)))
-            ∙ place_first shown_shape is_engaged h (λ x. x) ends hosts 0 j passes (omega (arith, below)) e;
+        ∙ place_first shown_shape is_engaged h (λ x. x) ends hosts 0 j passes (omega (arith, below)) e;
   }
     where
       passes : (x : HostShape) → slice_get hosts h ≡ Some x → is_engaged (shown_shape x) ≡ true

@@ -1,5 +1,5 @@
 -- What lines that give way leave of host h: it stands as it did, and its start or answer comes before them as behind them.
-use Rattle.std.proofs.Common.{◌≡◌, ◌≢◌, ◌+◌, ◌<◌, ℕ, List, [], ◌∷◌, ◌++◌, length, map, Some, None, refl, ap, ap₂, sym, ◌∙◌, subst, arith}
+use Rattle.std.proofs.Common.{◌≡◌, ◌≢◌, ◌+◌, ◌<◌, ℕ, List, [], ◌∷◌, length, map, Some, None, refl, ap, ap₂, sym, ◌∙◌, subst, arith}
 use Rattle.std.specs.Prelude.{⊤, Option, slice_get}
 use Rattle.fam_base.specs.declared.cmd.Cmd.{Cmd}
 use Rattle.fam_base.specs.Image.{Image}
@@ -85,6 +85,7 @@ module _ (h : ℕ) (hosts : List HostShape) where
   number_before name (Umount k) way e = sym (place_kept shown_shape (has_name name) k _ (λ x. refl) hosts 0) ∙ e
   number_before name (Refused own cause) way e = e
 
+  -- and before it, behind it
   pub number_behind : (name : List ℕ) (y : Note) → Apart h (length hosts) (told_note y) → number_named name hosts ≡ Some h → number_named name (shapes_after hosts y) ≡ Some h
   number_behind name (Host own uuid) way e = place_more shown_shape (has_name name) hosts _ 0 h e
   number_behind name (Made k p) way e = absurd way
@@ -175,4 +176,4 @@ counts_alike (m ∷ a) [] alike past hosts same = absurd (more_is_none (told_not
 counts_alike (m ∷ a) (n ∷ b) alike past hosts same =
     let one : told_note m ≡ told_note n = heads (told_note m) (told_note n) (map told_note a) (map told_note b) alike in
     counts_alike a b (tails (told_note m) (told_note n) (map told_note a) (map told_note b) alike) (past_after past n) (shapes_after hosts m)
-        (past_count past n ∙ ap₂ count_after same (sym one) ∙ sym (shape_count hosts m))
+    (past_count past n ∙ ap₂ count_after same (sym one) ∙ sym (shape_count hosts m))

@@ -22,10 +22,11 @@ use Rattle.fam_journal.specs.EventShapes.{EventShape, NoMore, StartShape, StepsS
 use Rattle.fam_journal.specs.Laws.{IsValidEvent}
 use Rattle.fam_journal.specs.Machines.{HostState, Machines}
 use Rattle.fam_journal.specs.Members.{index_of}
-use Rattle.fam_journal.specs.Notes.{Note, Host, Made, Cut, Start, Mark, Found, Writes, Answered, Stop, Halt, Umount, Refused}
+use Rattle.fam_journal.specs.Notes.{Note, Host, Start, Mark, Found, Writes, Answered, Stop, Halt, Umount, Refused}
 use Rattle.fam_journal.specs.Shapes.{ActsShape, AtShape, CompletesShape, DirtyShape, DoesShape, HostActsShape, HostShape, OfHostShape, OfRunning, OfTask, OperationsShape, ShapeByRefusal, TaskNote, TaskShape, made_note, makes_told, runs_shape, shown_running, shown_shape, shown_shapes}
 use Rattle.fam_judge.specs.Formed.{AnswerPlace, HasPlace, IsFormedNote, IsSoundNote}
 use Rattle.fam_judge.specs.GivesWay.{BusyGivesWay, GivesWay, RefusalGivesWay, number_named}
+use Rattle.fam_judge.proofs.Origins.{none_one, one_note}
 
 -- the same hosts, but that h is engaged in `new`
 pub record IsBusier (h : ℕ) (old new : List HostShape) : Type 0 where
@@ -70,17 +71,6 @@ asked_unfit what cause is = tt
 
 -- Notes.
 
--- one note is one note
-one_note : (a b : Note) (rest : List Note) → a ∷ [] ≡ b ∷ rest → a ≡ b
-one_note a b rest e = cc
-
--- and nothing stands behind it
-none_behind : (a b : Note) (rest : List Note) → a ∷ [] ≡ b ∷ rest → rest ≡ []
-none_behind a b rest e = cc
-
-none_one : (a : Note) → a ∷ [] ≡ [] → ⊥
-none_one a e = cc
-
 -- a note of host h's command doesn't give way
 not_task : (h : ℕ) (hosts : List HostShape) (y : Note) → GivesWay h hosts y → (me : List ℕ) (t : TaskShape) → TaskNote h me t y → ⊥
 not_task h hosts (Mark host) way me t is = way is.0
@@ -124,7 +114,7 @@ module _ (lines h : ℕ) (old new : List HostShape) (busier : IsBusier h old new
   begins_kept : (mount : Bool) (k : ℕ) → k ≢ h → begins_refusal k mount after ≡ begins_refusal k mount before
   begins_kept mount k ne =
       ap (λ (o : Option HostState). or_else (when (nat_lt (length before.memory) least_lines) (why.ImageSmall (length before.memory)))
-          (or_else (when (is_busy_host o) (why.Busy (record { 0 = k }))) (when (mount && is_kept_host o) why.Mounted)))
+      (or_else (when (is_busy_host o) (why.Busy (record { 0 = k }))) (when (mount && is_kept_host o) why.Mounted)))
       (state_kept k ne)
 
   umounts_kept : (k : ℕ) → k ≢ h → umounts_refusal k after ≡ umounts_refusal k before
@@ -250,6 +240,7 @@ module _ (lines h : ℕ) (old new : List HostShape) (busier : IsBusier h old new
         own number (inl unfit) = not_refused name unfit.why number (asked_unfit what unfit.why unfit.unfit) unfit.notes_are
         own number (inr start) =
             subst (GivesWay h old) (one_note y (Start start.host start.cmd) start.rest start.notes_are) way (same_Some start.host h (sym start.number ∙ number))
+
         other : (k : ℕ) → number_of name before ≡ Some k → k ≢ h → UnfitNotes name what (y ∷ []) ⊎ StartShape Q name what lines old (y ∷ [])
             → UnfitNotes name what (y ∷ []) ⊎ StartShape NoMore name what lines new (y ∷ [])
         other k number ne (inl unfit) = inl unfit
@@ -285,6 +276,7 @@ module _ (lines h : ℕ) (old new : List HostShape) (busier : IsBusier h old new
         of : (k : ℕ) (o : Option HostShape) → OfHostShape o (λ host. CompletesShape k old (y ∷ [])) → OperationsShape k old (y ∷ []) × (length (y ∷ []) ≤ 1)
         of k None x = absurd x
         of k (Some host) x = (x.operations, omega arith)
+
         does : (k : ℕ) → number_of name before ≡ Some k → HostActsShape (call.Finishes name) lines old (y ∷ []) → OperationsShape k old (y ∷ []) × (length (y ∷ []) ≤ 1)
         does k number x = of k (slice_get old k) (subst (λ (o : Option ℕ). AtShape o old (λ n host. CompletesShape n old (y ∷ []))) number x)
 
@@ -298,7 +290,7 @@ module _ (lines h : ℕ) (old new : List HostShape) (busier : IsBusier h old new
         subst (λ (o : Option ℕ). ShapeByRefusal name (on_host o (λ k. umounts_refusal k after)) (y ∷ []) (HostActsShape (call.Umounts name) lines new (y ∷ [])))
         (sym (busier.number name ∙ number))
         (subst (λ (b : Bool). ShapeByRefusal name (or_else (when b (why.Busy (record { 0 = j }))) (when (not (call.keeps_at j after)) why.NotMounted)) (y ∷ [])
-            (HostActsShape (call.Umounts name) lines new (y ∷ [])))
+        (HostActsShape (call.Umounts name) lines new (y ∷ [])))
         (sym busy) is)
       where
         busy : busy_at j after ≡ true

@@ -1,25 +1,23 @@
 -- Pasts that differ in floors alone: where these are lower, more is allowed.
 use Prim.Native.Nat.{zero, suc}
-use Rattle.std.proofs.Common.{◌≡◌, ◌≤◌, ◌+◌, inl, inr, ℕ, List, [], ◌∷◌, ◌++◌, length, Option, Some, None, refl, ap, ap₂, sym, ◌∙◌, subst, arith}
-use Rattle.std.specs.Prelude.{⊤, Result, Err, slice_get, take}
+use Rattle.std.proofs.Common.{◌≡◌, ◌≤◌, ℕ, List, [], ◌∷◌, Option, Some, None, refl, ap, ap₂, sym, ◌∙◌, subst, arith}
+use Rattle.std.specs.Prelude.{⊤, Result, Err, slice_get}
 use Rattle.std.proofs.lemmas.Option.{same_Some}
 use Rattle.fam_base.specs.declared.cmd.Cmd.{Cmd}
 use Rattle.fam_base.specs.declared.entry.Entry.{Entry}
 use Rattle.fam_base.specs.declared.entry.Params.{Params}
-use Rattle.fam_base.specs.Image.{Image}
 use Rattle.fam_commands.specs.ReplyClasses.{Appending, Declining, Faulty, ReplyClass, Reporting, Showing, reply_class}
-use Rattle.fam_protocol.specs.After.{Named}
 use Rattle.fam_rules.specs.declared.answers.Refused.{Refused as Cause}
 use Rattle.fam_rules.specs.declared.answers.Refused.TheVariants as cause
 use Rattle.fam_rules.specs.declared.answers.Report.{Report}
 use Rattle.fam_rules.specs.Asks.{File, entries_of}
-use Rattle.fam_rules.specs.Decide.{Wish, decide}
+use Rattle.fam_rules.specs.Decide.{decide}
 use Rattle.fam_rules.specs.DecideLaws.{IsTooLong}
 use Rattle.fam_rules.specs.Reply.{Reply}
-use Rattle.fam_journal.specs.Legal.{Allowed, AnswerAllowed, AppendedAllowed, AskAllowed, CauseAllowed, DecideAllowed, InBounds, IsDecided, IsReportOf, NamesLong, OfHost, ReportAllowed, WritesAllowed, master_of}
+use Rattle.fam_journal.specs.Legal.{Allowed, AnswerAllowed, AppendedAllowed, AskAllowed, CauseAllowed, DecideAllowed, InBounds, IsDecided, NamesLong, OfHost, ReportAllowed, WritesAllowed, FoundAllowed}
 use Rattle.fam_journal.specs.Members.{changed_at}
-use Rattle.fam_journal.specs.Notes.{Answer, Replied, MediaFault, Note, Host, Made, Cut, Start, Mark, Found, Writes, Answered, Stop, Halt, Umount, Refused}
-use Rattle.fam_journal.specs.Past.{Bad, HostPast, Past, Sound, State, acknowledges, cmd_of, ended_state, filled_bytes, finds, halted, new_host, past_after, past_behind, pends, settled_length, state_after, with_pending}
+use Rattle.fam_journal.specs.Notes.{Answer, Replied, MediaFault, Note, Host, Made, Cut, Start, Mark, Found, Writes, Answered}
+use Rattle.fam_journal.specs.Past.{Bad, HostPast, Past, Sound, State, acknowledges, cmd_of, ended_state, filled_bytes, finds, halted, new_host, past_after, past_behind, pends, settled_length, state_after}
 use Rattle.fam_journal.specs.Shapes.{Pairs}
 use Rattle.fam_journal.proofs.Shapes.Pairs.{pairs_last}
 use Rattle.fam_judge.proofs.Replies.{ClassAllowed, from_class, to_class}
@@ -43,13 +41,16 @@ same_floor : (o : Option ℕ) → LowerFloor o o
 same_floor None = tt
 same_floor (Some n) = omega arith
 
+-- a host is
 pub same_lower : (x : HostPast) → Lower x x
 same_lower x = record { name = refl; uuid = refl; cmd = refl; wrote = refl; floor = same_floor x.floor }
 
+-- and so are all
 pub all_lower : (xs : List HostPast) → Pairs Lower xs xs
 all_lower [] = tt
 all_lower (x ∷ xs) = (same_lower x, all_lower xs)
 
+-- where one changes alike
 pub lower_changed : (k : ℕ) (f g : HostPast → HostPast) → ((x y : HostPast) → Lower x y → Lower (f x) (g y)) → (xs ys : List HostPast) → Pairs Lower xs ys
     → Pairs Lower (changed_at k f xs) (changed_at k g ys)
 lower_changed k f g both [] [] all = tt
@@ -138,6 +139,7 @@ module _ (x y : HostPast) (lower : Lower x y) where
 
 -- Pasts.
 
+-- the same, with floors that are no higher
 pub record IsEasier (old new : Past) : Type 0 where
   pub start : new.start ≡ old.start
   pub state : new.state ≡ old.state
@@ -146,13 +148,14 @@ pub record IsEasier (old new : Past) : Type 0 where
 module _ (old new : Past) (easier : IsEasier old new) where
   -- what is allowed is allowed where floors are lower
   pub easier_allows : (z : Note) → Allowed old z → Allowed new z
-  easier_allows (Found k n) is = subst (λ (s : State). Rattle.fam_journal.specs.Legal.FoundAllowed n s) (sym easier.state) is
+  easier_allows (Found k n) is = subst (λ (s : State). FoundAllowed n s) (sym easier.state) is
   easier_allows (Writes k seq e) is =
       subst (λ (s : State). OfHost (slice_get new.hosts k) (λ host. WritesAllowed seq e host s)) (sym easier.state)
       (lower_at (λ host. WritesAllowed seq e host old.state) (λ host. WritesAllowed seq e host old.state) (λ x y lower. writes_lower x y lower seq e old.state) k old.hosts new.hosts easier.hosts is)
   easier_allows (Answered k answer) is =
       subst (λ (s : State). OfHost (slice_get new.hosts k) (λ host. AnswerAllowed answer host s)) (sym easier.state)
-      (lower_at (λ host. AnswerAllowed answer host old.state) (λ host. AnswerAllowed answer host old.state) (λ x y lower. answer_lower x y lower answer old.state) k old.hosts new.hosts easier.hosts is)
+      (lower_at (λ host. AnswerAllowed answer host old.state) (λ host. AnswerAllowed answer host old.state)
+      (λ x y lower. answer_lower x y lower answer old.state) k old.hosts new.hosts easier.hosts is)
   easier_allows z is = tt
 
   easier_state : (z : Note) → state_after new z ≡ state_after old z
@@ -182,9 +185,11 @@ module _ (old new : Past) (easier : IsEasier old new) where
       lower_changed k _ _ (λ x y lower. record { name = lower.name; uuid = lower.uuid; cmd = lower.cmd; wrote = refl; floor = lower.floor }) old.hosts new.hosts easier.hosts
   easier_hosts z = easier.hosts
 
+  -- it stays so behind a note
   pub easier_after : (z : Note) → IsEasier (past_after old z) (past_after new z)
   easier_after z = record { start = easier.start; state = easier_state z; hosts = easier_hosts z }
 
+-- and some notes more
 pub easier_behind : (old new : Past) → IsEasier old new → (notes : List Note) → IsEasier (past_behind old notes) (past_behind new notes)
 easier_behind old new easier [] = easier
 easier_behind old new easier (z ∷ notes) = easier_behind (past_after old z) (past_after new z) (easier_after old new easier z) notes

@@ -16,6 +16,7 @@ pub one_more : (past : Past) (before : List Note) (note : Note) → past_behind 
 one_more past [] note = refl
 one_more past (first ∷ before) note = one_more (past_after past first) before note
 
+-- so of both parts
 pub sound-append : (a b : List Note) → AreSoundNotes a → AreSoundNotes b → AreSoundNotes (a ++ b)
 sound-append [] b none more = more
 sound-append (note ∷ a) b some more = (some.0, sound-append a b some.1 more)

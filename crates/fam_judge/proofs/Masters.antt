@@ -2,25 +2,21 @@
 -- host pends.
 use Prim.Native.Nat.{zero, suc}
 use Rattle.std.proofs.Common.{◌≡◌, ◌≢◌, ◌⊎◌, ◌+◌, ◌≤◌, inl, inr, ℕ, Bool, true, false, List, [], ◌∷◌, ◌++◌, length, map, Option, Some, None, refl, ap, sym, ◌∙◌, subst, arith}
-use Rattle.std.specs.Prelude.{⊤, ◌==◌, ◌||◌, if◌then◌else◌, is_some, nat_lt, option_map, slice_get}
+use Rattle.std.specs.Prelude.{⊤, ◌==◌, ◌||◌, if◌then◌else◌, is_some, option_map, slice_get}
 use Rattle.std.proofs.lemmas.Bool.{cases_eq}
 use Rattle.std.proofs.lemmas.Bool.Decides.{nat_tests}
 use Rattle.std.proofs.lemmas.List.{map-append}
 use Rattle.std.proofs.lemmas.Option.{same_Some, slice_get-map}
 use Rattle.fam_base.specs.declared.entry.Entry.{Entry}
 use Rattle.fam_base.specs.declared.entry.Params.{Params}
-use Rattle.fam_format.specs.Stop.{or_else}
 use Rattle.fam_machine.specs.declared.request.MkfsRequest.{MkfsRequest}
-use Rattle.fam_machine.specs.Mkfs.{first_sent}
-use Rattle.fam_journal.specs.declared.refusal.Refusal.{Refusal}
 use Rattle.fam_journal.specs.Calls as call
 use Rattle.fam_journal.specs.Calls.{Call, is_engaged, is_same, number_of, on_host, refusal_of}
 use Rattle.fam_journal.specs.Legal.{FoundAllowed, FoundBad}
-use Rattle.fam_journal.specs.Machines.{HostState}
-use Rattle.fam_journal.specs.Members.{changed_at, index_of}
+use Rattle.fam_journal.specs.Members.{changed_at}
 use Rattle.fam_journal.specs.Notes.{Note, Host, Made, Cut, Start, Mark, Found, Writes, Answered, Stop, Halt, Umount, Refused}
-use Rattle.fam_journal.specs.Past.{Bad, Damage, Origin as Cause, Sound, State}
-use Rattle.fam_journal.specs.Shapes.{Begun, CommandStage, HostShape, Marked, Met, Named, OfHostShape, OfRunning, OfTask, TaskNote, TaskShape, makes_told, refusal_told, shapes_after, shown_running, shown_shape, shown_shapes, with_stage}
+use Rattle.fam_journal.specs.Past.{Bad, Sound, State}
+use Rattle.fam_journal.specs.Shapes.{Begun, CommandStage, HostShape, Marked, Met, Named, OfHostShape, TaskShape, makes_told, refusal_told, shapes_after, shown_running, shown_shape, shown_shapes}
 use Rattle.fam_journal.proofs.Calls.Declares.{none_passes}
 use Rattle.fam_journal.proofs.Calls.Members.{changed_here, changed_other}
 use Rattle.fam_journal.proofs.Calls.Tests.{no_busy, no_same, or_first, or_next, other_uuid}
@@ -39,6 +35,7 @@ StageFits me Marked p n more = ⊤
 StageFits me (Met m) p n more = (m ≤ n) × (me ≡ p.master → more ≡ false)
 StageFits me (Named seq) p n more = (me ≡ p.master) × (more ≡ true → n ≡ seq)
 
+-- so of a running command, if any
 abbrev pub TaskFits : List ℕ → Option TaskShape → Size → Type 0
 TaskFits me None s = ⊤
 TaskFits me (Some t) (Lost origin damage gate) = ⊤
@@ -48,10 +45,12 @@ TaskFits me (Some t) (Sized p n more) = StageFits me t.stage p n more
 abbrev pub AreApart : List (List ℕ) → Type 0
 AreApart ids = (k l : ℕ) (u : List ℕ) → slice_get ids k ≡ Some u → slice_get ids l ≡ Some u → k ≡ l
 
+-- so of all hosts, whose UUIDs differ
 pub record Keeps (hosts : List HostShape) (s : Size) : Type 0 where
   pub tasks : (k : ℕ) (x : HostShape) → slice_get hosts k ≡ Some x → TaskFits x.uuid x.task s
   pub apart : AreApart (map shape_uuid hosts)
 
+-- the UUID of a place
 pub uuid_at : (hosts : List HostShape) (k : ℕ) (x : HostShape) → slice_get hosts k ≡ Some x → slice_get (map shape_uuid hosts) k ≡ Some x.uuid
 uuid_at hosts k x is = slice_get-map shape_uuid hosts k ∙ ap (option_map shape_uuid) is
 
@@ -82,6 +81,7 @@ shows_goes m (Sized p n more) = by (m == n + 1) refl
     by true e = on p n (n + one_if more) more refl (omega arith) refl
     by false e = same refl
 
+-- an answer only settles
 pub told_goes : (o : Option ℕ) (s : Size) → Goes s (told_size o s)
 told_goes None s = same refl
 told_goes (Some m) s = shows_goes m s
@@ -91,15 +91,18 @@ abbrev pub FoundMany : ℕ → ℕ → Bool → Type 0
 FoundMany n m false = n ≡ m
 FoundMany n m true = (n ≡ m) ⊎ (n ≡ m + 1)
 
+-- so of a size
 abbrev pub FoundSize : ℕ → Size → Type 0
 FoundSize n (Lost origin damage gate) = FoundBad n damage gate
 FoundSize n (Sized p m more) = FoundMany n m more
 
+-- it is what a state allows
 pub found_size : (n : ℕ) (s : State) → FoundAllowed n s → FoundSize n (size_of s)
 found_size n (Bad origin damage gate) is = is
 found_size n (Sound p history None) is = is
 found_size n (Sound p history (Some f)) is = is
 
+-- and the other way about
 pub size_found : (n : ℕ) (s : State) → FoundSize n (size_of s) → FoundAllowed n s
 size_found n (Bad origin damage gate) is = is
 size_found n (Sound p history None) is = is
@@ -113,6 +116,7 @@ finds_is n p m more is = by (n == m) refl
     one false is ne = absurd (ne is)
     one true (inl is) ne = absurd (ne is)
     one true (inr is) ne = is
+
     late : (n ≡ m → ⊥) → (b : Bool) → (n == m + 1) ≡ b → (if b then Sized p (m + one_if more) false else Sized p m more) ≡ Sized p n false
     late ne true e = ap (λ (k : ℕ). Sized p k false) (sym (one more is ne))
     late ne false e = absurd (none more is)
@@ -121,6 +125,7 @@ finds_is n p m more is = by (n == m) refl
         none false is = ne is
         none true (inl is) = ne is
         none true (inr is) = grind (arith, nat_tests)
+
     by : (b : Bool) → (n == m) ≡ b → (if b then Sized p m false else shows_size n (Sized p m more)) ≡ Sized p n false
     by true e = let here : n ≡ m = grind (arith, nat_tests) in ap (λ (k : ℕ). Sized p k false) (sym here)
     by false e = late (λ is. grind (arith, nat_tests)) (n == m + 1) refl

@@ -1,7 +1,6 @@
 -- Where the notes of commands come from: a start is of a host that may begin, and what a command gives is of the one that runs.
-use Rattle.std.proofs.Common.{◌≡◌, ◌≢◌, ◌⊎◌, inl, inr, ℕ, Bool, true, false, List, [], ◌∷◌, Option, Some, None, refl, ap, sym, ◌∙◌, subst}
+use Rattle.std.proofs.Common.{◌≡◌, ◌≢◌, ◌⊎◌, inl, inr, ℕ, true, false, List, [], ◌∷◌, Option, Some, None, refl, ap, sym, ◌∙◌, subst}
 use Rattle.std.specs.Prelude.{⊤, IsTrue, is_some, slice_get}
-use Rattle.std.proofs.lemmas.Option.{same_Some}
 use Rattle.fam_base.specs.declared.cmd.Cmd.{Cmd}
 use Rattle.fam_base.specs.declared.entry.Params.{Params}
 use Rattle.fam_machine.specs.declared.request.MkfsRequest.{MkfsRequest}
@@ -15,8 +14,8 @@ use Rattle.fam_journal.specs.Calls.{Call, asked_name, begins_refusal, idle_refus
 use Rattle.fam_journal.specs.Events.{mounts}
 use Rattle.fam_journal.specs.EventShapes.{AskShape, EventShape, NoMore, StartShape, StepsShape, UnfitNotes}
 use Rattle.fam_journal.specs.Notes.{Note, Host, Made, Cut, Start, Mark, Found, Writes, Answered, Stop, Halt, Umount, Refused}
-use Rattle.fam_journal.specs.Shapes.{ActsShape, AtShape, CompletesShape, DirtyShape, DoesShape, FreeShape, HostActsShape, HostShape, OfHostShape, OfRunning, OfTask, OperationsShape, ShapeByRefusal, TaskNote, TaskShape, made_note, refusal_told, runs_shape, shown_shapes}
-use Rattle.fam_judge.specs.Formed.{HasPlace, IsFormedNote, IsSoundCommand}
+use Rattle.fam_journal.specs.Shapes.{ActsShape, AtShape, CompletesShape, DirtyShape, DoesShape, FreeShape, HostActsShape, HostShape, OfHostShape, OfRunning, OfTask, ShapeByRefusal, TaskNote, TaskShape, made_note, refusal_told, runs_shape, shown_shapes}
+use Rattle.fam_judge.specs.Formed.{IsFormedNote}
 use Rattle.fam_judge.specs.GivesWay.{GivesWay, number_named}
 use Rattle.fam_judge.specs.Shows.{is_inner}
 
@@ -65,14 +64,17 @@ none_task : (k : Option TaskShape) → OfTask k (λ t. ⊥) → ⊥
 none_task None x = x
 none_task (Some t) x = x
 
+-- so of a host's
 pub none_running : (o : Option HostShape) → OfRunning o (λ me t. ⊥) → ⊥
 none_running None x = x
 none_running (Some host) x = none_task host.task x
 
-one_note : (a b : Note) (rest : List Note) → a ∷ [] ≡ b ∷ rest → a ≡ b
+-- one note is one note
+pub one_note : (a b : Note) (rest : List Note) → a ∷ [] ≡ b ∷ rest → a ≡ b
 one_note a b rest e = cc
 
-none_one : (a : Note) → a ∷ [] ≡ [] → ⊥
+-- and not none
+pub none_one : (a : Note) → a ∷ [] ≡ [] → ⊥
 none_one a e = cc
 
 module _ (lines : ℕ) (hosts : List HostShape) (y : Note) where
@@ -118,15 +120,18 @@ module _ (lines : ℕ) (hosts : List HostShape) (y : Note) where
         asked = start.asked;
       })
 
+  -- by the event that gives it
   pub by_event : (e : Event) → EventShape e lines hosts (y ∷ []) → Origin lines hosts y
   by_event (event.Host name uuid) is =
       by_refusal name (refusal_told (call.Declares name uuid) lines hosts) (y ∷ [] ≡ Host name uuid ∷ []) (λ e are. declares name uuid (one_note y (Host name uuid) [] are) e) is
   by_event (event.Mkfs name request) is =
       by_refusal name (refusal_told (call.Makes name request) lines hosts) (FreeShape (call.Makes name request) lines hosts (y ∷ [])) making is
     where
-      at : refusal_told (call.Makes name request) lines hosts ≡ None → (k : ℕ) (host : HostShape) → number_of name (shown_shapes lines hosts) ≡ Some k → ActsShape (call.Makes name request) k host lines hosts (y ∷ []) → Origin lines hosts y
+      at : refusal_told (call.Makes name request) lines hosts ≡ None → (k : ℕ) (host : HostShape) → number_of name (shown_shapes lines hosts) ≡ Some k
+          → ActsShape (call.Makes name request) k host lines hosts (y ∷ []) → Origin lines hosts y
       at e k host number (inl are) = makes name request (subst IsMaking (sym (one_note y _ [] are)) (made request.halt k _)) e
       at e k host number (inr stands) = plainly _ [] tt stands.notes_are
+
       making : refusal_told (call.Makes name request) lines hosts ≡ None → HostActsShape (call.Makes name request) lines hosts (y ∷ []) ⊎ DirtyShape name lines hosts (y ∷ []) → Origin lines hosts y
       making e (inl acts) = by_host _ (number_of name (shown_shapes lines hosts)) (at e) acts
       making e (inr dirty) = plainly _ [] tt dirty.notes_are
@@ -187,6 +192,7 @@ inner_way lines hosts h y inner idle is = by (by_event lines hosts y is.event is
   where
     apart : (n : ℕ) → runs_shape (slice_get hosts n) ≡ true → n ≢ h
     apart n runs same = let here : runs_shape (slice_get hosts n) ≡ false = ap (λ (k : ℕ). runs_shape (slice_get hosts k)) same ∙ idle in cc
+
     by : Origin lines hosts y → GivesWay h hosts y
     by (begins n c e may) = absurd (start_inner n c (subst (λ (z : Note). IsTrue (is_inner z)) e inner))
     by (gives n give) = running_way h n hosts y (slice_get hosts n) (apart n) give.task

@@ -1,9 +1,10 @@
 -- Which answers are allowed behind an answer, or a note, of another host, as they are before it.
-use Rattle.std.proofs.Common.{◌≡◌, ◌≢◌, ◌⊎◌, ◌+◌, ◌≤◌, inl, inr, ℕ, Bool, true, false, List, [], ◌∷◌, ◌++◌, length, map, Option, Some, None, refl, ap, sym, ◌∙◌, subst, arith}
-use Rattle.std.specs.Prelude.{⊤, Result, Ok, Err, option_map, slice_get, take}
+use Rattle.std.proofs.Common.{◌≡◌, ◌≢◌, ◌+◌, ◌≤◌, ℕ, true, false, List, [], ◌∷◌, ◌++◌, length, Option, Some, None, ap, sym, ◌∙◌, subst, arith}
+use Rattle.std.specs.Prelude.{⊤, Result, Ok, Err, option_map, take}
 use Rattle.std.proofs.lemmas.Bool.Decides.{nat_tests}
 use Rattle.std.proofs.lemmas.List.{take-append-le}
 use Rattle.std.proofs.lemmas.Option.{same_Some}
+use Rattle.fam_rules.specs.ReportLaws.{IsSoundReport}
 use Rattle.fam_base.specs.declared.cmd.Cmd.{Cmd}
 use Rattle.fam_base.specs.declared.entry.Entry.{Entry}
 use Rattle.fam_base.specs.declared.entry.Params.{Params}
@@ -12,17 +13,17 @@ use Rattle.fam_format.specs.Stop.{stop}
 use Rattle.fam_rules.specs.declared.answers.Refused.{Refused as Cause}
 use Rattle.fam_rules.specs.declared.answers.Refused.TheVariants as cause
 use Rattle.fam_rules.specs.declared.answers.Report.{Report}
-use Rattle.fam_rules.specs.Asks.{File, entries_of}
+use Rattle.fam_rules.specs.Asks.{File, entries_of, ask}
 use Rattle.fam_rules.specs.Decide.{Wish, decide, decide_wish, early_refusal, wish_of}
 use Rattle.fam_rules.specs.Reply as reply
 use Rattle.fam_rules.specs.Reply.{Reply}
 use Rattle.fam_protocol.proofs.Settled.Lists.{entries_count}
 use Rattle.fam_rules.proofs.RefusalTests.{EarlyCases, another, early_cases, may_ask, too_long}
-use Rattle.fam_journal.specs.Legal.{AnswerAllowed, AppendedAllowed, AskAllowed, CauseAllowed, DamageAllowed, InBounds, IsAcknowledged, IsAskedOf, IsDecided, IsLong, IsOther, IsReportOf, NamesLong, ReplyAllowed, ReportAllowed}
+use Rattle.fam_journal.specs.Legal.{AnswerAllowed, AppendedAllowed, AskAllowed, CauseAllowed, DamageAllowed, IsAcknowledged, IsAskedOf, IsDecided, IsReportOf, ReplyAllowed, ReportAllowed}
 use Rattle.fam_journal.specs.Notes.{Answer, Replied, MediaFault}
 use Rattle.fam_journal.specs.Past.{Bad, BadHeader, BadSlot, HostPast, NoSuperblock, Sound, State, acknowledges, reported_count, shows_count}
 use Rattle.fam_journal.specs.Legal.{FoundAllowed}
-use Rattle.fam_journal.specs.Past.{finds, pends}
+use Rattle.fam_journal.specs.Past.{finds}
 use Rattle.fam_judge.proofs.Sizes.{Lost, Size, Sized, acknowledged, effect, effect_in, size_of}
 use Rattle.fam_judge.proofs.States.{Finds, Goes, counts_bad, counts_none, dropped, drops, finds_none, found, goes, joined, joined_length, joins, leaves, settles, stays, waits}
 
@@ -65,10 +66,12 @@ ClassAllowed (Showing m) given host state = AskAllowed m given host state
 ClassAllowed (Reporting report) given host state = ReportAllowed report host state
 ClassAllowed Faulty given host state = FaultAllowed given state
 
+-- the same by either table
 pub to_class : (given : Reply) (host : HostPast) (state : State) → ReplyAllowed given host state → ClassAllowed (reply_class given) given host state
 to_class (reply.Appended seq) host state allowed = allowed
 to_class given host state allowed = allowed
 
+-- and the other way about
 pub from_class : (given : Reply) (host : HostPast) (state : State) → ClassAllowed (reply_class given) given host state → ReplyAllowed given host state
 from_class (reply.Appended seq) host state allowed = allowed
 from_class given host state allowed = allowed
@@ -112,7 +115,7 @@ asked_of host m all other given same high is = record {
   bounds = record { floor = is.bounds.floor; marked = is.bounds.marked; low = is.bounds.low; high = high };
   cmd = is.cmd;
   told = is.told;
-  is = ap (λ (l : List File). Rattle.fam_rules.specs.Asks.ask l is.cmd) same ∙ is.is;
+  is = ap (λ (l : List File). ask l is.cmd) same ∙ is.is;
 }
 
 report_of : (p : Params) (host : HostPast) (all other : List File) (report : Report) (is : IsReportOf p host all report) → take is.m other ≡ take is.m all → is.m ≤ length other
@@ -120,7 +123,7 @@ report_of : (p : Params) (host : HostPast) (all other : List File) (report : Rep
 report_of p host all other report is same high = record {
   m = is.m;
   bounds = record { floor = is.bounds.floor; marked = is.bounds.marked; low = is.bounds.low; high = high };
-  is = subst (λ (l : List File). Rattle.fam_rules.specs.ReportLaws.IsSoundReport p (entries_of l) report) (sym same) is.is;
+  is = subst (λ (l : List File). IsSoundReport p (entries_of l) report) (sym same) is.is;
 }
 
 -- What is known of an answer, by what is settled.
@@ -156,6 +159,9 @@ DeclineSize None me s = ⊤
 DeclineSize (Some why) me (Lost origin damage gate) = ⊤
 DeclineSize (Some why) me (Sized p n false) = ⊤
 DeclineSize (Some why) me (Sized p n true) = IsDecline why → me ≢ p.master
+
+below : (a b : ℕ) → a ≤ b + 1 → a ≢ b + 1 → a ≤ b
+below a b high ne = grind (arith, nat_tests)
 
 some_none : (f : File) → Some f ≡ None → ⊥
 some_none f e = cc
@@ -203,18 +209,12 @@ module _ (p : Params) (history : List File) (f : File) (given : Reply) (host : H
       let ne : m ≢ length history + 1 = (λ e. other (ap Some e)) in
       let low : m ≤ length history = below m (length history) (omega (arith, high, long)) ne in
       asked_of host m (history ++ f ∷ []) history given (sym (take-append-le m history (f ∷ []) low)) low is
-    where
-      below : (a b : ℕ) → a ≤ b + 1 → a ≢ b + 1 → a ≤ b
-      below a b high ne = grind (arith, nat_tests)
   class_dropped (Reporting report) named other is =
       let high : is.m ≤ length (history ++ f ∷ []) = is.bounds.high in
       let long = joined_length p history f in
       let ne : is.m ≢ length history + 1 = (λ e. other (reported_is p host (history ++ f ∷ []) report is ∙ ap Some e)) in
       let low : is.m ≤ length history = below is.m (length history) (omega (arith, high, long)) ne in
       report_of p host (history ++ f ∷ []) history report is (sym (take-append-le is.m history (f ∷ []) low)) low
-    where
-      below : (a b : ℕ) → a ≤ b + 1 → a ≢ b + 1 → a ≤ b
-      below a b high ne = grind (arith, nat_tests)
   class_dropped Faulty named other is = absurd (no_fault given p _ _ is)
 
   class_pends : (c : ReplyClass) → host.uuid ≢ p.master → ClassAllowed c given host (dropped p history f) → ClassAllowed c given host (waits p history f)
@@ -222,6 +222,7 @@ module _ (p : Params) (history : List File) (f : File) (given : Reply) (host : H
     where
       own : IsAcknowledged seq host history
       own = subst (AppendedAllowed seq host) (acknowledged seq (Sound p history None) ∙ counts_none (Some (seq + 1)) p history) is
+
       by : Goes p history f (Some (seq + 1)) → AppendedAllowed seq host (acknowledges seq (waits p history f))
       by (joins some e) =
           let same : seq + 1 ≡ length history + 1 = same_Some _ _ some in let count : length history ≡ seq + 1 = own.count in absurd (omega (arith, same, count))
@@ -239,7 +240,8 @@ module _ (p : Params) (history : List File) (f : File) (given : Reply) (host : H
   class_pends Faulty other is = absurd (no_fault given p _ _ is)
 
 -- where nothing pends an answer shows no more than is settled
-class_bound : (p : Params) (history : List File) (given : Reply) (host : HostPast) (c : ReplyClass) → ClassAllowed c given host (Sound p history None) → (m : ℕ) → effect_in c ≡ Some m → m ≤ length history
+class_bound : (p : Params) (history : List File) (given : Reply) (host : HostPast) (c : ReplyClass) → ClassAllowed c given host (Sound p history None)
+    → (m : ℕ) → effect_in c ≡ Some m → m ≤ length history
 class_bound p history given host (Appending seq) is m e =
     let own : IsAcknowledged seq host history = subst (AppendedAllowed seq host) (acknowledged seq (Sound p history None) ∙ counts_none (Some (seq + 1)) p history) is in
     let same : seq + 1 ≡ m = same_Some _ m e in
@@ -294,6 +296,7 @@ behind_finds (Replied given) host n (Sound p history (Some f)) named count is = 
         by (joins is e) =
             let more : n ≡ length (history ++ f ∷ []) = subst (FoundAllowed n) e count in let long = joined_length p history f in omega (arith, same, more, long)
         by (stays none e) = none some
+
     by : Finds p history f n → ReplyAllowed given host (finds n (waits p history f))
     by (drops same e) = subst (ReplyAllowed given host) (sym e)
         (from_class given host (dropped p history f) (class_dropped p history f given host (reply_class given) named (other same) (to_class given host (waits p history f) is)))

@@ -1,6 +1,5 @@
 -- What a history tells of the hosts is what the journal that it shows tells: their names, and which of them run a command.
-use Prim.Native.Nat.{zero, suc}
-use Rattle.std.proofs.Common.{◌≡◌, ◌≢◌, ◌+◌, ◌<◌, ◌≤◌, inl, inr, ℕ, Bool, true, false, List, [], ◌∷◌, ◌++◌, length, map, Option, Some, None, refl, ap, ap₂, sym, ◌∙◌, subst}
+use Rattle.std.proofs.Common.{◌≡◌, ◌≢◌, ◌+◌, ◌<◌, inl, inr, ℕ, Bool, true, false, List, [], ◌∷◌, ◌++◌, length, map, Option, Some, None, refl, ap, ap₂, sym, ◌∙◌, subst}
 use Rattle.std.specs.Prelude.{IsTrue, if◌then◌else◌, is_some, option_map, slice_get}
 use Rattle.std.proofs.lemmas.List.{length-map, map-append}
 use Rattle.std.proofs.lemmas.Option.{slice_get-map}
@@ -11,8 +10,8 @@ use Rattle.fam_journal.specs.Calls.{has_name}
 use Rattle.fam_journal.specs.Members.{changed_at, index_from}
 use Rattle.fam_journal.specs.Notes.{Note, Host, Made, Cut, Start, Mark, Found, Writes, Answered, Stop, Halt, Umount, Refused}
 use Rattle.fam_journal.specs.Shapes.{CommandStage, HostShape, Marked, Met, Named, TaskShape, runs_shape, shapes_after, shapes_behind, shown_shape, with_stage}
-use Rattle.fam_judge.specs.Alike.{Begins, Tells, ToldNote, told_note}
-use Rattle.fam_judge.specs.GivesWay.{BusyGivesWay, GivesWay, NamesOther, RefusalGivesWay, number_named}
+use Rattle.fam_judge.specs.Alike.{Begins, Tells, ToldNote, told_note, whole_note}
+use Rattle.fam_judge.specs.GivesWay.{BusyGivesWay, GivesWay, RefusalGivesWay, number_named}
 use Rattle.fam_judge.specs.Shows.{ShowsJournal, is_inner}
 use Rattle.fam_judge.proofs.Members.{changed_same, map_changed}
 use Rattle.fam_judge.proofs.Telling.{note_back}
@@ -22,6 +21,7 @@ pub record Look : Type 0 where
   pub name : List ℕ
   pub runs : Bool
 
+-- as it is seen
 abbrev pub look : HostShape → Look
 look host = record { name = host.name; runs = is_some host.task }
 
@@ -40,12 +40,15 @@ looked_place name i [] = refl
 looked_place name i (x ∷ hosts) = ap (λ (o : Option ℕ). if path_eq x.name name then Some i else o) (looked_place name (i + 1) hosts)
 
 module _ (a b : List HostShape) (alike : map look a ≡ map look b) where
+  -- they are as many
   pub count_seen : length a ≡ length b
   count_seen = sym (length-map a look) ∙ ap (λ (l : List Look). length l) alike ∙ length-map b look
 
+  -- of the same names
   pub number_seen : (name : List ℕ) → number_named name a ≡ number_named name b
   number_seen name = looked_place name 0 a ∙ ap (index_from 0 (λ (l : Look). path_eq l.name name)) alike ∙ sym (looked_place name 0 b)
 
+  -- and the same ones run
   pub runs_seen : (k : ℕ) → runs_shape (slice_get a k) ≡ runs_shape (slice_get b k)
   runs_seen k =
       looked_runs (slice_get a k) ∙ ap runs_look (sym (slice_get-map look a k) ∙ ap (λ (l : List Look). slice_get l k) alike ∙ slice_get-map look b k)
@@ -75,7 +78,7 @@ module _ (a b : List HostShape) (alike : map look a ≡ map look b) where
 way_told : (h : ℕ) (hosts : List HostShape) (x y : Note) → told_note x ≡ told_note y → GivesWay h hosts x → GivesWay h hosts y
 way_told h hosts (Start k cmd) (Start n other) e way = let same : k ≡ n = cc in subst (λ (m : ℕ). m ≢ h) same way
 way_told h hosts (Start k cmd) y e way = absurd cc
-way_told h hosts x y e way = subst (GivesWay h hosts) (sym (note_back y x (ap Rattle.fam_judge.specs.Alike.whole_note (sym e)))) way
+way_told h hosts x y e way = subst (GivesWay h hosts) (sym (note_back y x (ap whole_note (sym e)))) way
 
 -- so of a note of the journal as of the history's line
 pub way_shown : (h : ℕ) (a b : List HostShape) → map look a ≡ map look b → (x y : Note) → told_note x ≡ told_note y → GivesWay h a x → GivesWay h b y
@@ -90,9 +93,11 @@ staged k stage hosts = map_changed look k (with_stage stage) (λ l. l) same host
     task : (o : Option TaskShape) → is_some (option_map (λ (t : TaskShape). record t { stage = stage }) o) ≡ is_some o
     task None = refl
     task (Some t) = refl
+
     same : (x : HostShape) → look (with_stage stage x) ≡ look x
     same x = ap (λ (b : Bool). let l : Look = record { name = x.name; runs = b } in l) (task x.task)
 
+-- of each of these notes
 pub inner_unseen : (hosts : List HostShape) (y : Note) → IsTrue (is_inner y) → map look (shapes_after hosts y) ≡ map look hosts
 inner_unseen hosts (Mark k) inner = staged k Marked hosts
 inner_unseen hosts (Found k n) inner = staged k (Met n) hosts

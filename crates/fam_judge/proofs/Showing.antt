@@ -1,5 +1,5 @@
 -- What a history shows.
-use Rattle.std.specs.Prelude.{⊤, IsTrue}
+use Rattle.std.specs.Prelude.{IsTrue}
 use Rattle.std.proofs.Common.{◌≡◌, ◌≤◌, inl, inr, List, [], ◌∷◌, ◌++◌, length, map, refl, ap, sym, ◌∙◌, arith}
 use Rattle.fam_journal.specs.Notes.{Note}
 use Rattle.fam_judge.specs.Alike.{AreAlikeNotes, told_note}

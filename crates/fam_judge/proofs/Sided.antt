@@ -1,7 +1,7 @@
 -- An answer and a note of another host: what is allowed in the one order is in the other, and what comes behind them too.
-use Rattle.std.proofs.Common.{◌≡◌, ◌≢◌, ◌+◌, ◌≤◌, ◌<◌, inl, inr, ℕ, Bool, true, false, List, [], ◌∷◌, ◌++◌, length, map, Option, Some, None, refl, ap, ap₂, sym, ◌∙◌, subst, arith}
-use Rattle.std.specs.Prelude.{⊤, is_some, option_map, slice_get}
-use Rattle.std.proofs.lemmas.Option.{same_Some, slice_get-map}
+use Rattle.std.proofs.Common.{◌≡◌, ◌≢◌, ◌≤◌, ℕ, true, false, List, [], ◌∷◌, ◌++◌, length, Option, Some, None, refl, ap, sym, ◌∙◌, subst, arith}
+use Rattle.std.specs.Prelude.{⊤, is_some, option_map, slice_get, Ok}
+use Rattle.std.proofs.lemmas.Option.{same_Some}
 use Rattle.fam_base.specs.declared.entry.Entry.{Entry}
 use Rattle.fam_base.specs.declared.entry.Params.{Params}
 use Rattle.fam_rules.specs.declared.answers.Refused.{Refused as Cause}
@@ -9,27 +9,28 @@ use Rattle.fam_rules.specs.declared.answers.Refused.TheVariants as cause
 use Rattle.fam_rules.specs.Asks.{File}
 use Rattle.fam_rules.specs.Reply as reply
 use Rattle.fam_journal.specs.Legal.{Allowed, AnswerAllowed, FoundAllowed, OfHost, WritesAllowed}
-use Rattle.fam_journal.specs.Members.{changed_at}
 use Rattle.fam_journal.specs.Notes.{Answer, Replied, MediaFault, Note, Host, Made, Cut, Start, Mark, Found, Writes, Answered, Stop, Halt, Umount, Refused}
-use Rattle.fam_journal.specs.Past.{Bad, HostPast, Past, Sound, State, cmd_of, ended_state, filled_bytes, finds, past_after, pends, settled_length, shows_count, state_after}
-use Rattle.fam_journal.specs.Shapes.{AnswerShape, Begun, CauseShape, CommandStage, HasMet, HostShape, Marked, Met, Named, OfHostShape, TaskShape}
+use Rattle.fam_journal.specs.Past.{Bad, HostPast, Past, Sound, State, ended_state, finds, past_after, pends, settled_length, shows_count, state_after, hosts_after}
+use Rattle.fam_journal.specs.Shapes.{AnswerShape, Begun, CauseShape, CommandStage, HasMet, HostShape, Marked, Met, Named, OfHostShape, TaskShape, Pairs}
 use Rattle.fam_journal.proofs.Calls.Members.{changed_other}
 use Rattle.fam_judge.specs.Alike.{told_note, whole_note}
 use Rattle.fam_judge.proofs.Aside.{Apart}
-use Rattle.fam_judge.proofs.Easier.{IsEasier, Lower, all_lower, lower_changed, same_lower}
-use Rattle.fam_judge.proofs.Masters.{FoundSize, StageFits, TaskFits, WriteSize, found_size, size_found}
+use Rattle.fam_judge.proofs.Easier.{IsEasier, Lower, all_lower, lower_changed}
+use Rattle.fam_judge.proofs.Masters.{FoundSize, StageFits, TaskFits, WriteSize, size_found}
 use Rattle.fam_judge.proofs.Members.{front_member}
-use Rattle.fam_judge.proofs.Replies.{DeclineSize, IsDecline, NamedSize, answer_before, answer_bound, appends, behind_finds, behind_pends, behind_shows, decided_master, declines}
+use Rattle.fam_judge.proofs.Replies.{DeclineSize, IsDecline, NamedSize, answer_bound, appends, behind_finds, behind_pends, behind_shows, decided_master, declines}
 use Rattle.fam_judge.proofs.Sizes.{Lost, Size, Sized, effect, ended_is, size_of, told_size, told_sized}
-use Rattle.fam_judge.proofs.States.{Goes, counts_bad, counts_none, finds_before, finds_order, goes, joined, joined_length, joins, pends_order, shows_order, stays, waits}
+use Rattle.fam_judge.proofs.States.{Goes, counts_bad, counts_none, finds_order, goes, joined_length, joins, pends_order, shows_order, stays, waits}
 use Rattle.fam_judge.proofs.Telling.{note_back}
 
 -- Declared hosts.
 
+-- another thing holds of the host
 pub of_map : (o : Option HostPast) (P Q : HostPast → Type 0) → ((x : HostPast) → o ≡ Some x → P x → Q x) → OfHost o P → OfHost o Q
 of_map None P Q next is = is
 of_map (Some x) P Q next is = next x refl is
 
+-- it holds of the host's shape, where it is of its UUID
 pub of_shape : (o : Option HostPast) (q : Option HostShape) (F : List ℕ → Type 0) → option_map (λ (x : HostPast). x.uuid) o ≡ option_map (λ (x : HostShape). x.uuid) q → OfHost o (λ x. F x.uuid)
     → OfHostShape q (λ x. F x.uuid)
 of_shape None q F same is = absurd is
@@ -43,6 +44,7 @@ abbrev pub MetSize : ℕ → Size → Type 0
 MetSize seq (Lost origin damage gate) = ⊤
 MetSize seq (Sized p n more) = seq ≤ n
 
+-- as a command found them
 pub met_size : (me : List ℕ) (t : TaskShape) (seq : ℕ) (s : Size) → TaskFits me (Some t) s → t.stage ≡ Met seq → MetSize seq s
 met_size me t seq (Lost origin damage gate) fits is = tt
 met_size me t seq (Sized p n more) fits is = (subst (λ (c : CommandStage). StageFits me c p n more) is fits).0
@@ -58,6 +60,7 @@ met_alone me Marked p n met fits = absurd met
 met_alone me (Met m) p n met fits = λ e. let no : true ≡ false = fits.1 e in cc
 met_alone me (Named seq) p n met fits = absurd met
 
+-- of a running command's answer that appends nothing
 pub decline_size : (me : List ℕ) (t : TaskShape) (s : Size) (answer : Answer) → TaskFits me (Some t) s → AnswerShape me t.cmd t.stage answer → DeclineSize (declines answer) me s
 decline_size me t s (MediaFault line) fits shape = tt
 decline_size me t (Lost origin damage gate) (Replied (reply.NotAppended why)) fits shape = tt
@@ -65,6 +68,7 @@ decline_size me t (Sized p n false) (Replied (reply.NotAppended why)) fits shape
 decline_size me t (Sized p n true) (Replied (reply.NotAppended why)) fits shape = λ ruled. met_alone me t.stage p n (met_cause me t.stage why ruled shape.1) fits
 decline_size me t s (Replied given) fits shape = tt
 
+-- of its answer that acknowledges an entry
 pub named_size : (me : List ℕ) (t : TaskShape) (s : Size) (answer : Answer) → TaskFits me (Some t) s → AnswerShape me t.cmd t.stage answer → NamedSize (appends answer) s
 named_size me t s (MediaFault line) fits shape = tt
 named_size me t (Lost origin damage gate) (Replied (reply.Appended seq)) fits shape = tt
@@ -72,10 +76,11 @@ named_size me t (Sized p n false) (Replied (reply.Appended seq)) fits shape = tt
 named_size me t (Sized p n true) (Replied (reply.Appended seq)) fits shape = (subst (λ (c : CommandStage). StageFits me c p n true) shape fits).1 refl
 named_size me t s (Replied given) fits shape = tt
 
+-- of an entry that may be named
 pub writes_size : (seq : ℕ) (e : Entry) (host : HostPast) (s : State) → WritesAllowed seq e host s → WriteSize host.uuid seq (size_of s)
 writes_size seq e host (Bad origin damage gate) is = is
 writes_size seq e host (Sound p history pending) is =
-    (is.0, ap (λ (o : Option File). is_some o) is.1.none, decided_master p host.uuid _ is.1.cmd (Rattle.std.specs.Prelude.Ok e) is.1.is tt)
+    (is.0, ap (λ (o : Option File). is_some o) is.1.none, decided_master p host.uuid _ is.1.cmd (Ok e) is.1.is tt)
 
 -- nothing pends, and the host isn't the master
 abbrev pub OtherSize : List ℕ → Size → Type 0
@@ -88,6 +93,7 @@ NoteFits me o (Found k n) s = FoundSize n (told_size o s)
 NoteFits me o (Writes k seq entry) s = OtherSize me s
 NoteFits me o y s = ⊤
 
+-- it is needed of what tells the same
 pub fits_told : (me : List ℕ) (o : Option ℕ) (s : Size) (x y : Note) → told_note x ≡ told_note y → NoteFits me o x s → NoteFits me o y s
 fits_told me o s (Start k cmd) (Start n other) e fits = tt
 fits_told me o s (Start k cmd) y e fits = absurd cc
@@ -99,6 +105,7 @@ BoundSize o (Lost origin damage gate) = ⊤
 BoundSize o (Sized p n false) = (m : ℕ) → o ≡ Some m → m ≤ n
 BoundSize o (Sized p n true) = ⊤
 
+-- of an answer that is allowed
 pub bound_size : (answer : Answer) (host : HostPast) (s : State) → AnswerAllowed answer host s → BoundSize (effect answer) (size_of s)
 bound_size answer host (Bad origin damage gate) is = tt
 bound_size answer host (Sound p history None) is = answer_bound answer host p history is
@@ -106,6 +113,7 @@ bound_size answer host (Sound p history (Some f)) is = tt
 
 -- What is allowed.
 
+-- an entry that may be named behind an answer may be named before it, where no more were found
 pub writes_before : (seq : ℕ) (e : Entry) (host : HostPast) (o : Option ℕ) (s : State) → MetSize seq (size_of s) → WritesAllowed seq e host (shows_count o s) → WritesAllowed seq e host s
 writes_before seq e host o (Bad origin damage gate) met is = subst (WritesAllowed seq e host) (counts_bad o origin damage gate) is
 writes_before seq e host o (Sound p history None) met is = subst (WritesAllowed seq e host) (counts_none o p history) is
@@ -181,15 +189,16 @@ module _ (h : ℕ) (answer : Answer) (me : List ℕ) (past : Past) where
       by (stays none e) = let same = ap settled_length e in omega (arith, same)
 
   easier_same : (s : State) (y : Note) → s ≡ state_after (past_after past (Answered h answer)) y
-      → Rattle.fam_journal.specs.Past.hosts_after past y ≡ Rattle.fam_journal.specs.Past.hosts_after (past_after past (Answered h answer)) y
+      → hosts_after past y ≡ hosts_after (past_after past (Answered h answer)) y
       → s ≡ ended_state answer (state_after past y)
       → IsEasier (past_after (past_after past (Answered h answer)) y) (past_after (past_after past y) (Answered h answer))
   easier_same s y first hosts second = record {
     start = refl;
     state = sym second ∙ first;
-    hosts = subst (λ (l : List HostPast). Rattle.fam_journal.specs.Shapes.Pairs Lower l (past_after past y).hosts) hosts (all_lower (past_after past y).hosts);
+    hosts = subst (λ (l : List HostPast). Pairs Lower l (past_after past y).hosts) hosts (all_lower (past_after past y).hosts);
   }
 
+  -- the answer behind the note leaves what the note behind the answer does, but that a mark between them is of fewer entries
   pub order_easier : (y : Note) → Apart h (length past.hosts) (told_note y) → NoteFits me (effect answer) y (size_of past.state) → BoundSize (effect answer) (size_of past.state)
       → IsEasier (past_after (past_after past (Answered h answer)) y) (past_after (past_after past y) (Answered h answer))
   order_easier (Made k p) way fits bound = absurd way

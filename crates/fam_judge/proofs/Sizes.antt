@@ -1,15 +1,13 @@
 -- How much is settled, and whether an entry pends: what journals that tell the same have in common.
-use Rattle.std.proofs.Common.{◌≡◌, ◌+◌, ◌≤◌, ℕ, Bool, true, false, List, [], ◌∷◌, ◌++◌, length, map, Option, Some, None, refl, ap, ap₂, sym, ◌∙◌, subst, arith}
-use Rattle.std.specs.Prelude.{⊤, ◌⊎◌, ◌==◌, if◌then◌else◌, is_some, nat_lt}
+use Rattle.std.proofs.Common.{◌≡◌, ◌+◌, ℕ, Bool, true, false, List, [], ◌∷◌, ◌++◌, length, map, Option, Some, None, refl, ap, ap₂, sym, ◌∙◌, arith}
+use Rattle.std.specs.Prelude.{◌==◌, if◌then◌else◌, is_some, nat_lt}
 use Rattle.std.proofs.lemmas.Bool.Decides.{nat_tests}
 use Rattle.std.proofs.lemmas.List.{length-append, map-append}
 use Rattle.fam_base.specs.declared.entry.Params.{Params}
-use Rattle.fam_base.specs.Image.{Image}
 use Rattle.fam_commands.specs.ReplyClasses.{Appending, Declining, Faulty, ReplyClass, Reporting, Showing, reply_class}
 use Rattle.fam_format.specs.declared.faults.SuperFault.TheVariants as super
 use Rattle.fam_machine.specs.Mkfs.{first_sent}
 use Rattle.fam_rules.specs.Asks.{File}
-use Rattle.fam_journal.specs.Legal.{FoundAllowed, FoundBad}
 use Rattle.fam_journal.specs.Members.{changed_at}
 use Rattle.fam_journal.specs.Notes.{Answer, Replied, MediaFault, Note, Host, Made, Cut, Start, Mark, Found, Writes, Answered, Stop, Halt, Umount, Refused}
 use Rattle.fam_journal.specs.Past.{Bad, Damage, Halted, HostPast, NoSuperblock, Origin, Past, Sound, State, acknowledges, ended_state, finds, past_after, past_behind, pends, replied_in, reported_count, shows, shows_count, state_after, with_pending}
@@ -23,10 +21,12 @@ pub data Size : Type 0 where
   Lost : (origin : Origin) (damage : Damage) (gate : ℕ) → Size
   Sized : (params : Params) (count : ℕ) (pends : Bool) → Size
 
+-- of a state
 abbrev pub size_of : State → Size
 size_of (Bad origin damage gate) = Lost origin damage gate
 size_of (Sound p history pending) = Sized p (length history) (is_some pending)
 
+-- one where a test passes
 abbrev pub one_if : Bool → ℕ
 one_if true = 1
 one_if false = 0
@@ -36,14 +36,17 @@ abbrev pub shows_size : ℕ → Size → Size
 shows_size m (Lost origin damage gate) = Lost origin damage gate
 shows_size m (Sized p n more) = if m == n + 1 then Sized p (n + one_if more) false else Sized p n more
 
+-- where any were
 abbrev pub told_size : Option ℕ → Size → Size
 told_size None s = s
 told_size (Some m) s = shows_size m s
 
+-- a master found so many
 abbrev pub finds_size : ℕ → Size → Size
 finds_size n (Lost origin damage gate) = Lost origin damage gate
 finds_size n (Sized p m more) = if n == m then Sized p m false else shows_size n (Sized p m more)
 
+-- an entry is named
 abbrev pub pends_size : Size → Size
 pends_size (Lost origin damage gate) = Lost origin damage gate
 pends_size (Sized p n more) = Sized p n true
@@ -58,10 +61,12 @@ effect_in (Showing m) = Some m
 effect_in (Reporting report) = reported_count report.log
 effect_in Faulty = None
 
+-- so of an answer
 abbrev pub effect : Answer → Option ℕ
 effect (Replied given) = effect_in (reply_class given)
 effect (MediaFault line) = None
 
+-- numbers are the same where one more are
 pub equal_more : (a b : ℕ) → (a == b) ≡ (a + 1 == b + 1)
 equal_more a b = by (a == b) refl (a + 1 == b + 1) refl
   where
@@ -71,11 +76,13 @@ equal_more a b = by (a == b) refl (a + 1 == b + 1) refl
     by true e false f = absurd (grind (arith, nat_tests))
     by false e true f = absurd (grind (arith, nat_tests))
 
+-- that an entry is acknowledged shows it
 pub acknowledged : (seq : ℕ) (state : State) → acknowledges seq state ≡ shows (seq + 1) state
 acknowledged seq (Bad origin damage gate) = refl
 acknowledged seq (Sound p history pending) =
     ap (λ (b : Bool). if b then Sound p (with_pending history pending) None else Sound p history pending) (equal_more seq (length history))
 
+-- what an answer settles
 pub ended_is : (answer : Answer) (state : State) → ended_state answer state ≡ shows_count (effect answer) state
 ended_is (MediaFault line) state = refl
 ended_is (Replied given) state = by (reply_class given)
@@ -97,16 +104,19 @@ joined_size : (p : Params) (history : List File) (pending : Option File) → siz
 joined_size p history None = ap (λ (n : ℕ). Sized p n false) (let same : length history ≡ length history + 0 = omega arith in same)
 joined_size p history (Some f) = ap (λ (n : ℕ). Sized p n false) (length-append history (f ∷ []))
 
+-- the sizes of what is settled so
 pub shows_sized : (m : ℕ) (state : State) → size_of (shows m state) ≡ shows_size m (size_of state)
 shows_sized m (Bad origin damage gate) = refl
 shows_sized m (Sound p history pending) =
     size_if (m == length history + 1) _ _
     ∙ ap (λ (s : Size). if m == length history + 1 then s else Sized p (length history) (is_some pending)) (joined_size p history pending)
 
+-- where any were shown
 pub told_sized : (o : Option ℕ) (state : State) → size_of (shows_count o state) ≡ told_size o (size_of state)
 told_sized None state = refl
 told_sized (Some m) state = shows_sized m state
 
+-- behind a master's count
 pub finds_sized : (n : ℕ) (state : State) → size_of (finds n state) ≡ finds_size n (size_of state)
 finds_sized n (Bad origin damage gate) = refl
 finds_sized n (Sound p history pending) =
@@ -117,6 +127,7 @@ pends_sized : (f : File) (state : State) → size_of (pends f state) ≡ pends_s
 pends_sized f (Bad origin damage gate) = refl
 pends_sized f (Sound p history pending) = refl
 
+-- behind a note, by what is told of it
 abbrev pub size_after : Size → ToldNote → Size
 size_after s (Begins k cmd) = s
 size_after s (Tells (Made k p)) = Sized p 0 false
@@ -126,6 +137,7 @@ size_after s (Tells (Writes k seq entry)) = pends_size s
 size_after s (Tells (Answered k answer)) = told_size (effect answer) s
 size_after s (Tells note) = s
 
+-- which is the size of what it settles
 pub sized_after : (past : Past) (y : Note) → size_of (state_after past y) ≡ size_after (size_of past.state) (told_note y)
 sized_after past (Made k p) = refl
 sized_after past (Cut k n) = size_if (nat_lt n first_sent) _ _
@@ -134,10 +146,12 @@ sized_after past (Writes k seq entry) = pends_sized _ past.state
 sized_after past (Answered k answer) = ap size_of (ended_is answer past.state) ∙ told_sized (effect answer) past.state
 sized_after past y = refl
 
+-- behind some notes
 abbrev pub sizes_behind : Size → List ToldNote → Size
 sizes_behind s [] = s
 sizes_behind s (t ∷ told) = sizes_behind (size_after s t) told
 
+-- which is the size of what they settle
 pub sized_behind : (past : Past) (notes : List Note) → size_of (past_behind past notes).state ≡ sizes_behind (size_of past.state) (map told_note notes)
 sized_behind past [] = refl
 sized_behind past (y ∷ notes) =
@@ -145,9 +159,11 @@ sized_behind past (y ∷ notes) =
 
 -- UUIDs.
 
+-- of a host as the past has it
 abbrev pub past_uuid : HostPast → List ℕ
 past_uuid x = x.uuid
 
+-- and as its shape has it
 abbrev pub shape_uuid : HostShape → List ℕ
 shape_uuid x = x.uuid
 
@@ -155,6 +171,7 @@ abbrev uuids_after : List (List ℕ) → ToldNote → List (List ℕ)
 uuids_after ids (Tells (Host name uuid)) = ids ++ uuid ∷ []
 uuids_after ids told = ids
 
+-- a change that keeps them
 pub kept_uuids : {A : Type 0} (g : A → List ℕ) (k : ℕ) (f : A → A) → ((x : A) → g (f x) ≡ g x) → (xs : List A) → map g (changed_at k f xs) ≡ map g xs
 kept_uuids g k f same xs = map_changed g k f (λ l. l) same xs ∙ changed_same k (λ l. l) (map g xs) (λ l is. refl)
 
@@ -188,4 +205,4 @@ uuids_alike (m ∷ a) [] alike past hosts same = absurd (more_is_none (told_note
 uuids_alike (m ∷ a) (n ∷ b) alike past hosts same =
     let one : told_note m ≡ told_note n = heads (told_note m) (told_note n) (map told_note a) (map told_note b) alike in
     uuids_alike a b (tails (told_note m) (told_note n) (map told_note a) (map told_note b) alike) (past_after past n) (shapes_after hosts m)
-        (past_uuids past n ∙ ap₂ uuids_after same (sym one) ∙ sym (shape_uuids hosts m))
+    (past_uuids past n ∙ ap₂ uuids_after same (sym one) ∙ sym (shape_uuids hosts m))

@@ -1,8 +1,8 @@
 -- A start is moved up, over lines that give way.
-use Rattle.std.proofs.Common.{◌≡◌, ◌≢◌, ◌⊎◌, inl, inr, ◌≤◌, ℕ, Bool, true, false, List, [], ◌∷◌, ◌++◌, length, map, Option, Some, None, refl, ap, ap₂, sym, ◌∙◌, subst, arith}
-use Rattle.std.specs.Prelude.{IsTrue, ◌&&◌, ◌||◌, is_some, nat_lt, option_map, slice_get}
+use Rattle.std.proofs.Common.{◌≡◌, ◌⊎◌, inl, inr, ℕ, false, List, [], ◌∷◌, ◌++◌, length, map, Option, Some, refl, ap, sym, ◌∙◌, subst, arith}
+use Rattle.std.specs.Prelude.{◌&&◌, nat_lt, option_map, slice_get}
 use Rattle.std.proofs.lemmas.List.{append_assoc, append-nil, length-map}
-use Rattle.std.proofs.lemmas.Option.{same_Some, slice_get-map}
+use Rattle.std.proofs.lemmas.Option.{slice_get-map}
 use Rattle.fam_base.specs.declared.cmd.Cmd.{Cmd}
 use Rattle.fam_base.specs.Image.{Image}
 use Rattle.fam_format.specs.Layout.{least_lines}
@@ -10,33 +10,31 @@ use Rattle.fam_format.specs.Stop.{or_else}
 use Rattle.fam_journal.specs.declared.event.Event.TheVariants as event
 use Rattle.fam_journal.specs.declared.refusal.Refusal.{Refusal}
 use Rattle.fam_journal.specs.declared.refusal.Refusal.TheVariants as why
-use Rattle.fam_journal.specs.declared.event.Ask.{Ask}
-use Rattle.fam_journal.specs.Calls.{begins_refusal, busy_at, has_name, is_busy_host, is_engaged, is_kept_host, is_same, may_begin, number_of, on_host, when}
+use Rattle.fam_journal.specs.Calls.{begins_refusal, busy_at, has_name, is_busy_host, is_engaged, is_kept_host, is_same, on_host, when}
 use Rattle.fam_journal.specs.Events.{mounts}
-use Rattle.fam_journal.specs.EventShapes.{EventShape, NoMore, StartShape, UnfitNotes}
+use Rattle.fam_journal.specs.EventShapes.{NoMore, StartShape, UnfitNotes}
 use Rattle.fam_journal.specs.Legal.{Allowed}
 use Rattle.fam_journal.specs.Machines.{HostState}
 use Rattle.fam_journal.specs.Members.{changed_at, index_of}
 use Rattle.fam_journal.specs.Notes.{Note, Start}
 use Rattle.fam_journal.specs.Past.{Past, first_past, past_after, past_behind, past_of}
-use Rattle.fam_journal.specs.Shapes.{Begun, HostShape, OfRunning, OfTask, ShapeByRefusal, TaskNote, TaskShape, runs_shape, shapes_after, shapes_behind, shapes_of, shown_shape, shown_shapes}
+use Rattle.fam_journal.specs.Shapes.{Begun, HostShape, ShapeByRefusal, runs_shape, shapes_after, shapes_of, shown_shape, shown_shapes}
 use Rattle.fam_journal.proofs.Calls.Members.{changed_other}
 use Rattle.fam_journal.proofs.Calls.Tests.{no_when, or_first, or_next}
 use Rattle.fam_journal.proofs.Settled.Journals.{past_both}
-use Rattle.fam_journal.proofs.Shapes.Operations.{shapes_both}
-use Rattle.fam_judge.specs.Alike.{AreAlikeNotes, told_note}
-use Rattle.fam_judge.specs.Explained.{AreAllowedForSome, IsAllowedForSome, IsExplained, IsExplainedBy}
-use Rattle.fam_judge.specs.Formed.{AreFormed, AreSoundNotes, IsFormedNote, IsSoundCommand}
+use Rattle.fam_judge.specs.Alike.{told_note}
+use Rattle.fam_judge.specs.Explained.{IsExplained}
+use Rattle.fam_judge.specs.Formed.{AreFormed, IsFormedNote, IsSoundCommand}
 use Rattle.fam_judge.specs.GivesWay.{GivesWay, GiveWay, number_named}
-use Rattle.fam_judge.specs.Shows.{ShowsJournal, is_inner}
+use Rattle.fam_judge.specs.Shows.{ShowsJournal}
 use Rattle.fam_judge.proofs.Aside.{Apart, counts_alike, number_before, shape_aside, shape_order, start_allows, start_order, way_apart}
 use Rattle.fam_judge.proofs.Busier.{IsBusier, busy_runs, formed_kept}
 use Rattle.fam_judge.proofs.Explaining.{one_more, sound-append}
 use Rattle.fam_judge.proofs.Members.{changed_count, changed_same, place_first, place_kept}
-use Rattle.fam_judge.proofs.Origins.{MayBegin, MayGive, Origin, begins, by_event, declares, gives, inner_way, makes, none_running, plain}
+use Rattle.fam_judge.proofs.Origins.{MayBegin, Origin, begins, by_event, declares, gives, inner_way, makes, none_running, plain}
 use Rattle.fam_judge.proofs.Seen.{inner_unseen, runs_seen, shown_seen, way_shown}
 use Rattle.fam_judge.proofs.Showing.{first_line, parts, shows_both}
-use Rattle.fam_judge.proofs.Swapping.{Stands, Swaps, all_swapped, alike_both, behind_one, behind_some, one_alike, shapes_one}
+use Rattle.fam_judge.proofs.Swapping.{Stands, Swaps, all_swapped, alike_both, behind_one, behind_some, shapes_one}
 
 -- A start.
 
@@ -65,7 +63,8 @@ formed_start : (lines : ℕ) (hosts : List HostShape) (h : ℕ) (cmd : Cmd) → 
 formed_start lines hosts h cmd s = record {
   event = event.Begin s.may.name s.may.what;
   valid = tt;
-  shape = subst (λ (o : Option Refusal). ShapeByRefusal s.may.name o (Start h cmd ∷ []) (UnfitNotes s.may.name s.may.what (Start h cmd ∷ []) ⊎ StartShape NoMore s.may.name s.may.what lines hosts (Start h cmd ∷ [])))
+  shape = subst (λ (o : Option Refusal). ShapeByRefusal s.may.name o (Start h cmd ∷ [])
+      (UnfitNotes s.may.name s.may.what (Start h cmd ∷ []) ⊎ StartShape NoMore s.may.name s.may.what lines hosts (Start h cmd ∷ [])))
       (sym (ap (λ (o : Option ℕ). on_host o (λ k. begins_refusal k (mounts s.may.what) (shown_shapes lines hosts))) s.may.number ∙ s.may.free))
       (inr (record { host = h; number = s.may.number; cmd = cmd; asked = s.may.asked; rest = []; notes_are = refl; follow = refl }));
   sound = s.sound;
@@ -77,7 +76,7 @@ start_idle : (lines : ℕ) (hosts : List HostShape) (h : ℕ) (cmd : Cmd) → St
 start_idle lines hosts h cmd s =
     sym (ap is_busy_host (slice_get-map shown_shape hosts h) ∙ busy_runs (slice_get hosts h))
     ∙ no_when (busy_at h (shown_shapes lines hosts)) (why.Busy (record { 0 = h }))
-        (or_first _ _ (or_next (when (nat_lt (length (shown_shapes lines hosts).memory) least_lines) (why.ImageSmall (length (shown_shapes lines hosts).memory))) _ s.may.free))
+    (or_first _ _ (or_next (when (nat_lt (length (shown_shapes lines hosts).memory) least_lines) (why.ImageSmall (length (shown_shapes lines hosts).memory))) _ s.may.free))
 
 -- it may begin wherever it stands so, under its name
 start_from : (lines : ℕ) (a b : List HostShape) (h : ℕ) (cmd : Cmd) → slice_get a h ≡ slice_get b h → ((name : List ℕ) → number_named name a ≡ Some h → number_named name b ≡ Some h)
@@ -90,7 +89,7 @@ start_from lines a b h cmd same numbers s =
         what = m.what;
         number = numbers m.name m.number;
         free = ap (λ (o : Option HostState). or_else (when (nat_lt (length (shown_shapes lines a).memory) least_lines) (why.ImageSmall (length (shown_shapes lines a).memory)))
-                (or_else (when (is_busy_host o) (why.Busy (record { 0 = h }))) (when (mounts m.what && is_kept_host o) why.Mounted)))
+            (or_else (when (is_busy_host o) (why.Busy (record { 0 = h }))) (when (mounts m.what && is_kept_host o) why.Mounted)))
             (slice_get-map shown_shape b h ∙ ap (option_map shown_shape) (sym same) ∙ sym (slice_get-map shown_shape a h)) ∙ m.free;
         asked = m.asked;
       };
@@ -115,7 +114,7 @@ module _ (start : Image) (h : ℕ) (cmd : Cmd) where
     others = λ k ne. changed_other h k begun hosts ne;
     engaged = λ j below e.
         place_first shown_shape is_engaged h begun (λ x. x) hosts 0 j (λ x is. refl) (omega (arith, below))
-            (ap (λ l. index_of is_engaged (map shown_shape l)) (changed_same h (λ x. x) hosts (λ x is. refl)) ∙ e);
+        (ap (λ l. index_of is_engaged (map shown_shape l)) (changed_same h (λ x. x) hosts (λ x is. refl)) ∙ e);
   }
 
   -- Behind the line and the start it is as behind the start and the line.
@@ -131,8 +130,10 @@ module _ (start : Image) (h : ℕ) (cmd : Cmd) where
         where
           count : length (past_of start front).hosts ≡ length (shapes_of before)
           count = counts_alike before front fronts (first_past start) [] refl
+
           apart : Apart h (length (past_of start front).hosts) (told_note first)
           apart = subst (λ (n : ℕ). Apart h n (told_note first)) (sym count) (subst (Apart h (length (shapes_of before))) firsts way)
+
           by : (n : Note) → told_note (Start h cmd) ≡ told_note n → past_after (past_after (past_of start front) first) n ≡ past_after (past_after (past_of start front) n) first
           by (Start k c) e =
               let host : h ≡ k = cc in
@@ -181,7 +182,8 @@ module _ (start : Image) (h : ℕ) (cmd : Cmd) where
   over_inner before (y ∷ out) notes left is =
       let hosts = shapes_of before in
       let next = behind_one start before y (out ++ Start h cmd ∷ notes) (Start h cmd ∷ (out ++ notes)) (over_inner (before ++ y ∷ []) out notes left.1) is in
-      let idle = runs_seen hosts (shapes_after hosts y) (sym (inner_unseen hosts y left.0)) h ∙ start_idle lines (shapes_after hosts y) h cmd (started lines (shapes_after hosts y) h cmd next.formed.1.0) in
+      let behind = shapes_after hosts y in
+      let idle = runs_seen hosts behind (sym (inner_unseen hosts y left.0)) h ∙ start_idle lines behind h cmd (started lines behind h cmd next.formed.1.0) in
       over_line before y (out ++ notes) (inner_way lines hosts h y left.0 idle next.formed.0) next
 
 -- Histories.

@@ -1,18 +1,17 @@
 -- What is settled behind an answer and a note of another host, in either order.
-use Rattle.std.proofs.Common.{◌≡◌, ◌≢◌, ◌⊎◌, ◌+◌, ◌≤◌, ◌<◌, inl, inr, ℕ, Bool, true, false, List, [], ◌∷◌, ◌++◌, length, Option, Some, None, refl, ap, sym, ◌∙◌, subst, arith}
-use Rattle.std.specs.Prelude.{⊤, ◌==◌, if◌then◌else◌, is_some, take}
-use Rattle.std.proofs.lemmas.Bool.{cases_eq}
+use Rattle.std.proofs.Common.{◌≡◌, ◌+◌, ◌≤◌, inr, ℕ, Bool, true, false, List, [], ◌∷◌, ◌++◌, length, Option, Some, None, refl, ap, sym, ◌∙◌, subst, arith}
+use Rattle.std.specs.Prelude.{◌==◌, if◌then◌else◌}
 use Rattle.std.proofs.lemmas.Bool.Decides.{nat_tests}
 use Rattle.std.proofs.lemmas.List.{length-append}
 use Rattle.std.proofs.lemmas.Option.{same_Some}
 use Rattle.fam_base.specs.declared.entry.Params.{Params}
 use Rattle.fam_rules.specs.Asks.{File}
 use Rattle.fam_journal.specs.Legal.{FoundAllowed}
-use Rattle.fam_journal.specs.Past.{Bad, Damage, Origin, Sound, State, acknowledges, finds, pends, shows, shows_count, with_pending}
-use Rattle.fam_judge.proofs.Sizes.{acknowledged}
+use Rattle.fam_journal.specs.Past.{Bad, Damage, Origin, Sound, State, finds, pends, shows, shows_count}
 
 -- Nothing pends.
 
+-- a damaged image shows nothing
 pub counts_bad : (o : Option ℕ) (origin : Origin) (damage : Damage) (gate : ℕ) → shows_count o (Bad origin damage gate) ≡ Bad origin damage gate
 counts_bad None origin damage gate = refl
 counts_bad (Some m) origin damage gate = refl
@@ -21,10 +20,12 @@ either_way : {A : Type 0} (b : Bool) (x : A) → (if b then x else x) ≡ x
 either_way true x = refl
 either_way false x = refl
 
+-- what is settled is shown already
 pub counts_none : (o : Option ℕ) (p : Params) (history : List File) → shows_count o (Sound p history None) ≡ Sound p history None
 counts_none None p history = refl
 counts_none (Some m) p history = either_way (m == length history + 1) (Sound p history None)
 
+-- and found
 pub finds_none : (n : ℕ) (p : Params) (history : List File) → finds n (Sound p history None) ≡ Sound p history None
 finds_none n p history =
     ap (λ (s : State). if n == length history then Sound p history None else s) (counts_none (Some n) p history) ∙ either_way (n == length history) (Sound p history None)
@@ -32,6 +33,7 @@ finds_none n p history =
 -- An entry pends.
 
 module _ (p : Params) (history : List File) (f : File) where
+  -- it pends, has joined, or was dropped
   abbrev pub waits : State
   waits = Sound p history (Some f)
 
@@ -41,6 +43,7 @@ module _ (p : Params) (history : List File) (f : File) where
   abbrev pub dropped : State
   dropped = Sound p history None
 
+  -- one more
   pub joined_length : length (history ++ f ∷ []) ≡ length history + 1
   joined_length = length-append history (f ∷ [])
 
@@ -49,6 +52,7 @@ module _ (p : Params) (history : List File) (f : File) where
     joins : o ≡ Some (length history + 1) → shows_count o waits ≡ joined → Goes o
     stays : (o ≡ Some (length history + 1) → ⊥) → shows_count o waits ≡ waits → Goes o
 
+  -- which of the two
   pub goes : (o : Option ℕ) → Goes o
   goes None = stays (λ e. cc) refl
   goes (Some m) = by (m == length history + 1) refl
@@ -65,6 +69,7 @@ module _ (p : Params) (history : List File) (f : File) where
     settles : n ≡ length history + 1 → finds n waits ≡ joined → Finds n
     leaves : finds n waits ≡ waits → Finds n
 
+  -- which of the three
   pub found : (n : ℕ) → Finds n
   found n = by (n == length history) refl (goes (Some n))
     where
@@ -76,6 +81,7 @@ module _ (p : Params) (history : List File) (f : File) where
 
 -- Either order.
 
+-- of two answers
 pub shows_order : (o k : Option ℕ) (s : State) → shows_count k (shows_count o s) ≡ shows_count o (shows_count k s)
 shows_order o k (Bad origin damage gate) =
     ap (shows_count k) (counts_bad o origin damage gate) ∙ counts_bad k origin damage gate ∙ sym (ap (shows_count o) (counts_bad k origin damage gate) ∙ counts_bad o origin damage gate)
@@ -90,6 +96,7 @@ shows_order o k (Sound p history (Some f)) = by (goes p history f o) (goes p his
     by (stays is e) (joins was d) = ap (shows_count k) e ∙ d ∙ sym (ap (shows_count o) d ∙ counts_none o p (history ++ f ∷ []))
     by (stays is e) (stays was d) = ap (shows_count k) e ∙ d ∙ sym (ap (shows_count o) d ∙ e)
 
+-- of an answer and a master's count that is allowed behind it
 pub finds_order : (o : Option ℕ) (n : ℕ) (s : State) → FoundAllowed n (shows_count o s) → finds n (shows_count o s) ≡ shows_count o (finds n s)
 finds_order o n (Bad origin damage gate) allowed = ap (finds n) (counts_bad o origin damage gate) ∙ sym (counts_bad o origin damage gate)
 finds_order o n (Sound p history None) allowed =
@@ -106,6 +113,7 @@ finds_order o n (Sound p history (Some f)) allowed = by (goes p history f o) (fo
     by (stays is e) (settles m d) = ap (finds n) e ∙ d ∙ sym (ap (shows_count o) d ∙ counts_none o p (history ++ f ∷ []))
     by (stays is e) (leaves d) = ap (finds n) e ∙ d ∙ sym (ap (shows_count o) d ∙ e)
 
+-- of an answer and an entry that is named where nothing pends
 pub pends_order : (o : Option ℕ) (f : File) (p : Params) (history : List File) → ((m : ℕ) → o ≡ Some m → m ≤ length history)
     → pends f (shows_count o (Sound p history None)) ≡ shows_count o (pends f (Sound p history None))
 pends_order o f p history bound = by (goes p history f o)

@@ -1,22 +1,24 @@
 -- Journals in which two neighbours change places.
-use Rattle.std.proofs.Common.{◌≡◌, ℕ, List, [], ◌∷◌, ◌++◌, length, map, refl, ap, ap₂, sym, ◌∙◌, subst}
+use Rattle.std.proofs.Common.{◌≡◌, List, [], ◌∷◌, ◌++◌, length, map, refl, ap, ap₂, sym, ◌∙◌, subst}
 use Rattle.std.proofs.lemmas.List.{append_assoc, append-nil, map-append}
 use Rattle.fam_base.specs.Image.{Image}
 use Rattle.fam_journal.specs.Legal.{Allowed}
 use Rattle.fam_journal.specs.Notes.{Note}
 use Rattle.fam_journal.specs.Past.{past_of}
-use Rattle.fam_journal.specs.Shapes.{HostShape, shapes_after, shapes_behind, shapes_of}
+use Rattle.fam_journal.specs.Shapes.{HostShape, shapes_after, shapes_of}
 use Rattle.fam_journal.proofs.Shapes.Operations.{shapes_both}
 use Rattle.fam_judge.specs.Alike.{AreAlikeNotes, told_note}
 use Rattle.fam_judge.specs.Explained.{AreAllowedForSome, IsAllowedForSome}
 use Rattle.fam_judge.specs.Formed.{AreFormed, AreSoundNotes}
-use Rattle.fam_judge.proofs.Telling.{heads, more_is_none, none_is_more, tails}
+use Rattle.fam_judge.proofs.Telling.{heads, more_is_none, tails}
 
 -- Notes that tell the same.
 
+-- one behind the other
 pub alike_both : (a b c d : List Note) → AreAlikeNotes a c → AreAlikeNotes b d → AreAlikeNotes (a ++ b) (c ++ d)
 alike_both a b c d first second = map-append told_note a b ∙ ap₂ (λ x y. x ++ y) first second ∙ sym (map-append told_note c d)
 
+-- so of one note
 pub one_alike : (m n : Note) → told_note m ≡ told_note n → AreAlikeNotes (m ∷ []) (n ∷ [])
 one_alike m n e = ap (λ t. t ∷ []) e
 
@@ -32,6 +34,7 @@ pub record Split (a : List Note) (m n : Note) (b chosen : List Note) : Type 0 wh
   pub seconds : told_note n ≡ told_note second
   pub backs : AreAlikeNotes b back
 
+-- where the two are
 pub split : (a : List Note) (m n : Note) (b chosen : List Note) → AreAlikeNotes (a ++ m ∷ n ∷ b) chosen → Split a m n b chosen
 split [] m n b [] alike = absurd (more_is_none (told_note m) _ alike)
 split [] m n b (c ∷ []) alike = absurd (more_is_none (told_note n) _ (tails (told_note m) (told_note c) _ _ alike))

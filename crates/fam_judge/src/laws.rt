@@ -59,14 +59,14 @@ pub fn what_follows_is_formed()
 {}
 
 /// What is explained stays so when a start is moved up, over lines that give way (`GiveWay`): they are of other hosts, and make no
-/// file system. So a recorder that notes starts early makes more histories legal, never fewer.
+/// file system. So a recorder that notes starts early, over such lines, makes more histories legal, never fewer.
 pub fn a_start_moves_up()
     ensures { (start : Image) (a lines b : List Note) (h : ℕ) (cmd : Cmd) → GiveWay h (shapes_of a) lines
         → IsExplained start (a ++ (lines ++ Start h cmd ∷ b)) → IsExplained start (a ++ Start h cmd ∷ (lines ++ b)) }
 {}
 
 /// What is explained stays so when an answer is moved down, over lines that give way behind it (`GiveWay`): they are of other
-/// hosts, and make no file system. So a recorder that notes answers late makes more histories legal, never fewer.
+/// hosts, and make no file system. So a recorder that notes answers late, over such lines, makes more histories legal, never fewer.
 pub fn an_answer_moves_down()
     ensures { (start : Image) (a lines b : List Note) (h : ℕ) (answer : Answer) → GiveWay h (shapes_of (a ++ Answered h answer ∷ [])) lines
         → IsExplained start (a ++ Answered h answer ∷ (lines ++ b)) → IsExplained start (a ++ (lines ++ Answered h answer ∷ b)) }
