@@ -33,7 +33,7 @@ use Rattle.fam_judge.proofs.Showing.{first_line, parts, shows_both}
 use Rattle.fam_judge.proofs.Sided.{BoundSize, MetSize, NoteFits, OtherSize, answer_behind, bound_size, decline_size, fits_told, met_size, named_size, of_map, of_shape, order_easier, writes_before, writes_size}
 use Rattle.fam_judge.proofs.Sizes.{Lost, Size, Sized, effect, ended_is, past_uuid, shape_uuid, size_after, size_of, sized_behind, sizes_behind, told_size, told_sized, uuids_alike}
 use Rattle.fam_judge.proofs.States.{finds_before}
-use Rattle.fam_judge.proofs.Swapping.{Stands, Swaps, all_swapped, alike_both, behind_first, behind_one, behind_some, shapes_one}
+use Rattle.fam_judge.proofs.Swapping.{Stands, Swaps, all_swapped, alike_both, behind_both, behind_first, behind_one, behind_some, shapes_one}
 use Rattle.fam_judge.proofs.Telling.{heads, more_is_none, none_is_more, note_back, tails}
 
 -- What is settled behind a journal.
@@ -365,7 +365,7 @@ one_down start a b x h answer way is =
     let old : List Note = s.out ++ s.note ∷ s.back in
     let whole : is.0 ≡ front ++ mine ∷ old =
     p.whole ∙ ap (λ (k : List Note). p.front ++ k) (l.whole ∙ ap (λ (n : Note). l.out ++ n ∷ l.back) (answer_told h answer l.note l.told) ∙ ap (λ (k : List Note). l.out ++ mine ∷ k) s.whole)
-    ∙ sym (append_assoc p.front l.out (mine ∷ old)) in
+    ∙ behind_both p.front l.out (mine ∷ old) in
     let shown : ShowsJournal a front = subst (λ (k : List Note). ShowsJournal k front) (append-nil a) (shows_both a [] p.front l.out p.shown l.left_out) in
     let longer : ShowsJournal a (front ++ s.out) = subst (λ (k : List Note). ShowsJournal k (front ++ s.out)) (append-nil a) (shows_both a [] front s.out shown s.left_out) in
     let with_answer : ShowsJournal (a ++ mine ∷ []) ((front ++ s.out) ++ mine ∷ []) = shows_both a (mine ∷ []) (front ++ s.out) (mine ∷ []) longer (inl (refl, tt)) in
@@ -407,5 +407,5 @@ answer_down start (x ∷ lines) a b h answer way is =
     let moved : IsExplained start (a ++ x ∷ mine ∷ (lines ++ b)) = one_down start a (lines ++ b) x h answer way.0 is in
     let more : IsExplained start ((a ++ x ∷ []) ++ (lines ++ mine ∷ b)) =
     answer_down start lines (a ++ x ∷ []) b h answer (subst (λ (k : List HostShape). GiveWay h k lines) same way.1)
-    (subst (λ (l : List Note). IsExplained start l) (sym (append_assoc a (x ∷ []) (mine ∷ (lines ++ b)))) moved) in
+    (subst (λ (l : List Note). IsExplained start l) (behind_both a (x ∷ []) (mine ∷ (lines ++ b))) moved) in
     subst (λ (l : List Note). IsExplained start l) (append_assoc a (x ∷ []) (lines ++ mine ∷ b)) more

@@ -34,7 +34,7 @@ use Rattle.fam_judge.proofs.Members.{changed_count, changed_same, place_first, p
 use Rattle.fam_judge.proofs.Origins.{MayBegin, Origin, begins, by_event, declares, gives, inner_way, makes, none_running, plain}
 use Rattle.fam_judge.proofs.Seen.{inner_unseen, runs_seen, shown_seen, way_shown}
 use Rattle.fam_judge.proofs.Showing.{first_line, parts, shows_both}
-use Rattle.fam_judge.proofs.Swapping.{Stands, Swaps, all_swapped, alike_both, behind_one, behind_some, shapes_one}
+use Rattle.fam_judge.proofs.Swapping.{Stands, Swaps, all_swapped, alike_both, behind_both, behind_one, behind_some, shapes_one}
 
 -- A start.
 
@@ -205,7 +205,7 @@ one_up start a b x h cmd way is =
     let new : List Note = s.out ++ s.back in
     let whole : is.0 ≡ front ++ l.note ∷ old =
     p.whole ∙ ap (λ (k : List Note). p.front ++ k) (l.whole ∙ ap (λ (k : List Note). l.out ++ l.note ∷ k) (s.whole ∙ ap (λ (n : Note). s.out ++ n ∷ s.back) c.1))
-    ∙ sym (append_assoc p.front l.out (l.note ∷ old)) in
+    ∙ behind_both p.front l.out (l.note ∷ old) in
     let shown : ShowsJournal a front = subst (λ (k : List Note). ShowsJournal k front) (append-nil a) (shows_both a [] p.front l.out p.shown l.left_out) in
     let gives : GivesWay h (shapes_of front) l.note = way_shown h (shapes_of a) (shapes_of front) (shown_seen a front shown [] [] refl) x l.note l.told way in
     let moved : Stands start [] (front ++ Start h c.0 ∷ l.note ∷ new) =
@@ -228,7 +228,7 @@ pub start_up : (start : Image) (lines a b : List Note) (h : ℕ) (cmd : Cmd) →
 start_up start [] a b h cmd way is = is
 start_up start (x ∷ lines) a b h cmd way is =
     let some : IsExplained start ((a ++ x ∷ []) ++ (lines ++ Start h cmd ∷ b)) =
-    subst (λ (l : List Note). IsExplained start l) (sym (append_assoc a (x ∷ []) (lines ++ Start h cmd ∷ b))) is in
+    subst (λ (l : List Note). IsExplained start l) (behind_both a (x ∷ []) (lines ++ Start h cmd ∷ b)) is in
     let moved : IsExplained start ((a ++ x ∷ []) ++ Start h cmd ∷ (lines ++ b)) =
     start_up start lines (a ++ x ∷ []) b h cmd (subst (λ (s : List HostShape). GiveWay h s lines) (sym (shapes_one a x)) way.1) some in
     one_up start a (lines ++ b) x h cmd way.0 (subst (λ (l : List Note). IsExplained start l) (append_assoc a (x ∷ []) (Start h cmd ∷ (lines ++ b))) moved)

@@ -12,6 +12,10 @@ use Rattle.fam_judge.specs.Explained.{AreAllowedForSome, IsAllowedForSome}
 use Rattle.fam_judge.specs.Formed.{AreFormed, AreSoundNotes}
 use Rattle.fam_judge.proofs.Telling.{heads, more_is_none, tails}
 
+-- lists one behind the other
+pub behind_both : {A : Type 0} (a b c : List A) → a ++ (b ++ c) ≡ a ++ b ++ c
+behind_both a b c = sym (append_assoc a b c)
+
 -- Notes that tell the same.
 
 -- one behind the other
