@@ -12,11 +12,12 @@ use Rattle.fam_judge.proofs.Showing.{parts, same_shown, shows_itself, whole}
 use Rattle.fam_judge.proofs.Telling.{alike_is, told-append}
 
 -- one note more
-one_more : (past : Past) (before : List Note) (note : Note) → past_behind past (before ++ note ∷ []) ≡ past_after (past_behind past before) note
+pub one_more : (past : Past) (before : List Note) (note : Note) → past_behind past (before ++ note ∷ []) ≡ past_after (past_behind past before) note
 one_more past [] note = refl
 one_more past (first ∷ before) note = one_more (past_after past first) before note
 
-sound-append : (a b : List Note) → AreSoundNotes a → AreSoundNotes b → AreSoundNotes (a ++ b)
+-- so of both parts
+pub sound-append : (a b : List Note) → AreSoundNotes a → AreSoundNotes b → AreSoundNotes (a ++ b)
 sound-append [] b none more = more
 sound-append (note ∷ a) b some more = (some.0, sound-append a b some.1 more)
 

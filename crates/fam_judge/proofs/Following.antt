@@ -1,9 +1,7 @@
 -- Journals that follow events have the form of the tables, where commands are sound and answers stand at their places.
-use Prim.Native.Nat.{zero, suc}
-use Rattle.std.proofs.Common.{◌≡◌, ◌⊎◌, ◌+◌, ◌≤◌, inl, inr, ℕ, List, [], ◌∷◌, ◌++◌, length, map, Option, Some, None, refl, ap, sym, ◌∙◌, subst, arith}
-use Rattle.std.specs.Prelude.{if◌then◌else◌, slice_get}
+use Rattle.std.proofs.Common.{◌≡◌, ◌⊎◌, ◌≤◌, inl, inr, ℕ, List, [], ◌∷◌, ◌++◌, length, Option, Some, None, refl, ap, sym, ◌∙◌, subst, arith}
+use Rattle.std.specs.Prelude.{slice_get}
 use Rattle.fam_base.specs.declared.cmd.Cmd.{Cmd}
-use Rattle.fam_base.specs.PathOrder.{path_eq}
 use Rattle.fam_machine.specs.declared.request.MkfsRequest.{MkfsRequest}
 use Rattle.fam_machine.specs.HostMoves.{Evict, Fetch, Leak, Move}
 use Rattle.fam_journal.specs.declared.event.Ask.{Ask}
@@ -15,49 +13,43 @@ use Rattle.fam_journal.specs.Calls.{Call, asked_name, has_name, idle_refusal, ma
 use Rattle.fam_journal.specs.Events.{mounts}
 use Rattle.fam_journal.specs.EventShapes.{EventShape, FollowsShape, NoMore, StartShape, StepsShape, UnfitNotes}
 use Rattle.fam_journal.specs.Laws.{AreSound, IsValidEvent}
-use Rattle.fam_journal.specs.Members.{changed_at, index_from}
 use Rattle.fam_journal.specs.Notes.{Note, Host, Start, Mark, Found, Writes, Answered, Stop, Halt, Umount, Refused}
 use Rattle.fam_journal.specs.Shapes.{ActsShape, AtShape, CompletesShape, DirtyShape, DoesShape, FreeShape, HostActsShape, HostShape, OfHostShape, OfRunning, OfTask, OperationsShape, ShapeByRefusal, TaskNote, TaskShape, refusal_told, shapes_after, shapes_behind, shown_shape, shown_shapes}
 use Rattle.fam_judge.specs.Formed.{AreFormed, HavePlaces, AreSoundNotes}
 use Rattle.fam_judge.proofs.Forming.{task_formed}
+use Rattle.fam_judge.proofs.Members.{place_kept}
 
--- Names.
-
--- a host that changes keeps its name
-names_at : (name : List ℕ) (h : ℕ) (f : HostShape → HostShape) → ((x : HostShape) → (f x).name ≡ x.name) → (hosts : List HostShape) (i : ℕ)
-    → index_from i (has_name name) (map shown_shape (changed_at h f hosts)) ≡ index_from i (has_name name) (map shown_shape hosts)
-names_at name h f keeps [] i = refl
-names_at name zero f keeps (x ∷ hosts) i =
-    ap (λ (n : List ℕ). if path_eq n name then Some i else index_from (i + 1) (has_name name) (map shown_shape hosts)) (keeps x)
-names_at name (suc h) f keeps (x ∷ hosts) i = ap (λ (o : Option ℕ). if has_name name (shown_shape x) then Some i else o) (names_at name h f keeps hosts (i + 1))
+-- Names: a host that changes keeps its own.
 
 started_number : (lines : ℕ) (name : List ℕ) (h : ℕ) (cmd : Cmd) (hosts : List HostShape)
     → number_of name (shown_shapes lines (shapes_after hosts (Start h cmd))) ≡ number_of name (shown_shapes lines hosts)
-started_number lines name h cmd hosts = names_at name h _ (λ x. refl) hosts 0
+started_number lines name h cmd hosts = place_kept shown_shape (has_name name) h _ (λ x. refl) hosts 0
 
 task_number : (lines : ℕ) (name : List ℕ) (h : ℕ) (me : List ℕ) (t : TaskShape) (hosts : List HostShape) (note : Note) → TaskNote h me t note
     → number_of name (shown_shapes lines (shapes_after hosts note)) ≡ number_of name (shown_shapes lines hosts)
-task_number lines name h me t hosts (Mark host) is = names_at name host _ (λ x. refl) hosts 0
-task_number lines name h me t hosts (Found host n) is = names_at name host _ (λ x. refl) hosts 0
-task_number lines name h me t hosts (Writes host seq entry) is = names_at name host _ (λ x. refl) hosts 0
-task_number lines name h me t hosts (Answered host answer) is = names_at name host _ (λ x. refl) hosts 0
+task_number lines name h me t hosts (Mark host) is = place_kept shown_shape (has_name name) host _ (λ x. refl) hosts 0
+task_number lines name h me t hosts (Found host n) is = place_kept shown_shape (has_name name) host _ (λ x. refl) hosts 0
+task_number lines name h me t hosts (Writes host seq entry) is = place_kept shown_shape (has_name name) host _ (λ x. refl) hosts 0
+task_number lines name h me t hosts (Answered host answer) is = place_kept shown_shape (has_name name) host _ (λ x. refl) hosts 0
 task_number lines name h me t hosts note is = absurd is
 
 -- Notes of a running command.
 
-record RunsNote (h : ℕ) (hosts : List HostShape) (note : Note) : Type 0 where
-  host : HostShape
-  declared : slice_get hosts h ≡ Some host
-  task : TaskShape
-  runs : host.task ≡ Some task
-  is : TaskNote h host.uuid task note
+-- the host runs a command, which may give the note next
+pub record RunsNote (h : ℕ) (hosts : List HostShape) (note : Note) : Type 0 where
+  pub host : HostShape
+  pub declared : slice_get hosts h ≡ Some host
+  pub task : TaskShape
+  pub runs : host.task ≡ Some task
+  pub is : TaskNote h host.uuid task note
 
 task_runs : (h : ℕ) (hosts : List HostShape) (note : Note) (host : HostShape) → slice_get hosts h ≡ Some host → (k : Option TaskShape) → host.task ≡ k
     → OfTask k (λ t. TaskNote h host.uuid t note) → RunsNote h hosts note
 task_runs h hosts note host declared None runs is = absurd is
 task_runs h hosts note host declared (Some t) runs is = record { host = host; declared = declared; task = t; runs = runs; is = is }
 
-note_runs : (h : ℕ) (hosts : List HostShape) (note : Note) (o : Option HostShape) → slice_get hosts h ≡ o → OfRunning o (λ me t. TaskNote h me t note) → RunsNote h hosts note
+-- so it is of a note that may come next
+pub note_runs : (h : ℕ) (hosts : List HostShape) (note : Note) (o : Option HostShape) → slice_get hosts h ≡ o → OfRunning o (λ me t. TaskNote h me t note) → RunsNote h hosts note
 note_runs h hosts note None declared is = absurd is
 note_runs h hosts note (Some host) declared is = task_runs h hosts note host declared host.task refl is
 

@@ -11,3 +11,17 @@ pub mod Beginning
 pub mod Cutting
 pub mod Scripting
 pub mod Ending
+pub mod Members
+pub mod Busier
+pub mod Aside
+pub mod Seen
+pub mod Origins
+pub mod Swapping
+pub mod StartsUp
+pub mod Sizes
+pub mod States
+pub mod Replies
+pub mod Easier
+pub mod Masters
+pub mod Sided
+pub mod AnswersDown

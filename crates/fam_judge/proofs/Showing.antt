@@ -1,8 +1,9 @@
 -- What a history shows.
+use Rattle.std.specs.Prelude.{IsTrue}
 use Rattle.std.proofs.Common.{◌≡◌, ◌≤◌, inl, inr, List, [], ◌∷◌, ◌++◌, length, map, refl, ap, sym, ◌∙◌, arith}
 use Rattle.fam_journal.specs.Notes.{Note}
 use Rattle.fam_judge.specs.Alike.{AreAlikeNotes, told_note}
-use Rattle.fam_judge.specs.Shows.{ShowsJournal}
+use Rattle.fam_judge.specs.Shows.{ShowsJournal, is_inner}
 use Rattle.fam_judge.proofs.Telling.{both, heads, none_is_more, more_is_none, tails}
 
 -- a journal shows itself
@@ -44,14 +45,55 @@ pub record Parts (first rest journal : List Note) : Type 0 where
   pub back : List Note
   pub whole : journal ≡ front ++ back
   pub shown : ShowsJournal first front
+  pub left : ShowsJournal rest back
 
 -- the first lines show a first part
 pub parts : (first rest journal : List Note) → ShowsJournal (first ++ rest) journal → Parts first rest journal
-parts [] rest journal shows = record { front = []; back = journal; whole = refl; shown = tt }
+parts [] rest journal shows = record { front = []; back = journal; whole = refl; shown = tt; left = shows }
 parts (line ∷ lines) rest [] shows = absurd shows
 parts (line ∷ lines) rest (note ∷ notes) (inl here) =
     let more = parts lines rest notes here.1 in
-    record { front = note ∷ more.front; back = more.back; whole = ap (λ (l : List Note). note ∷ l) more.whole; shown = inl (here.0, more.shown) }
+    record { front = note ∷ more.front; back = more.back; whole = ap (λ (l : List Note). note ∷ l) more.whole; shown = inl (here.0, more.shown); left = more.left }
 parts (line ∷ lines) rest (note ∷ notes) (inr out) =
     let more = parts (line ∷ lines) rest notes out.1 in
-    record { front = note ∷ more.front; back = more.back; whole = ap (λ (l : List Note). note ∷ l) more.whole; shown = inr (out.0, more.shown) }
+    record { front = note ∷ more.front; back = more.back; whole = ap (λ (l : List Note). note ∷ l) more.whole; shown = inr (out.0, more.shown); left = more.left }
+
+-- a note that a history may leave out is left out
+pub skipped : (lines : List Note) (note : Note) (notes : List Note) → IsTrue (is_inner note) → ShowsJournal lines notes → ShowsJournal lines (note ∷ notes)
+skipped [] note notes inner shows = (inner, shows)
+skipped (line ∷ lines) note notes inner shows = inr (inner, shows)
+
+-- two histories one behind the other show the journals one behind the other
+pub shows_both : (a b front back : List Note) → ShowsJournal a front → ShowsJournal b back → ShowsJournal (a ++ b) (front ++ back)
+shows_both [] b [] back none more = more
+shows_both [] b (note ∷ front) back none more = skipped b note (front ++ back) none.0 (shows_both [] b front back none.1 more)
+shows_both (line ∷ a) b [] back shows more = absurd shows
+shows_both (line ∷ a) b (note ∷ front) back (inl here) more = inl (here.0, shows_both a b front back here.1 more)
+shows_both (line ∷ a) b (note ∷ front) back (inr out) more = inr (out.0, shows_both (line ∷ a) b front back out.1 more)
+
+-- a journal that a history's first line and those behind it show: notes that are left out, the line's own, and what is left
+pub record FirstLine (line : Note) (lines journal : List Note) : Type 0 where
+  pub out : List Note
+  pub note : Note
+  pub back : List Note
+  pub whole : journal ≡ out ++ note ∷ back
+  pub left_out : ShowsJournal [] out
+  pub told : told_note line ≡ told_note note
+  pub left : ShowsJournal lines back
+
+-- where the first line is
+pub first_line : (line : Note) (lines journal : List Note) → ShowsJournal (line ∷ lines) journal → FirstLine line lines journal
+first_line line lines [] shows = absurd shows
+first_line line lines (note ∷ notes) (inl here) =
+    record { out = []; note = note; back = notes; whole = refl; left_out = tt; told = here.0; left = here.1 }
+first_line line lines (note ∷ notes) (inr out) =
+    let more = first_line line lines notes out.1 in
+    record {
+      out = note ∷ more.out;
+      note = more.note;
+      back = more.back;
+      whole = ap (λ (l : List Note). note ∷ l) more.whole;
+      left_out = (out.0, more.left_out);
+      told = more.told;
+      left = more.left;
+    }

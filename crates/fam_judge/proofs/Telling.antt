@@ -26,7 +26,7 @@ command_back h (cmd.Read path offset count) note e = same_Some (Start h (cmd.Rea
 command_back h (cmd.Check entries) note e = absurd (none_is_some note e)
 
 -- so of a note
-note_back : (m note : Note) → whole_note (told_note m) ≡ Some note → m ≡ note
+pub note_back : (m note : Note) → whole_note (told_note m) ≡ Some note → m ≡ note
 note_back (Start h c) note e = command_back h c note e
 note_back m note e = same_Some m note e
 

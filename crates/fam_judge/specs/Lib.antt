@@ -3,3 +3,4 @@ pub mod Shows
 pub mod Formed
 pub mod Asks
 pub mod Explained
+pub mod GivesWay

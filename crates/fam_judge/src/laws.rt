@@ -1,6 +1,7 @@
 //! Laws of histories that are explained, with empty bodies.
 
-ghost use Rattle.std.specs.Prelude.{◌≡◌, ◌++◌, ℕ, [], List, Ok, Some, length, slice_get};
+ghost use Rattle.std.specs.Prelude.{◌≡◌, ◌++◌, ℕ, [], ◌∷◌, List, Ok, Some, length, slice_get};
+ghost use Rattle.fam_base.specs.declared.cmd.Cmd.{Cmd};
 ghost use Rattle.fam_base.specs.Image.{Image};
 ghost use Rattle.fam_grammar.specs.Scripts.{script_events};
 ghost use Rattle.fam_media.specs.Files.{Files};
@@ -13,12 +14,13 @@ ghost use Rattle.fam_journal.specs.Laws.{AreSound, IsImage};
 ghost use Rattle.fam_journal.specs.Legal.{Legal};
 ghost use Rattle.fam_journal.specs.Calls.{number_of, Call, Does};
 ghost use Rattle.fam_journal.specs.Machines.{Machines};
-ghost use Rattle.fam_journal.specs.Notes.{Note};
-ghost use Rattle.fam_journal.specs.Shapes.{AreShaped, HostShape, TaskNote, TaskShape, shown_shapes};
+ghost use Rattle.fam_journal.specs.Notes.{Answer, Answered, Note, Start};
+ghost use Rattle.fam_journal.specs.Shapes.{AreShaped, HostShape, TaskNote, TaskShape, shapes_of, shown_shapes};
 ghost use Rattle.fam_judge.specs.Alike.{AreAlikeNotes, AreWhollyTold};
 ghost use Rattle.fam_judge.specs.Asks.{AskSoundCommands};
 ghost use Rattle.fam_judge.specs.Explained.{IsExplained, IsExplainedBy};
 ghost use Rattle.fam_judge.specs.Formed.{AreFormed, HavePlaces, AreSoundNotes, IsFormedNote, HasPlace};
+ghost use Rattle.fam_judge.specs.GivesWay.{GiveWay};
 
 /// A legal journal whose notes have the form of the tables (`AreFormed`) is explained as it stands.
 pub fn what_is_legal_is_explained()
@@ -100,4 +102,18 @@ pub fn a_script_is_explained()
     ensures explained { (start : Image) (files : Files) (bytes : List ℕ) (events : List Event) (journal : List Note) (last : Session)
         (ending : Ending) → IsImage start → script_events bytes ≡ Ok events
         → EventsDone ending files events (first_session start) journal last → IsExplained start journal }
+{}
+
+/// What is explained stays so when a start is moved up, over lines that give way (`GiveWay`): they are of other hosts, and make no
+/// file system. So a recorder that notes starts early, over such lines, makes more histories legal, never fewer.
+pub fn a_start_moves_up()
+    ensures { (start : Image) (a lines b : List Note) (h : ℕ) (cmd : Cmd) → GiveWay h (shapes_of a) lines
+        → IsExplained start (a ++ (lines ++ Start h cmd ∷ b)) → IsExplained start (a ++ Start h cmd ∷ (lines ++ b)) }
+{}
+
+/// What is explained stays so when an answer is moved down, over lines that give way behind it (`GiveWay`): they are of other
+/// hosts, and make no file system. So a recorder that notes answers late, over such lines, makes more histories legal, never fewer.
+pub fn an_answer_moves_down()
+    ensures { (start : Image) (a lines b : List Note) (h : ℕ) (answer : Answer) → GiveWay h (shapes_of (a ++ Answered h answer ∷ [])) lines
+        → IsExplained start (a ++ Answered h answer ∷ (lines ++ b)) → IsExplained start (a ++ (lines ++ Answered h answer ∷ b)) }
 {}
