@@ -97,9 +97,11 @@ pub record IsLookedBoxLine (path : List ℕ) (image : Image) (at : ℕ) : Type 0
   pub room : 128 ≤ entry.size
   pub line_is : IsReadLine (file_line entry) (capacity_of entry.size) (Some image) at
 
--- a line that is asked for: of the log, as a reading goes through it, or of the box in the file at the path
+-- a line that is asked for: of the log, as a reading goes through it, of an image that is long enough for one; or of the box in the file
+-- at the path
 abbrev pub IsLookedAt : List ℕ → Image → ℕ → Type 0
-IsLookedAt path image at = IsAskedFor (line_at image) (line_bytes * length image) at ⊎ IsLookedBoxLine path image at
+IsLookedAt path image at =
+    ((least_lines ≤ length image) × IsAskedFor (line_at image) (line_bytes * length image) at) ⊎ IsLookedBoxLine path image at
 
 -- what is so of an image where a fault comes. One that tells of the image comes only where none stands before it; want of memory
 -- may come anywhere, and a media fault at a line that is asked for

@@ -14,7 +14,7 @@ pub returns-in-BadEntry-clause-is : goal.returns-in-BadEntry-clause-is
 returns-in-BadEntry-clause-is c = rw c.in-BadEntry.is (λ path image enough tells asked. record { enough = enough; reads = tells })
 
 pub returns-in-MediaFault-clause-is : goal.returns-in-MediaFault-clause-is
-returns-in-MediaFault-clause-is c = rw c.in-MediaFault.is (λ path image enough tells asked. inl asked)
+returns-in-MediaFault-clause-is c = rw c.in-MediaFault.is (λ path image enough tells asked. inl (enough, asked))
 
 pub returns-in-MediaFault-clause-cause : goal.returns-in-MediaFault-clause-cause
 returns-in-MediaFault-clause-cause c = rw c.in-MediaFault.is (λ lines media cause line. (cause, line))
