@@ -171,7 +171,7 @@ module _ (start : Image) (files : Files) (old : Machines) (journal : List Note) 
         let uuid : d.told.uuid ≡ host.uuid = d.host_told.uuid ∙ sym d.stands.uuid ∙ ap (λ (z : HostState). z.uuid) (same_Some d.host host (sym d.host_is ∙ is)) in
         ap (λ (o : Option HostPast). cut_by o request k old.memory) d.told_is ∙ ap (λ (u : List ℕ). here.halted_image k (here.asked request u (length old.memory)) old.memory) uuid
 
-    made_exact : MakesFileSystem h p force host old notes new → EventExact making x old new notes
+    made_exact : MakesFileSystem h p request.force host old notes new → EventExact making x old new notes
     made_exact made =
         subst (λ (z : Machines). EventExact making x old z notes) (sym made.left)
         (subst (EventExact making x old _) (sym made.notes_are)
@@ -182,7 +182,7 @@ module _ (start : Image) (files : Files) (old : Machines) (journal : List Note) 
           sure = refl;
         })
 
-    cut_exact : (k : ℕ) → HaltsMaking h p force k host old notes new → EventExact making x old new notes
+    cut_exact : (k : ℕ) → HaltsMaking h p request.force k host old notes new → EventExact making x old new notes
     cut_exact k cut =
         subst (λ (z : Machines). EventExact making x old z notes) (sym cut.left)
         (subst (EventExact making x old _) (sym cut.notes_are)
@@ -193,12 +193,12 @@ module _ (start : Image) (files : Files) (old : Machines) (journal : List Note) 
           sure = halted_sure k x.state sure;
         })
 
-    goes_exact : (o : Option ℕ) → MakesOrHalts o h p force host old notes new → EventExact making x old new notes
+    goes_exact : (o : Option ℕ) → MakesOrHalts o h p request.force host old notes new → EventExact making x old new notes
     goes_exact None made = made_exact made
     goes_exact (Some k) cut = cut_exact k cut
 
     makes_exact : ActsAt (call.Makes name request) h host old notes new → EventExact making x old new notes
-    makes_exact (inl goes) = goes_exact halt goes
+    makes_exact (inl goes) = goes_exact request.halt goes
     makes_exact (inr met) =
         subst (λ (z : Machines). EventExact making x old z notes) (sym met.left)
         (subst (EventExact making x old _) (sym met.notes_are)
