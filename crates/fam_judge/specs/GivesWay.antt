@@ -26,8 +26,9 @@ IsBusyItself busy hosts name = (number_named name hosts ≡ Some busy) × (runs_
 abbrev pub BusyGivesWay : ℕ → List HostShape → List ℕ → ℕ → Type 0
 BusyGivesWay h hosts name busy = (busy ≤ h) ⊎ IsBusyItself busy hosts name
 
--- by the cause: another host was asked, or none that is declared. Of a mkfs, only what its numbers or a busy host refuse: before
--- a dirty line, and before a superblock that stands, it is refused for a host that is busy, as h then is
+-- by the cause: another host was asked, or none that is declared, or one was to be declared. Of a mkfs, what its numbers, a busy
+-- host or the media refuse (a media fault stands as that of a cache's move): before a dirty line, and before a superblock that
+-- stands, it is refused for a host that is busy, as h then is
 abbrev pub RefusalGivesWay : ℕ → List HostShape → List ℕ → Refusal → Type 0
 RefusalGivesWay h hosts name why.NoHost = ⊤
 RefusalGivesWay h hosts name (why.SameHost host) = ⊤

@@ -84,8 +84,9 @@ pub fn commands_that_begin_are_sound()
         → AskSoundCommands events → EventsDone ending files events (first_session image) journal last → AreSoundNotes journal }
 {}
 
-/// The journal of a run is explained as it stands, where the events are within their limits (`AreSound` of fam_journal), and so
-/// is what stands in their asks (`AskSoundCommands`): behind all events (`follows`), and however the run ends (`ends`).
+/// From an image of at most 1 TiB the journal of a run is explained as it stands, where the events are within their limits
+/// (`AreSound` of fam_journal), and so is what stands in their asks (`AskSoundCommands`): behind all events (`follows`), and
+/// however the run ends (`ends`).
 pub fn a_run_is_explained()
     ensures follows { (start : Image) (files : Files) (events : List Event) (journal : List Note) (last : Session)
         → IsImage start → AreSound events → AskSoundCommands events → Follows files events (first_session start) journal last
@@ -104,15 +105,17 @@ pub fn a_script_is_explained()
         → EventsDone ending files events (first_session start) journal last → IsExplained start journal }
 {}
 
-/// What is explained stays so when a start is moved up, over lines that give way (`GiveWay`): they are of other hosts, and make no
-/// file system. So a recorder that notes starts early, over such lines, makes more histories legal, never fewer.
+/// What is explained stays so when a start is moved up, over lines that give way (`GiveWay`): they are of other hosts, make no
+/// file system, and refuse none for what the command would change. So a recorder that notes starts early, over such lines,
+/// makes more histories legal, never fewer.
 pub fn a_start_moves_up()
     ensures { (start : Image) (a lines b : List Note) (h : ℕ) (cmd : Cmd) → GiveWay h (shapes_of a) lines
         → IsExplained start (a ++ (lines ++ Start h cmd ∷ b)) → IsExplained start (a ++ Start h cmd ∷ (lines ++ b)) }
 {}
 
 /// What is explained stays so when an answer is moved down, over lines that give way behind it (`GiveWay`): they are of other
-/// hosts, and make no file system. So a recorder that notes answers late, over such lines, makes more histories legal, never fewer.
+/// hosts, make no file system, and refuse none for what the command would change. So a recorder that notes answers late, over
+/// such lines, makes more histories legal, never fewer.
 pub fn an_answer_moves_down()
     ensures { (start : Image) (a lines b : List Note) (h : ℕ) (answer : Answer) → GiveWay h (shapes_of (a ++ Answered h answer ∷ [])) lines
         → IsExplained start (a ++ Answered h answer ∷ (lines ++ b)) → IsExplained start (a ++ (lines ++ Answered h answer ∷ b)) }
