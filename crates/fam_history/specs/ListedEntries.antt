@@ -1,4 +1,5 @@
--- The grammar of an entry in print: the words of its line in a listing, from left to right. docs/FORMAT.md, "Listings".
+-- The grammar of an entry in print, from left to right: the words of its line in a listing (docs/FORMAT.md, "Listings"), with
+-- numbers, modes and paths spelled as in scripts.
 use Rattle.std.specs.Prelude.{ℕ, zero, suc, ◌==◌, if◌then◌else◌, List, [], ◌∷◌, codes, length, Option, Some, None, option_map}
 use Rattle.std.specs.Str.{bytes_eq}
 use Rattle.fam_base.specs.declared.cmd.Attr.{Attr}
