@@ -4,3 +4,5 @@ pub mod Formed
 pub mod Asks
 pub mod Explained
 pub mod GivesWay
+pub mod Untold
+pub mod Fitting
