@@ -25,3 +25,8 @@ pub mod Easier
 pub mod Masters
 pub mod Sided
 pub mod AnswersDown
+pub mod Folding
+pub mod Pairing
+pub mod Over
+pub mod OverHosts
+pub mod OverFits

@@ -1,0 +1,128 @@
+-- A possible state that allows no less than what a journal comes to: of each host's command it has told no more.
+use Rattle.std.proofs.Common.{◌≡◌, ◌≢◌, ◌⊎◌, ◌≤◌, inl, inr, ℕ, List, [], ◌∷◌, map, Option, Some, None, refl, ap, sym, ◌∙◌, subst, arith}
+use Rattle.std.specs.Prelude.{⊤, option_map, slice_get}
+use Rattle.std.proofs.lemmas.Option.{same_Some, slice_get-map}
+use Rattle.fam_protocol.specs.After.{Named as Naming}
+use Rattle.fam_journal.specs.Legal.{master_of}
+use Rattle.fam_journal.specs.Past.{HostPast, State, settled_length}
+use Rattle.fam_journal.specs.Shapes.{Begun, CommandStage, HostShape, Marked, Met, Named, Pairs, TaskShape}
+use Rattle.fam_judge.specs.Possible.{NonePends, Possible, Progress, shapes_in}
+use Rattle.fam_judge.proofs.Folding.{shape_in, told_in}
+use Rattle.fam_judge.proofs.Masters.{AreApart}
+use Rattle.fam_judge.proofs.Over.{StateOver}
+use Rattle.fam_judge.proofs.Pairing.{paired}
+
+-- Floors.
+
+-- a command's mark, were it right behind its start, would have settled no more than this
+abbrev pub HasFloor : ℕ → Option ℕ → Type 0
+HasFloor settled floor = (f : ℕ) × (floor ≡ Some f) × (f ≤ settled)
+
+-- the first floor is the lower one
+abbrev pub FloorUnder : Option ℕ → Option ℕ → Type 0
+FloorUnder low high = (f : ℕ) × (g : ℕ) × (low ≡ Some f) × (high ≡ Some g) × (f ≤ g)
+
+-- Stages.
+
+-- how far a command has come by what lines tell, and how far it has come; the first state is s
+abbrev pub StagesOver : State → CommandStage → CommandStage → HostPast → HostPast → Type 0
+StagesOver s Begun Begun p q = HasFloor (settled_length s) p.floor
+StagesOver s Begun Marked p q = FloorUnder p.floor q.floor
+StagesOver s Begun (Met n) p q = ⊤
+StagesOver s Begun (Named seq) p q = ⊥
+StagesOver s Marked Begun p q = ⊥
+StagesOver s Marked Marked p q = FloorUnder p.floor q.floor
+StagesOver s Marked (Met n) p q = ⊤
+StagesOver s Marked (Named seq) p q = ⊥
+StagesOver s (Met m) Begun p q = ⊥
+StagesOver s (Met m) Marked p q = ⊥
+StagesOver s (Met m) (Met n) p q = (m ≡ n) × (master_of s ≡ Some p.uuid → NonePends s)
+StagesOver s (Met m) (Named seq) p q = ⊥
+StagesOver s (Named k) Begun p q = ⊥
+StagesOver s (Named k) Marked p q = ⊥
+StagesOver s (Named k) (Met n) p q = ⊥
+StagesOver s (Named k) (Named seq) p q = (k ≡ seq) × (p.wrote ≡ q.wrote)
+
+-- so of running commands, if any
+abbrev pub TasksOver : State → Option TaskShape → Option TaskShape → HostPast → HostPast → Type 0
+TasksOver s None None p q = ⊤
+TasksOver s None (Some b) p q = ⊥
+TasksOver s (Some a) None p q = ⊥
+TasksOver s (Some a) (Some b) p q = (a.cmd ≡ b.cmd) × StagesOver s a.stage b.stage p q
+
+-- so of a host
+pub record HostOver (s : State) (p q : Progress) : Type 0 where
+  pub name : p.shape.name ≡ q.shape.name
+  pub uuid : p.shape.uuid ≡ q.shape.uuid
+  pub keeps : p.shape.keeps ≡ q.shape.keeps
+  pub own : p.told.uuid ≡ p.shape.uuid
+  pub told_uuid : p.told.uuid ≡ q.told.uuid
+  pub told_cmd : p.told.cmd ≡ q.told.cmd
+  pub task : TasksOver s p.shape.task q.shape.task p.told q.told
+
+-- so of a state
+pub record Direct (x c : Possible) : Type 0 where
+  pub state : StateOver x.state c.state
+  pub hosts : Pairs (HostOver x.state) x.hosts c.hosts
+
+-- the UUID of a host
+abbrev pub uuid_in : Progress → List ℕ
+uuid_in p = p.shape.uuid
+
+-- no two hosts have one UUID
+abbrev pub IsApart : Possible → Type 0
+IsApart x = AreApart (map uuid_in x.hosts)
+
+-- two places of one UUID are one
+pub one_place : (x : Possible) → IsApart x → (k l : ℕ) (p q : Progress) → slice_get x.hosts k ≡ Some p → slice_get x.hosts l ≡ Some q → p.shape.uuid ≡ q.shape.uuid → k ≡ l
+one_place x apart k l p q is other same =
+    apart k l p.shape.uuid (slice_get-map uuid_in x.hosts k ∙ ap (option_map uuid_in) is)
+    (slice_get-map uuid_in x.hosts l ∙ ap (option_map uuid_in) other ∙ ap Some (sym same))
+
+-- Another state.
+
+-- what else may have been settled by then
+pub record Later (s t : State) : Type 0 where
+  pub settled : settled_length s ≤ settled_length t
+  pub master : master_of t ≡ master_of s
+  pub none : NonePends s → NonePends t
+
+stages_later : (s t : State) → Later s t → (a b : CommandStage) (p q : HostPast) → StagesOver s a b p q → StagesOver t a b p q
+stages_later s t later Begun Begun p q over = let low = over.2 in let high = later.settled in (over.0, over.1, omega (arith, low, high))
+stages_later s t later Begun Marked p q over = over
+stages_later s t later Begun (Met n) p q over = tt
+stages_later s t later Begun (Named seq) p q over = absurd over
+stages_later s t later Marked Begun p q over = absurd over
+stages_later s t later Marked Marked p q over = over
+stages_later s t later Marked (Met n) p q over = tt
+stages_later s t later Marked (Named seq) p q over = absurd over
+stages_later s t later (Met m) (Met n) p q over = (over.0, λ e. later.none (over.1 (sym later.master ∙ e)))
+stages_later s t later (Met m) Begun p q over = absurd over
+stages_later s t later (Met m) Marked p q over = absurd over
+stages_later s t later (Met m) (Named seq) p q over = absurd over
+stages_later s t later (Named k) (Named seq) p q over = over
+stages_later s t later (Named k) Begun p q over = absurd over
+stages_later s t later (Named k) Marked p q over = absurd over
+stages_later s t later (Named k) (Met n) p q over = absurd over
+
+tasks_later : (s t : State) → Later s t → (a b : Option TaskShape) (p q : HostPast) → TasksOver s a b p q → TasksOver t a b p q
+tasks_later s t later None None p q over = tt
+tasks_later s t later None (Some b) p q over = absurd over
+tasks_later s t later (Some a) None p q over = absurd over
+tasks_later s t later (Some a) (Some b) p q over = (over.0, stages_later s t later a.stage b.stage p q over.1)
+
+-- a host's command tells no more then
+pub host_later : (s t : State) → Later s t → (p q : Progress) → HostOver s p q → HostOver t p q
+host_later s t later p q over = record {
+  name = over.name;
+  uuid = over.uuid;
+  keeps = over.keeps;
+  own = over.own;
+  told_uuid = over.told_uuid;
+  told_cmd = over.told_cmd;
+  task = tasks_later s t later p.shape.task q.shape.task p.told q.told over.task;
+}
+
+-- nothing has happened
+pub no_later : (s : State) → Later s s
+no_later s = record { settled = omega arith; master = refl; none = λ none. none }
