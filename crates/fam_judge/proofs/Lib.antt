@@ -30,3 +30,6 @@ pub mod Pairing
 pub mod Over
 pub mod OverHosts
 pub mod OverFits
+pub mod Places
+pub mod OverOwn
+pub mod OverWrites

@@ -81,47 +81,59 @@ one_place x apart k l p q is other same =
 
 -- Another state.
 
--- what else may have been settled by then
-pub record Later (s t : State) : Type 0 where
+-- what a host with this UUID is told of it
+pub record LaterOf (uuid : List ℕ) (s t : State) : Type 0 where
   pub settled : settled_length s ≤ settled_length t
-  pub master : master_of t ≡ master_of s
-  pub none : NonePends s → NonePends t
+  pub none : (master_of s ≡ Some uuid → NonePends s) → master_of t ≡ Some uuid → NonePends t
 
-stages_later : (s t : State) → Later s t → (a b : CommandStage) (p q : HostPast) → StagesOver s a b p q → StagesOver t a b p q
-stages_later s t later Begun Begun p q over = let low = over.2 in let high = later.settled in (over.0, over.1, omega (arith, low, high))
-stages_later s t later Begun Marked p q over = over
-stages_later s t later Begun (Met n) p q over = tt
-stages_later s t later Begun (Named seq) p q over = absurd over
-stages_later s t later Marked Begun p q over = absurd over
-stages_later s t later Marked Marked p q over = over
-stages_later s t later Marked (Met n) p q over = tt
-stages_later s t later Marked (Named seq) p q over = absurd over
-stages_later s t later (Met m) (Met n) p q over = (over.0, λ e. later.none (over.1 (sym later.master ∙ e)))
-stages_later s t later (Met m) Begun p q over = absurd over
-stages_later s t later (Met m) Marked p q over = absurd over
-stages_later s t later (Met m) (Named seq) p q over = absurd over
-stages_later s t later (Named k) (Named seq) p q over = over
-stages_later s t later (Named k) Begun p q over = absurd over
-stages_later s t later (Named k) Marked p q over = absurd over
-stages_later s t later (Named k) (Met n) p q over = absurd over
+stages_later : (s t : State) (a b : CommandStage) (p q : HostPast) → LaterOf p.uuid s t → StagesOver s a b p q → StagesOver t a b p q
+stages_later s t Begun Begun p q later over = let low = over.2 in let high = later.settled in (over.0, over.1, omega (arith, low, high))
+stages_later s t Begun Marked p q later over = over
+stages_later s t Begun (Met n) p q later over = tt
+stages_later s t Begun (Named seq) p q later over = absurd over
+stages_later s t Marked Begun p q later over = absurd over
+stages_later s t Marked Marked p q later over = over
+stages_later s t Marked (Met n) p q later over = tt
+stages_later s t Marked (Named seq) p q later over = absurd over
+stages_later s t (Met m) (Met n) p q later over = (over.0, later.none over.1)
+stages_later s t (Met m) Begun p q later over = absurd over
+stages_later s t (Met m) Marked p q later over = absurd over
+stages_later s t (Met m) (Named seq) p q later over = absurd over
+stages_later s t (Named k) (Named seq) p q later over = over
+stages_later s t (Named k) Begun p q later over = absurd over
+stages_later s t (Named k) Marked p q later over = absurd over
+stages_later s t (Named k) (Met n) p q later over = absurd over
 
-tasks_later : (s t : State) → Later s t → (a b : Option TaskShape) (p q : HostPast) → TasksOver s a b p q → TasksOver t a b p q
-tasks_later s t later None None p q over = tt
-tasks_later s t later None (Some b) p q over = absurd over
-tasks_later s t later (Some a) None p q over = absurd over
-tasks_later s t later (Some a) (Some b) p q over = (over.0, stages_later s t later a.stage b.stage p q over.1)
+tasks_later : (s t : State) (a b : Option TaskShape) (p q : HostPast) → LaterOf p.uuid s t → TasksOver s a b p q → TasksOver t a b p q
+tasks_later s t None None p q later over = tt
+tasks_later s t None (Some b) p q later over = absurd over
+tasks_later s t (Some a) None p q later over = absurd over
+tasks_later s t (Some a) (Some b) p q later over = (over.0, stages_later s t a.stage b.stage p q later over.1)
 
 -- a host's command tells no more then
-pub host_later : (s t : State) → Later s t → (p q : Progress) → HostOver s p q → HostOver t p q
-host_later s t later p q over = record {
+pub host_later_of : (s t : State) (p q : Progress) → LaterOf p.told.uuid s t → HostOver s p q → HostOver t p q
+host_later_of s t p q later over = record {
   name = over.name;
   uuid = over.uuid;
   keeps = over.keeps;
   own = over.own;
   told_uuid = over.told_uuid;
   told_cmd = over.told_cmd;
-  task = tasks_later s t later p.shape.task q.shape.task p.told q.told over.task;
+  task = tasks_later s t p.shape.task q.shape.task p.told q.told later over.task;
 }
+
+-- what else may have been settled by then, and nothing has come to pend
+pub record Later (s t : State) : Type 0 where
+  pub settled : settled_length s ≤ settled_length t
+  pub master : master_of t ≡ master_of s
+  pub none : NonePends s → NonePends t
+
+-- each host is told that
+pub later_of : (s t : State) (u : List ℕ) → Later s t → LaterOf u s t
+later_of s t u later = record { settled = later.settled; none = λ was e. later.none (was (sym later.master ∙ e)) }
+
+pub host_later : (s t : State) → Later s t → (p q : Progress) → HostOver s p q → HostOver t p q
+host_later s t later p q over = host_later_of s t p q (later_of s t p.told.uuid later) over
 
 -- nothing has happened
 pub no_later : (s : State) → Later s s

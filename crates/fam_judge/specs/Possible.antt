@@ -105,8 +105,8 @@ with_mark h x = record x { hosts = changed_at h (λ p. record p { shape = with_s
 
 -- host h's command has found entries by now
 pub data Meets (start : Image) (h : ℕ) (x met : Possible) : Type 0 where
-  told : (n : ℕ) → StageIs (λ stage. stage ≡ Met n) h x → met ≡ x → Meets start h x met
-  untold : (n : ℕ) → StageIs IsHead h x → Wishes h x → FoundAllowed n x.state → met ≡ after start x (Found h n) → Meets start h x met
+  told_met : (n : ℕ) → StageIs (λ stage. stage ≡ Met n) h x → met ≡ x → Meets start h x met
+  untold_met : (n : ℕ) → StageIs IsHead h x → Wishes h x → FoundAllowed n x.state → met ≡ after start x (Found h n) → Meets start h x met
 
 -- it has named an entry by now
 pub record Wrote (start : Image) (h : ℕ) (x wrote : Possible) : Type 0 where
