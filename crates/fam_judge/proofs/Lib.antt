@@ -25,3 +25,11 @@ pub mod Easier
 pub mod Masters
 pub mod Sided
 pub mod AnswersDown
+pub mod Untelling
+pub mod Pairs
+pub mod Filling
+pub mod Agreeing
+pub mod Fitted
+pub mod Choosing
+pub mod Picking
+pub mod Fitting

@@ -1,0 +1,156 @@
+-- What is allowed for some bytes is what fits what is told.
+use Rattle.std.proofs.Common.{◌≡◌, ◌+◌, ◌<◌, ◌≤◌, ◌⊎◌, inl, inr, ℕ, List, [], ◌∷◌, length, map, take, Option, Some, None, refl, ap, ap₂, sym, ◌∙◌, subst}
+use Rattle.std.specs.List.{AllZip}
+use Rattle.std.specs.Prelude.{⊤, option_map, replicate, slice_get}
+use Rattle.std.proofs.lemmas.List.{length-replicate}
+use Rattle.fam_base.specs.declared.cmd.Cmd.{Cmd}
+use Rattle.fam_base.specs.declared.cmd.Cmd.TheVariants as cmd
+use Rattle.fam_base.specs.declared.cmd.Content.{Content}
+use Rattle.fam_base.specs.declared.entry.Entry.{Entry}
+use Rattle.fam_base.specs.Image.{Image}
+use Rattle.fam_format.specs.Tree.{replay}
+use Rattle.fam_rules.specs.Asks.{File, ask, entries_of, file_at, file_bytes_from, of_file, verified}
+use Rattle.fam_rules.specs.Checks.{checked}
+use Rattle.fam_rules.specs.Reply as reply
+use Rattle.fam_rules.specs.Reply.{Reply}
+use Rattle.fam_journal.specs.Legal.{Allowed, AnswerAllowed, AskAllowed, InBounds, IsAskedOf, OfHost, ReplyAllowed}
+use Rattle.fam_journal.specs.Notes.{Answer, Replied, MediaFault, Note, Host, Made, Cut, Start, Mark, Found, Writes, Answered, Stop, Halt, Umount, Refused}
+use Rattle.fam_journal.specs.Past.{Bad, BadHeader, BadSlot, HostPast, NoSuperblock, Past, Sound, State, acknowledges, past_of, with_pending}
+use Rattle.fam_judge.specs.Alike.{AreAlikeNotes}
+use Rattle.fam_judge.specs.Explained.{IsAllowedForSome}
+use Rattle.fam_judge.specs.Fitting.{AnswerFits, AskFits, Fits, IsFitting, QuestionFits, ReplyFits, VerifiedFits, ReadFits}
+use Rattle.fam_judge.specs.Formed.{AreSoundNotes, IsSoundCommand}
+use Rattle.fam_judge.specs.Untold.{untold_cmd, untold_content, untold_entry, untold_notes}
+use Rattle.fam_judge.proofs.Agreeing.{AgreeHosts, AgreeStates, agree_back, appended_agrees, cause_agrees, damage_agrees, found_agrees, hosts_back, report_agrees, writes_agrees}
+use Rattle.fam_judge.proofs.Choosing.{Choice, IsChosen, IsChosenContent, StandsChosen, SuitsChoice, any, any_fills, chosen_fills, chosen_note, notes_told, sound_notes, sound_starts, starts_suit}
+use Rattle.fam_judge.proofs.Filling.{FillFiles, FillsCmd, FillsFile, FillsHost, FillsPast, FillsState, StartsSuit, acknowledged_filled, filled_all, filled_entries, filled_length, filled_of}
+use Rattle.fam_judge.proofs.Fitted.{AnyFits, ask_told, at_path}
+use Rattle.fam_judge.proofs.Pairs.{Pairs, pairs_get, pairs_take}
+use Rattle.fam_judge.proofs.Picking.{Picks, file_pick, read_pick, verify_pick}
+use Rattle.fam_judge.proofs.Untelling.{alike_notes_untold, untold_twice}
+
+-- Pasts that are told and their own agree but for bytes.
+
+module _ (Stands : ℕ → ℕ → ℕ → Type 0) (Suits : Cmd → Type 0) where
+  pending_agrees : (x y : Option File) → Pairs (FillsFile Stands) x y → option_map (λ (f : File). f.entry) x ≡ option_map (λ (f : File). f.entry) y
+  pending_agrees None None is = refl
+  pending_agrees None (Some y) is = absurd is
+  pending_agrees (Some x) None is = absurd is
+  pending_agrees (Some x) (Some y) is = ap Some is.entry
+
+  states_agree : (s t : State) → FillsState Stands s t → AgreeStates s t
+  states_agree (Sound p a x) (Sound q b y) is = (is.0, filled_entries Stands a b is.1, pending_agrees x y is.2)
+  states_agree (Sound p a x) (Bad from why count) is = absurd is
+  states_agree (Bad origin damage gate) (Sound q b y) is = absurd is
+  states_agree (Bad origin damage gate) (Bad from why count) is = is
+
+  cmds_agree : (x y : Option Cmd) → Pairs (FillsCmd Stands Suits) x y → option_map untold_cmd x ≡ option_map untold_cmd y
+  cmds_agree None None is = refl
+  cmds_agree None (Some y) is = absurd is
+  cmds_agree (Some x) None is = absurd is
+  cmds_agree (Some x) (Some y) is = ap Some (untold_twice x y is.is)
+
+  hosts_agree : (x y : HostPast) → FillsHost Stands Suits x y → AgreeHosts x y
+  hosts_agree x y is = record { uuid = is.uuid; cmd = cmds_agree x.cmd y.cmd is.cmd; floor = is.floor; wrote = is.wrote }
+
+-- Sound notes.
+
+sound_filled : (start : Image) (notes : List Note) → AreSoundNotes notes → FillsPast AnyFits IsSoundCommand (past_of start (untold_notes notes)) (past_of start notes)
+sound_filled start notes sound = filled_of AnyFits IsSoundCommand (λ i b low. (low, inl refl)) any_fills start notes (sound_starts notes sound)
+
+chosen_filled : (start : Image) (ch : Choice) (notes : List Note) → AreSoundNotes notes
+    → FillsPast (StandsChosen ch) (SuitsChoice ch) (past_of start (untold_notes notes)) (past_of start (map (chosen_note ch) notes))
+chosen_filled start ch notes sound =
+    subst (λ (l : List Note). FillsPast (StandsChosen ch) (SuitsChoice ch) (past_of start l) (past_of start (map (chosen_note ch) notes)))
+    (sym (alike_notes_untold notes (map (chosen_note ch) notes) (notes_told ch notes)))
+    (filled_of (StandsChosen ch) (SuitsChoice ch) (λ i b low. (low, inl refl)) (chosen_fills ch) start (map (chosen_note ch) notes) (starts_suit ch notes sound))
+
+-- What is allowed fits.
+
+floor_told : (x y : HostPast) (m : ℕ) (a b : List File) → x.floor ≡ y.floor → length a ≡ length b → InBounds y m b → InBounds x m a
+floor_told x y m a b floor count bounds = record {
+  floor = bounds.floor;
+  marked = floor ∙ bounds.marked;
+  low = bounds.low;
+  high = subst (λ (n : ℕ). m ≤ n) (sym count) bounds.high;
+}
+
+-- a command that is told
+pub record CmdTold (x : HostPast) (c : Cmd) : Type 0 where
+  pub told : x.cmd ≡ Some (untold_cmd c)
+  pub sound : IsSoundCommand c
+
+cmd_told : (x y : HostPast) → Pairs (FillsCmd AnyFits IsSoundCommand) x.cmd y.cmd → (c : Cmd) → y.cmd ≡ Some c → CmdTold x c
+cmd_told x y both c told = by x.cmd refl (subst (λ (o : Option Cmd). Pairs (FillsCmd AnyFits IsSoundCommand) x.cmd o) told both)
+  where
+    by : (o : Option Cmd) → x.cmd ≡ o → Pairs (FillsCmd AnyFits IsSoundCommand) o (Some c) → CmdTold x c
+    by None e is = absurd is
+    by (Some t) e is = record { told = e ∙ ap Some is.is; sound = is.suits }
+
+question_fits : (m : ℕ) (given : Reply) (x y : HostPast) (s t : State) → FillsHost AnyFits IsSoundCommand x y → FillsState AnyFits s t → AskAllowed m given y t → QuestionFits m given x s
+question_fits m given x y (Sound p a f) (Sound q b g) host state allowed =
+    let all = filled_all AnyFits a b f g state.1 state.2 in
+    let cmd = cmd_told x y host.cmd allowed.cmd allowed.told in record {
+      bounds = floor_told x y m (with_pending a f) (with_pending b g) host.floor (filled_length AnyFits (with_pending a f) (with_pending b g) all) allowed.bounds;
+      cmd = untold_cmd allowed.cmd;
+      told = cmd.told;
+      fits = ask_told (take m (with_pending a f)) (take m (with_pending b g)) allowed.cmd given
+          (pairs_take (FillsFile AnyFits) m (with_pending a f) (with_pending b g) all) cmd.sound allowed.is;
+    }
+question_fits m given x y (Sound p a f) (Bad from why count) host state allowed = absurd state
+question_fits m given x y (Bad origin damage gate) (Sound q b g) host state allowed = absurd state
+question_fits m given x y (Bad origin damage gate) (Bad from why count) host state allowed = absurd allowed
+
+module _ (x y : HostPast) (s t : State) (host : FillsHost AnyFits IsSoundCommand x y) (state : FillsState AnyFits s t) where
+  back_host : AgreeHosts y x
+  back_host = hosts_back x y (hosts_agree AnyFits IsSoundCommand x y host)
+
+  back_state : AgreeStates t s
+  back_state = agree_back s t (states_agree AnyFits IsSoundCommand s t state)
+
+  reply_fits : (given : Reply) → ReplyAllowed given y t → ReplyFits given x s
+  reply_fits (reply.Appended seq) allowed =
+      appended_agrees seq y x (acknowledges seq t) (acknowledges seq s) back_host
+      (agree_back (acknowledges seq s) (acknowledges seq t) (states_agree AnyFits IsSoundCommand (acknowledges seq s) (acknowledges seq t) (acknowledged_filled AnyFits seq s t state))) allowed
+  reply_fits (reply.NotAppended why) allowed = cause_agrees why y x t s back_host back_state allowed
+  reply_fits (reply.Reports report) allowed = report_agrees report y x t s back_host back_state allowed
+  reply_fits (reply.NoSuperblock fault) allowed = damage_agrees (NoSuperblock fault) t s back_state allowed
+  reply_fits (reply.BadHeader fault) allowed = damage_agrees (BadHeader fault) t s back_state allowed
+  reply_fits (reply.BadSlot i reason) allowed = damage_agrees (BadSlot i reason) t s back_state allowed
+  reply_fits (reply.Played m tree) allowed = question_fits m (reply.Played m tree) x y s t host state allowed
+  reply_fits (reply.Mounted m) allowed = question_fits m (reply.Mounted m) x y s t host state allowed
+  reply_fits (reply.Same m) allowed = question_fits m (reply.Same m) x y s t host state allowed
+  reply_fits (reply.Differs m offset found wanted) allowed = question_fits m (reply.Differs m offset found wanted) x y s t host state allowed
+  reply_fits (reply.Length m size wanted) allowed = question_fits m (reply.Length m size wanted) x y s t host state allowed
+  reply_fits (reply.Bytes m bytes) allowed = question_fits m (reply.Bytes m bytes) x y s t host state allowed
+  reply_fits (reply.NotFound m) allowed = question_fits m (reply.NotFound m) x y s t host state allowed
+  reply_fits (reply.IsDirectory m) allowed = question_fits m (reply.IsDirectory m) x y s t host state allowed
+  reply_fits (reply.Checks m counts) allowed = question_fits m (reply.Checks m counts) x y s t host state allowed
+
+  answer_fits : (answer : Answer) → AnswerAllowed answer y t → AnswerFits answer x s
+  answer_fits (Replied given) allowed = reply_fits given allowed
+  answer_fits (MediaFault line) allowed = tt
+
+-- so of a declared host
+of_host : (Stands : ℕ → ℕ → ℕ → Type 0) (Suits : Cmd → Type 0) (o k : Option HostPast) → Pairs (FillsHost Stands Suits) o k → (P Q : HostPast → Type 0)
+    → ((x y : HostPast) → FillsHost Stands Suits x y → Q y → P x) → OfHost k Q → OfHost o P
+of_host Stands Suits None None is P Q step allowed = absurd allowed
+of_host Stands Suits None (Some y) is P Q step allowed = absurd is
+of_host Stands Suits (Some x) None is P Q step allowed = absurd is
+of_host Stands Suits (Some x) (Some y) is P Q step allowed = step x y is allowed
+
+allowed_fits : (told past : Past) (note : Note) → FillsPast AnyFits IsSoundCommand told past → Allowed past note → Fits told note
+allowed_fits told past (Found h n) is allowed = found_agrees n past.state told.state (agree_back told.state past.state (states_agree AnyFits IsSoundCommand told.state past.state is.state)) allowed
+allowed_fits told past (Writes h seq e) is allowed =
+    of_host AnyFits IsSoundCommand (slice_get told.hosts h) (slice_get past.hosts h) (pairs_get (FillsHost AnyFits IsSoundCommand) told.hosts past.hosts h is.hosts) _ _
+    (λ x y one. writes_agrees seq e y x past.state told.state (back_host x y told.state past.state one is.state) (back_state x y told.state past.state one is.state)) allowed
+allowed_fits told past (Answered h answer) is allowed =
+    of_host AnyFits IsSoundCommand (slice_get told.hosts h) (slice_get past.hosts h) (pairs_get (FillsHost AnyFits IsSoundCommand) told.hosts past.hosts h is.hosts) _ _
+    (λ x y one. answer_fits x y told.state past.state one is.state answer) allowed
+allowed_fits told past note is allowed = tt
+
+-- what is allowed for some bytes fits what is told
+pub explained_fits : (start : Image) (before : List Note) (note : Note) → IsAllowedForSome start before note → Fits (past_of start (untold_notes before)) note
+explained_fits start before note is =
+    subst (λ (l : List Note). Fits (past_of start l) note) (sym (alike_notes_untold before is.chosen is.alike))
+    (allowed_fits (past_of start (untold_notes is.chosen)) (past_of start is.chosen) note (sound_filled start is.chosen is.sound) is.allowed)
