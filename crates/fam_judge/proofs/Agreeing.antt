@@ -1,6 +1,6 @@
 -- What is allowed of notes that speak of no bytes is the same in pasts that differ in bytes alone.
-use Rattle.std.proofs.Common.{◌≡◌, ◌+◌, ◌≤◌, ◌⊎◌, ℕ, List, [], ◌∷◌, ◌++◌, length, map, take, Option, Some, None, refl, ap, ap₂, sym, ◌∙◌, subst}
-use Rattle.std.specs.Prelude.{⊤, Result, Ok, Err, option_map, slice_get}
+use Rattle.std.proofs.Common.{◌≡◌, ◌+◌, ◌≤◌, ◌⊎◌, ℕ, List, [], ◌∷◌, ◌++◌, length, take, Option, Some, None, refl, ap, ap₂, sym, ◌∙◌, subst}
+use Rattle.std.specs.Prelude.{Result, Ok, Err, option_map, slice_get}
 use Rattle.std.proofs.lemmas.List.{length-map, map-append, take-map}
 use Rattle.std.proofs.lemmas.Option.{same_Some, slice_get-map}
 use Rattle.fam_base.specs.declared.cmd.Cmd.{Cmd}
@@ -10,10 +10,9 @@ use Rattle.fam_rules.specs.declared.answers.Refused.{Refused as Cause}
 use Rattle.fam_rules.specs.declared.answers.Refused.TheVariants as cause
 use Rattle.fam_rules.specs.declared.answers.Report.{Report}
 use Rattle.fam_rules.specs.Asks.{File, entries_of}
-use Rattle.fam_rules.specs.Decide.{Wish, decide, decide_wish, wish_of}
+use Rattle.fam_rules.specs.Decide.{Wish, decide_wish, wish_of}
 use Rattle.fam_rules.specs.DecideLaws.{IsTooLong}
 use Rattle.fam_rules.specs.ReportLaws.{IsSoundReport}
-use Rattle.fam_protocol.specs.After.{Named}
 use Rattle.fam_journal.specs.Legal.{AppendedAllowed, CauseAllowed, DamageAllowed, DecideAllowed, FoundAllowed, FoundBad, HasParams, IsDecided, ReportAllowed, WritesAllowed, damaged_report, master_of}
 use Rattle.fam_journal.specs.Past.{Bad, Damage, HostPast, Origin, Sound, State, with_pending}
 use Rattle.fam_judge.specs.Untold.{untold_cmd}

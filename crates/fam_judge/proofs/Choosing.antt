@@ -1,6 +1,6 @@
 -- Bytes of sources and a listing that are chosen in notes: these tell the same then.
-use Rattle.std.proofs.Common.{◌≡◌, ◌+◌, ◌<◌, ◌≤◌, ◌⊎◌, inl, inr, ℕ, Bool, true, false, List, [], ◌∷◌, length, map, get_or, Option, Some, None, refl, ap, ap₂, sym, ◌∙◌, subst, arith}
-use Rattle.std.specs.Prelude.{⊤, All, ◌==◌, if◌then◌else◌, replicate, slice_index}
+use Rattle.std.proofs.Common.{◌≡◌, ◌<◌, ◌≤◌, ◌⊎◌, inl, inr, ℕ, Bool, true, false, List, [], ◌∷◌, length, map, get_or, refl, ap, ap₂, sym, ◌∙◌, subst, arith}
+use Rattle.std.specs.Prelude.{⊤, All, ◌==◌, if◌then◌else◌, slice_index}
 use Rattle.std.specs.List.{range_with_len}
 use Rattle.std.specs.List.Sorted.{IsStrictlySortedBy}
 use Rattle.std.proofs.lemmas.Bool.{cases_lt}
@@ -12,13 +12,10 @@ use Rattle.fam_base.specs.declared.cmd.Cmd.TheVariants as cmd
 use Rattle.fam_base.specs.declared.cmd.Content.{Content}
 use Rattle.fam_base.specs.declared.cmd.Content.TheVariants as content
 use Rattle.fam_base.specs.declared.entry.Entry.{Entry}
-use Rattle.fam_protocol.specs.Tasks.{IsCommand}
 use Rattle.fam_rules.specs.Content.{HoldsBytes, content_byte}
-use Rattle.fam_rules.specs.Decide.{Wish, wish_of}
-use Rattle.fam_rules.specs.DecideLaws.{IsSoundWish}
+use Rattle.fam_rules.specs.Decide.{wish_of}
 use Rattle.fam_rules.specs.Solo.{content_of}
 use Rattle.fam_tree.specs.Listings.{IsListed}
-use Rattle.fam_history.specs.declared.command.ToldCommand.{ToldCommand}
 use Rattle.fam_history.specs.declared.command.ToldCommand.TheVariants as told
 use Rattle.fam_history.specs.Told.{told_of_command}
 use Rattle.fam_journal.specs.Notes.{Note, Start}

@@ -1,16 +1,13 @@
 -- Pasts of which one has bytes where the other doesn't tell them, and how notes keep that.
-use Rattle.std.proofs.Common.{◌≡◌, ◌+◌, ◌<◌, ℕ, Bool, true, false, List, [], ◌∷◌, ◌++◌, length, map, get_or, Option, Some, None, refl, ap, sym, ◌∙◌, subst, arith}
-use Rattle.std.specs.Prelude.{⊤, ◌==◌, if◌then◌else◌, nat_lt, slice_get, slice_index}
+use Rattle.std.proofs.Common.{◌≡◌, ◌+◌, ◌<◌, ℕ, Bool, true, false, List, [], ◌∷◌, length, map, get_or, Option, Some, None, refl, ap, sym, ◌∙◌, subst, arith}
+use Rattle.std.specs.Prelude.{⊤, ◌==◌, if◌then◌else◌, nat_lt, slice_index}
 use Rattle.std.specs.List.{AllZip, range_with_len}
 use Rattle.std.proofs.lemmas.List.Elements.{AllZip-push}
 use Rattle.std.proofs.lemmas.Slice.Zip.{AllZip-long}
 use Rattle.std.proofs.lemmas.List.FromFn.{get_or-map-range_with_len, length-map-range_with_len}
 use Rattle.fam_base.specs.declared.cmd.Cmd.{Cmd}
-use Rattle.fam_base.specs.declared.cmd.Content.{Content}
 use Rattle.fam_base.specs.declared.entry.Entry.{Entry}
-use Rattle.fam_base.specs.declared.entry.Params.{Params}
 use Rattle.fam_base.specs.Image.{Image, line_at}
-use Rattle.fam_format.specs.declared.faults.SuperFault.TheVariants as super
 use Rattle.fam_format.specs.Layout.{least_lines}
 use Rattle.fam_format.specs.Reading as read
 use Rattle.fam_format.specs.Reading.{Lines, Reading, reading}
@@ -18,10 +15,9 @@ use Rattle.fam_machine.specs.Mkfs.{first_sent}
 use Rattle.fam_rules.specs.Asks.{File, entries_of}
 use Rattle.fam_rules.specs.Content.{content_byte, fill}
 use Rattle.fam_rules.specs.Solo.{content_of, held_file}
-use Rattle.fam_protocol.specs.After.{Named}
 use Rattle.fam_journal.specs.Notes.{Answer, Note, Host, Made, Cut, Start, Mark, Found, Writes, Answered}
-use Rattle.fam_journal.specs.Past.{Bad, Damage, HostPast, NoSuperblock, Origin, Past, Sound, State, acknowledges, cmd_of, ended_state, filled_bytes, finds, first_past, first_state, halted, past_after, past_behind, past_of, pends, settled_length, shows, shows_count, state_read, with_pending}
-use Rattle.fam_judge.specs.Untold.{untold, untold_cmd, untold_note, untold_notes}
+use Rattle.fam_journal.specs.Past.{Bad, HostPast, Past, Sound, State, acknowledges, cmd_of, ended_state, filled_bytes, finds, first_past, past_after, past_behind, past_of, pends, settled_length, shows, shows_count, state_read, with_pending}
+use Rattle.fam_judge.specs.Untold.{untold_cmd, untold_note, untold_notes}
 use Rattle.fam_judge.proofs.Pairs.{Pairs, pairs_changed, pairs_get, pairs_map}
 use Rattle.fam_judge.proofs.Sizes.{acknowledged, effect, ended_is}
 

@@ -1,7 +1,6 @@
 -- What is allowed for some bytes fits what is told before it.
-use Rattle.std.proofs.Common.{◌≡◌, ◌≢◌, ◌+◌, ◌<◌, ◌≤◌, ◌⊎◌, inl, inr, ℕ, Bool, true, false, List, [], ◌∷◌, length, map, get_or, take, drop, Option, Some, None, refl, ap, ap₂, sym, ◌∙◌, subst, arith}
-use Rattle.std.specs.Prelude.{⊤, ◌-◌, ◌==◌, if◌then◌else◌, min, not, slice_get, slice_index}
-use Rattle.std.specs.List.{range_with_len}
+use Rattle.std.proofs.Common.{◌≡◌, ◌≢◌, ◌+◌, ◌<◌, ◌⊎◌, inl, inr, ℕ, Bool, true, false, List, length, get_or, take, drop, Option, Some, None, refl, ap, ap₂, sym, ◌∙◌, subst, arith}
+use Rattle.std.specs.Prelude.{◌==◌, if◌then◌else◌, min, not, slice_index}
 use Rattle.std.proofs.lemmas.Bool.Decides.{nat_tests}
 use Rattle.std.proofs.lemmas.List.{get_or-drop, get_or-replicate, get_or-take, length-drop, length-replicate, length-take}
 use Rattle.std.proofs.lemmas.Option.{same_Some}
@@ -20,7 +19,7 @@ use Rattle.fam_rules.specs.Checks.{checked}
 use Rattle.fam_rules.specs.Content.{content_byte}
 use Rattle.fam_rules.specs.Reply as reply
 use Rattle.fam_rules.specs.Reply.{Reply}
-use Rattle.fam_judge.specs.Fitting.{AskFits, FileFits, FitBytes, FitsByte, FitsWanted, IsLong, KindFits, MayAgree, MayBeSame, VerifiedFits, given_count}
+use Rattle.fam_judge.specs.Fitting.{AskFits, FileFits, FitBytes, FitsByte, FitsWanted, IsLong, KindFits, MayAgree, VerifiedFits, given_count}
 use Rattle.fam_judge.specs.Formed.{IsSoundCommand}
 use Rattle.fam_judge.specs.Untold.{untold, untold_bytes, untold_cmd, untold_content}
 use Rattle.fam_judge.proofs.Filling.{FillBytes, FillFiles, FillsFile, filled_entries, filled_length}

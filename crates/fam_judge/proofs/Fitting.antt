@@ -1,32 +1,24 @@
 -- What is allowed for some bytes is what fits what is told.
-use Rattle.std.proofs.Common.{◌≡◌, ◌+◌, ◌<◌, ◌≤◌, ◌⊎◌, inl, inr, ℕ, List, [], ◌∷◌, length, map, take, Option, Some, None, refl, ap, ap₂, sym, ◌∙◌, subst}
-use Rattle.std.specs.List.{AllZip}
-use Rattle.std.specs.Prelude.{⊤, option_map, replicate, slice_get}
-use Rattle.std.proofs.lemmas.List.{length-replicate}
+use Rattle.std.proofs.Common.{◌≡◌, ◌≤◌, inl, ℕ, List, length, map, take, Option, Some, None, refl, ap, sym, ◌∙◌, subst}
+use Rattle.std.specs.Prelude.{option_map, slice_get}
 use Rattle.fam_base.specs.declared.cmd.Cmd.{Cmd}
-use Rattle.fam_base.specs.declared.cmd.Cmd.TheVariants as cmd
-use Rattle.fam_base.specs.declared.cmd.Content.{Content}
-use Rattle.fam_base.specs.declared.entry.Entry.{Entry}
 use Rattle.fam_base.specs.Image.{Image}
-use Rattle.fam_format.specs.Tree.{replay}
-use Rattle.fam_rules.specs.Asks.{File, ask, entries_of, file_at, file_bytes_from, of_file, verified}
-use Rattle.fam_rules.specs.Checks.{checked}
+use Rattle.fam_rules.specs.Asks.{File}
 use Rattle.fam_rules.specs.Reply as reply
 use Rattle.fam_rules.specs.Reply.{Reply}
-use Rattle.fam_journal.specs.Legal.{Allowed, AnswerAllowed, AskAllowed, InBounds, IsAskedOf, OfHost, ReplyAllowed}
-use Rattle.fam_journal.specs.Notes.{Answer, Replied, MediaFault, Note, Host, Made, Cut, Start, Mark, Found, Writes, Answered, Stop, Halt, Umount, Refused}
+use Rattle.fam_journal.specs.Legal.{Allowed, AnswerAllowed, AskAllowed, InBounds, OfHost, ReplyAllowed}
+use Rattle.fam_journal.specs.Notes.{Answer, Replied, MediaFault, Note, Found, Writes, Answered}
 use Rattle.fam_journal.specs.Past.{Bad, BadHeader, BadSlot, HostPast, NoSuperblock, Past, Sound, State, acknowledges, past_of, with_pending}
-use Rattle.fam_judge.specs.Alike.{AreAlikeNotes}
 use Rattle.fam_judge.specs.Explained.{IsAllowedForSome}
-use Rattle.fam_judge.specs.Fitting.{AnswerFits, AskFits, Fits, IsFitting, QuestionFits, ReplyFits, VerifiedFits, ReadFits}
+use Rattle.fam_judge.specs.Fitting.{AnswerFits, Fits, QuestionFits, ReplyFits}
 use Rattle.fam_judge.specs.Formed.{AreSoundNotes, IsSoundCommand}
-use Rattle.fam_judge.specs.Untold.{untold_cmd, untold_content, untold_entry, untold_notes}
+use Rattle.fam_judge.specs.Untold.{untold_cmd, untold_notes}
 use Rattle.fam_judge.proofs.Agreeing.{AgreeHosts, AgreeStates, agree_back, appended_agrees, cause_agrees, damage_agrees, found_agrees, hosts_back, report_agrees, writes_agrees}
-use Rattle.fam_judge.proofs.Choosing.{Choice, IsChosen, IsChosenContent, StandsChosen, SuitsChoice, any, any_fills, chosen_fills, chosen_note, notes_told, sound_notes, sound_starts, starts_suit}
-use Rattle.fam_judge.proofs.Filling.{FillFiles, FillsCmd, FillsFile, FillsHost, FillsPast, FillsState, StartsSuit, acknowledged_filled, filled_all, filled_entries, filled_length, filled_of}
-use Rattle.fam_judge.proofs.Fitted.{AnyFits, ask_told, at_path}
+use Rattle.fam_judge.proofs.Answering.{answer_pick}
+use Rattle.fam_judge.proofs.Choosing.{Choice, StandsChosen, SuitsChoice, any_fills, chosen_fills, chosen_note, notes_told, sound_notes, sound_starts, starts_suit}
+use Rattle.fam_judge.proofs.Filling.{FillsCmd, FillsFile, FillsHost, FillsPast, FillsState, acknowledged_filled, filled_all, filled_entries, filled_length, filled_of}
+use Rattle.fam_judge.proofs.Fitted.{AnyFits, ask_told}
 use Rattle.fam_judge.proofs.Pairs.{Pairs, pairs_get, pairs_take}
-use Rattle.fam_judge.proofs.Picking.{Picks, file_pick, read_pick, verify_pick}
 use Rattle.fam_judge.proofs.Untelling.{alike_notes_untold, untold_twice}
 
 -- Pasts that are told and their own agree but for bytes.
@@ -139,6 +131,14 @@ of_host Stands Suits None (Some y) is P Q step allowed = absurd is
 of_host Stands Suits (Some x) None is P Q step allowed = absurd is
 of_host Stands Suits (Some x) (Some y) is P Q step allowed = step x y is allowed
 
+-- and the other way about
+to_host : (Stands : ℕ → ℕ → ℕ → Type 0) (Suits : Cmd → Type 0) (o k : Option HostPast) → Pairs (FillsHost Stands Suits) o k → (P Q : HostPast → Type 0)
+    → ((x y : HostPast) → FillsHost Stands Suits x y → P x → Q y) → OfHost o P → OfHost k Q
+to_host Stands Suits None None is P Q step fits = absurd fits
+to_host Stands Suits None (Some y) is P Q step fits = absurd is
+to_host Stands Suits (Some x) None is P Q step fits = absurd is
+to_host Stands Suits (Some x) (Some y) is P Q step fits = step x y is fits
+
 allowed_fits : (told past : Past) (note : Note) → FillsPast AnyFits IsSoundCommand told past → Allowed past note → Fits told note
 allowed_fits told past (Found h n) is allowed = found_agrees n past.state told.state (agree_back told.state past.state (states_agree AnyFits IsSoundCommand told.state past.state is.state)) allowed
 allowed_fits told past (Writes h seq e) is allowed =
@@ -154,3 +154,65 @@ pub explained_fits : (start : Image) (before : List Note) (note : Note) → IsAl
 explained_fits start before note is =
     subst (λ (l : List Note). Fits (past_of start l) note) (sym (alike_notes_untold before is.chosen is.alike))
     (allowed_fits (past_of start (untold_notes is.chosen)) (past_of start is.chosen) note (sound_filled start is.chosen is.sound) is.allowed)
+
+-- What fits is allowed.
+
+module _ (start : Image) (before : List Note) (sound : AreSoundNotes before) where
+  -- for the bytes that the notes have
+  as_before : (note : Note) → Allowed (past_of start before) note → IsAllowedForSome start before note
+  as_before note allowed = record { chosen = before; alike = refl; sound = sound; allowed = allowed }
+
+  -- for those that are chosen
+  question_allowed : (h m : ℕ) (given : Reply) (note : Note) → OfHost (slice_get (past_of start (untold_notes before)).hosts h) (λ host. QuestionFits m given host (past_of start (untold_notes before)).state)
+      → ((past : Past) → OfHost (slice_get past.hosts h) (λ host. AskAllowed m given host past.state) → Allowed past note) → IsAllowedForSome start before note
+  question_allowed h m given note fits allows =
+      let told = past_of start (untold_notes before) in
+      let pick = answer_pick m given (slice_get told.hosts h) told.state fits in
+      let own = past_of start (map (chosen_note pick.choice) before) in
+      let fill = chosen_filled start pick.choice before sound in record {
+        chosen = map (chosen_note pick.choice) before;
+        alike = notes_told pick.choice before;
+        sound = sound_notes pick.choice before sound;
+        allowed = allows own
+            (pick.holds (slice_get own.hosts h) own.state (pairs_get (FillsHost (StandsChosen pick.choice) (SuitsChoice pick.choice)) told.hosts own.hosts h fill.hosts) fill.state);
+      }
+
+  own_filled : FillsPast AnyFits IsSoundCommand (past_of start (untold_notes before)) (past_of start before)
+  own_filled = sound_filled start before sound
+
+  host_allowed : (h : ℕ) (P Q : HostPast → Type 0)
+      → ((x y : HostPast) → AgreeHosts x y → AgreeStates (past_of start (untold_notes before)).state (past_of start before).state → P x → Q y)
+      → OfHost (slice_get (past_of start (untold_notes before)).hosts h) P → OfHost (slice_get (past_of start before).hosts h) Q
+  host_allowed h P Q step fits =
+      to_host AnyFits IsSoundCommand _ _ (pairs_get (FillsHost AnyFits IsSoundCommand) (past_of start (untold_notes before)).hosts (past_of start before).hosts h own_filled.hosts) P Q
+      (λ x y one. step x y (hosts_agree AnyFits IsSoundCommand x y one) (states_agree AnyFits IsSoundCommand _ _ own_filled.state)) fits
+
+  reply_allowed : (h : ℕ) (given : Reply) → Fits (past_of start (untold_notes before)) (Answered h (Replied given)) → IsAllowedForSome start before (Answered h (Replied given))
+  reply_allowed h (reply.Appended seq) fits = as_before _
+      (host_allowed h _ _ (λ x y host state. appended_agrees seq x y _ _ host
+          (states_agree AnyFits IsSoundCommand _ _ (acknowledged_filled AnyFits seq _ _ own_filled.state))) fits)
+  reply_allowed h (reply.NotAppended why) fits = as_before _ (host_allowed h _ _ (λ x y host state. cause_agrees why x y _ _ host state) fits)
+  reply_allowed h (reply.Reports report) fits = as_before _ (host_allowed h _ _ (λ x y host state. report_agrees report x y _ _ host state) fits)
+  reply_allowed h (reply.NoSuperblock fault) fits = as_before _ (host_allowed h _ _ (λ x y host state. damage_agrees (NoSuperblock fault) _ _ state) fits)
+  reply_allowed h (reply.BadHeader fault) fits = as_before _ (host_allowed h _ _ (λ x y host state. damage_agrees (BadHeader fault) _ _ state) fits)
+  reply_allowed h (reply.BadSlot i reason) fits = as_before _ (host_allowed h _ _ (λ x y host state. damage_agrees (BadSlot i reason) _ _ state) fits)
+  reply_allowed h (reply.Played m tree) fits = question_allowed h m (reply.Played m tree) _ fits (λ past is. is)
+  reply_allowed h (reply.Mounted m) fits = question_allowed h m (reply.Mounted m) _ fits (λ past is. is)
+  reply_allowed h (reply.Same m) fits = question_allowed h m (reply.Same m) _ fits (λ past is. is)
+  reply_allowed h (reply.Differs m offset found wanted) fits = question_allowed h m (reply.Differs m offset found wanted) _ fits (λ past is. is)
+  reply_allowed h (reply.Length m size wanted) fits = question_allowed h m (reply.Length m size wanted) _ fits (λ past is. is)
+  reply_allowed h (reply.Bytes m bytes) fits = question_allowed h m (reply.Bytes m bytes) _ fits (λ past is. is)
+  reply_allowed h (reply.NotFound m) fits = question_allowed h m (reply.NotFound m) _ fits (λ past is. is)
+  reply_allowed h (reply.IsDirectory m) fits = question_allowed h m (reply.IsDirectory m) _ fits (λ past is. is)
+  reply_allowed h (reply.Checks m counts) fits = question_allowed h m (reply.Checks m counts) _ fits (λ past is. is)
+
+  fits_allowed : (note : Note) → Fits (past_of start (untold_notes before)) note → IsAllowedForSome start before note
+  fits_allowed (Found h n) fits = as_before _ (found_agrees n _ _ (states_agree AnyFits IsSoundCommand _ _ own_filled.state) fits)
+  fits_allowed (Writes h seq e) fits = as_before _ (host_allowed h _ _ (λ x y host state. writes_agrees seq e x y _ _ host state) fits)
+  fits_allowed (Answered h (Replied given)) fits = reply_allowed h given fits
+  fits_allowed (Answered h (MediaFault line)) fits = as_before _ (host_allowed h _ _ (λ x y host state is. tt) fits)
+  fits_allowed note fits = as_before note tt
+
+-- what fits what is told is allowed for some bytes
+pub fits_explained : (start : Image) (before : List Note) (note : Note) → AreSoundNotes before → Fits (past_of start (untold_notes before)) note → IsAllowedForSome start before note
+fits_explained start before note sound fits = fits_allowed start before sound note fits

@@ -32,4 +32,5 @@ pub mod Agreeing
 pub mod Fitted
 pub mod Choosing
 pub mod Picking
+pub mod Answering
 pub mod Fitting

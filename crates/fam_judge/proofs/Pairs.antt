@@ -1,6 +1,6 @@
 -- Lists whose members are related one by one.
 use Prim.Native.Nat.{zero, suc}
-use Rattle.std.proofs.Common.{◌≡◌, ℕ, Bool, true, false, List, [], ◌∷◌, map, Option, Some, None, refl, ap, sym, ◌∙◌}
+use Rattle.std.proofs.Common.{◌≡◌, ℕ, Bool, true, false, List, [], ◌∷◌, map, Option, Some, None, refl}
 use Rattle.std.specs.List.{AllZip}
 use Rattle.std.specs.Prelude.{⊤, cond, find, slice_get, take}
 use Rattle.fam_journal.specs.Members.{changed_at}

@@ -1,12 +1,9 @@
 -- Bytes and a listing that are chosen for what an answer shows of a file.
-use Rattle.std.proofs.Common.{◌≡◌, ◌≢◌, ◌+◌, ◌-◌, ◌<◌, ◌≤◌, ◌⊎◌, inl, inr, ℕ, Bool, true, false, List, [], ◌∷◌, length, map, get_or, take, drop, Option, Some, None, refl, ap, ap₂, sym, ◌∙◌, subst, arith}
-use Rattle.std.specs.Prelude.{⊤, ◌==◌, if◌then◌else◌, min, nat_lt, not, slice_get, slice_index}
-use Rattle.std.proofs.lemmas.Bool.{cases_eq}
+use Rattle.std.proofs.Common.{◌≡◌, ◌≢◌, ◌+◌, ◌-◌, ◌<◌, ◌⊎◌, inl, inr, ℕ, Bool, true, false, List, length, get_or, Option, Some, None, refl, ap, ap₂, sym, ◌∙◌, subst, arith}
+use Rattle.std.specs.Prelude.{◌==◌, if◌then◌else◌, nat_lt, not, slice_index}
 use Rattle.std.proofs.lemmas.Bool.Decides.{nat_tests}
-use Rattle.std.proofs.lemmas.List.{ext_get_or, get_or-drop, get_or-replicate, get_or-take, length-drop, length-replicate, length-take}
+use Rattle.std.proofs.lemmas.List.{ext_get_or, get_or-replicate, length-replicate}
 use Rattle.std.proofs.lemmas.Option.{same_Some}
-use Rattle.fam_base.specs.declared.cmd.Cmd.{Cmd}
-use Rattle.fam_base.specs.declared.cmd.Cmd.TheVariants as cmd
 use Rattle.fam_base.specs.declared.cmd.Content.{Content}
 use Rattle.fam_base.specs.declared.cmd.Content.TheVariants as content
 use Rattle.fam_base.specs.declared.entry.Entry.{Entry}
@@ -17,8 +14,8 @@ use Rattle.fam_rules.specs.Asks.{File, compared, compared_at, file_bytes_from, f
 use Rattle.fam_rules.specs.Content.{content_byte}
 use Rattle.fam_rules.specs.Reply as reply
 use Rattle.fam_rules.specs.Reply.{Reply}
-use Rattle.fam_judge.specs.Fitting.{FileFits, FitBytes, FitsByte, FitsWanted, IsLong, KindFits, MayAgree, MayBeSame, MayDiffer, ReadFits, VerifiedFits, given_count}
-use Rattle.fam_judge.specs.Untold.{untold, untold_bytes, untold_cmd, untold_content}
+use Rattle.fam_judge.specs.Fitting.{FileFits, FitBytes, FitsByte, FitsWanted, IsLong, KindFits, MayBeSame, MayDiffer, ReadFits, VerifiedFits, given_count}
+use Rattle.fam_judge.specs.Untold.{untold, untold_content}
 use Rattle.fam_judge.proofs.Choosing.{Choice, IsChosenContent, StandsChosen, any}
 use Rattle.fam_judge.proofs.Filling.{FillBytes, FillsFile}
 use Rattle.fam_judge.proofs.Fitted.{read_at, read_inside, read_length}

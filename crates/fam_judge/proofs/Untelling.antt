@@ -1,6 +1,6 @@
 -- Notes without what isn't told: they are the same where notes tell the same.
 use Rattle.std.proofs.Common.{◌≡◌, ℕ, List, [], ◌∷◌, length, map, refl, ap, ap₂, sym, ◌∙◌}
-use Rattle.std.specs.Prelude.{Option, replicate}
+use Rattle.std.specs.Prelude.{replicate}
 use Rattle.std.proofs.lemmas.List.{length-replicate}
 use Rattle.fam_base.specs.declared.cmd.Cmd.{Cmd}
 use Rattle.fam_base.specs.declared.cmd.Cmd.TheVariants as cmd
@@ -8,7 +8,7 @@ use Rattle.fam_base.specs.declared.cmd.Content.TheVariants as content
 use Rattle.fam_history.specs.declared.command.ToldCommand.{ToldCommand}
 use Rattle.fam_history.specs.declared.command.ToldCommand.TheVariants as told
 use Rattle.fam_history.specs.Told.{told_of_command}
-use Rattle.fam_rules.specs.Decide.{Wish, wish_of}
+use Rattle.fam_rules.specs.Decide.{wish_of}
 use Rattle.fam_journal.specs.Notes.{Note, Start}
 use Rattle.fam_judge.specs.Alike.{AreAlikeNotes, Begins, Tells, ToldNote, told_note}
 use Rattle.fam_judge.specs.Untold.{untold, untold_cmd, untold_entry, untold_note, untold_notes}
