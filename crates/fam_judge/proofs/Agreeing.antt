@@ -93,6 +93,7 @@ cmd_too x y agree cmd told = by y.cmd refl
 
 -- Notes.
 
+-- a master may find as many
 pub found_agrees : (n : ℕ) (s t : State) → AgreeStates s t → FoundAllowed n s → FoundAllowed n t
 found_agrees n (Sound p a None) (Sound q b None) is allowed = allowed ∙ entries_length a b is.1
 found_agrees n (Sound p a None) (Sound q b (Some y)) is allowed = absurd (let e = is.2 in cc)
@@ -103,7 +104,8 @@ found_agrees n (Bad origin damage gate) (Sound q b y) is allowed = absurd is
 found_agrees n (Bad origin damage gate) (Bad from why count) is allowed =
     subst (λ (d : Damage). FoundBad n d count) is.1 (subst (λ (g : ℕ). FoundBad n damage g) is.2 allowed)
 
-decided_agrees : (x y : HostPast) (p q : Params) (a b : List File) (f g : Option File) (decision : Result Entry Cause) → AgreeHosts x y → p ≡ q → entries_of a ≡ entries_of b
+decided_agrees : (x y : HostPast) (p q : Params) (a b : List File) (f g : Option File) (decision : Result Entry Cause) → AgreeHosts x y
+    → p ≡ q → entries_of a ≡ entries_of b
     → option_map entry_of f ≡ option_map entry_of g → IsDecided p x a f decision → IsDecided q y b g decision
 decided_agrees x y p q a b f g decision agree params same more is =
     let cmd = cmd_too x y agree is.cmd is.told in record {
@@ -114,17 +116,22 @@ decided_agrees x y p q a b f g decision agree params same more is =
           ∙ ap₂ (λ (me : List ℕ) (l : List Entry). option_map (decide_wish q me l) (wish_of cmd.other)) agree.uuid same) ∙ is.is;
     }
 
-pub decide_agrees : (x y : HostPast) (s t : State) (decision : Result Entry Cause) → AgreeHosts x y → AgreeStates s t → DecideAllowed x decision s → DecideAllowed y decision t
+-- so the rules decide
+pub decide_agrees : (x y : HostPast) (s t : State) (decision : Result Entry Cause) → AgreeHosts x y → AgreeStates s t
+    → DecideAllowed x decision s → DecideAllowed y decision t
 decide_agrees x y (Sound p a f) (Sound q b g) decision agree is allowed = decided_agrees x y p q a b f g decision agree is.0 is.1 is.2 allowed
 decide_agrees x y (Sound p a f) (Bad from why count) decision agree is allowed = absurd is
 decide_agrees x y (Bad origin damage gate) t decision agree is allowed = absurd allowed
 
-pub writes_agrees : (seq : ℕ) (e : Entry) (x y : HostPast) (s t : State) → AgreeHosts x y → AgreeStates s t → WritesAllowed seq e x s → WritesAllowed seq e y t
+-- the same entry may be appended
+pub writes_agrees : (seq : ℕ) (e : Entry) (x y : HostPast) (s t : State) → AgreeHosts x y → AgreeStates s t → WritesAllowed seq e x s
+    → WritesAllowed seq e y t
 writes_agrees seq e x y (Sound p a f) (Sound q b g) agree is allowed =
     (allowed.0 ∙ entries_length a b is.1, decided_agrees x y p q a b f g (Ok e) agree is.0 is.1 is.2 allowed.1)
 writes_agrees seq e x y (Sound p a f) (Bad from why count) agree is allowed = absurd is
 writes_agrees seq e x y (Bad origin damage gate) t agree is allowed = absurd allowed
 
+-- and be acknowledged
 pub appended_agrees : (seq : ℕ) (x y : HostPast) (s t : State) → AgreeHosts x y → AgreeStates s t → AppendedAllowed seq x s → AppendedAllowed seq y t
 appended_agrees seq x y (Sound p a f) (Sound q b g) agree is allowed = record {
   entry = allowed.entry;
@@ -148,6 +155,7 @@ params_agree p (Bad origin damage gate) (Sound r b g) is super = absurd is
 params_agree p (Bad origin damage gate) (Bad from why count) is super =
     subst (λ (o : Origin). HasParams p (Bad o why gate)) is.0 (subst (λ (d : Damage). HasParams p (Bad origin d gate)) is.1 super)
 
+-- the same cause refuses
 pub cause_agrees : (why : Cause) (x y : HostPast) (s t : State) → AgreeHosts x y → AgreeStates s t → CauseAllowed why x s → CauseAllowed why y t
 cause_agrees (cause.NotMaster me master) x y s t agree is allowed =
     record { me_is = allowed.me_is ∙ agree.uuid; master_is = sym (master_agrees s t is) ∙ allowed.master_is; other = allowed.other }
@@ -165,7 +173,9 @@ cause_agrees (cause.LongPath limit) x y s t agree is allowed =
     }
 cause_agrees why x y s t agree is allowed = decide_agrees x y s t (Err why) agree is allowed
 
-pub report_agrees : (report : Report) (x y : HostPast) (s t : State) → AgreeHosts x y → AgreeStates s t → ReportAllowed report x s → ReportAllowed report y t
+-- the same may be reported
+pub report_agrees : (report : Report) (x y : HostPast) (s t : State) → AgreeHosts x y → AgreeStates s t → ReportAllowed report x s
+    → ReportAllowed report y t
 report_agrees report x y (Sound p a f) (Sound q b g) agree is allowed =
     let all = entries_all a b f g is.1 is.2 in record {
       m = allowed.m;
@@ -183,6 +193,7 @@ report_agrees report x y (Bad origin damage gate) (Sound q b g) agree is allowed
 report_agrees report x y (Bad origin damage gate) (Bad from why count) agree is allowed =
     allowed ∙ ap damaged_report is.0
 
+-- and be damaged
 pub damage_agrees : (damage : Damage) (s t : State) → AgreeStates s t → DamageAllowed damage s → DamageAllowed damage t
 damage_agrees own (Sound p a f) t is allowed = absurd allowed
 damage_agrees own (Bad origin damage gate) (Sound q b g) is allowed = absurd is

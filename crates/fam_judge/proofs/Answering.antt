@@ -15,8 +15,8 @@ use Rattle.fam_journal.specs.Legal.{AskAllowed, OfHost}
 use Rattle.fam_journal.specs.Past.{Bad, HostPast, Sound, State, with_pending}
 use Rattle.fam_judge.specs.Fitting.{AskFits, QuestionFits, ReadFits, VerifiedFits}
 use Rattle.fam_judge.specs.Untold.{untold_cmd, untold_content, untold_entry}
-use Rattle.fam_judge.proofs.Choosing.{Choice, IsChosen, IsChosenContent, StandsChosen, SuitsChoice, any}
-use Rattle.fam_judge.proofs.Filling.{FillFiles, FillsCmd, FillsFile, FillsHost, FillsState, filled_all, filled_entries, filled_length}
+use Rattle.fam_judge.proofs.Choosing.{ChosenCmd, ChosenFile, ChosenFiles, ChosenHost, ChosenState, Choice, IsChosen, IsChosenContent, StandsChosen, any}
+use Rattle.fam_judge.proofs.Filling.{filled_all, filled_entries, filled_length}
 use Rattle.fam_judge.proofs.Fitted.{at_path}
 use Rattle.fam_judge.proofs.Pairs.{Pairs, pairs_take}
 use Rattle.fam_judge.proofs.Picking.{Picks, file_pick, read_pick, verify_pick}
@@ -45,13 +45,13 @@ is_of told own same = subst (λ (c : Cmd). IsOf c own) (sym same) (own_of own)
 
 -- what is chosen gives this reply, for whatever files and command are told so
 abbrev GivesAsked : List File → Cmd → Reply → Choice → Type 0
-GivesAsked told c given ch = (files : List File) (own : Cmd) → FillFiles (StandsChosen ch) told files → c ≡ untold_cmd own → IsChosen ch own → ask files own ≡ Some given
+GivesAsked told c given ch = (files : List File) (own : Cmd) → ChosenFiles ch told files → c ≡ untold_cmd own → IsChosen ch own → ask files own ≡ Some given
 
 module _ (told : List File) (given : Reply) where
-  count : (ch : Choice) (files : List File) → FillFiles (StandsChosen ch) told files → length files ≡ length told
+  count : (ch : Choice) (files : List File) → ChosenFiles ch told files → length files ≡ length told
   count ch files fill = sym (filled_length (StandsChosen ch) told files fill)
 
-  entries : (ch : Choice) (files : List File) → FillFiles (StandsChosen ch) told files → entries_of files ≡ entries_of told
+  entries : (ch : Choice) (files : List File) → ChosenFiles ch told files → entries_of files ≡ entries_of told
   entries ch files fill = sym (filled_entries (StandsChosen ch) told files fill)
 
   play_pick : ask told cmd.Logplay ≡ Some given → Picks (GivesAsked told cmd.Logplay given)
@@ -67,7 +67,8 @@ module _ (told : List File) (given : Reply) where
     holds = λ files own fill same chosen. ap (ask files) (is_of cmd.Mount own same) ∙ ap (λ (n : ℕ). Some (reply.Mounted n)) (count any files fill) ∙ fits;
   }
 
-  path_pick : (path : List ℕ) (against : Content) → AskFits told (cmd.Verify path against) given → Picks (GivesAsked told (cmd.Verify path against) given)
+  path_pick : (path : List ℕ) (against : Content) → AskFits told (cmd.Verify path against) given
+      → Picks (GivesAsked told (cmd.Verify path against) given)
   path_pick path against fits =
       let pick = file_pick (λ ch (wanted : Content). (against ≡ untold_content wanted) × IsChosenContent ch.wanted wanted) (λ wanted bytes. verified (length told) bytes wanted) (length told) given
           (λ bytes. VerifiedFits (length told) bytes against given)
@@ -83,7 +84,8 @@ module _ (told : List File) (given : Reply) where
             ∙ ap Some (pick.holds of.0 (file_at files path) (of.2, wants) (at_path (StandsChosen pick.choice) told files path fill));
       }
 
-  bytes_pick : (path : List ℕ) (offset most : ℕ) → AskFits told (cmd.Read path offset most) given → Picks (GivesAsked told (cmd.Read path offset most) given)
+  bytes_pick : (path : List ℕ) (offset most : ℕ) → AskFits told (cmd.Read path offset most) given
+      → Picks (GivesAsked told (cmd.Read path offset most) given)
   bytes_pick path offset most fits =
       let pick = file_pick {D = ⊤} (λ ch d. ⊤) (λ d bytes. reply.Bytes (length told) (file_bytes_from offset most bytes)) (length told) given
           (λ bytes. ReadFits (length told) bytes offset most given)
@@ -96,7 +98,8 @@ module _ (told : List File) (given : Reply) where
             ∙ ap Some (pick.holds tt (file_at files path) tt (at_path (StandsChosen pick.choice) told files path fill));
       }
 
-  check_length : (listing own : List Entry) → cmd.Check (replicate (length own) untold_entry) ≡ cmd.Check (replicate (length listing) untold_entry) → length listing ≡ length own
+  check_length : (listing own : List Entry)
+      → cmd.Check (replicate (length own) untold_entry) ≡ cmd.Check (replicate (length listing) untold_entry) → length listing ≡ length own
   check_length listing own same =
       let lists : replicate (length own) untold_entry ≡ replicate (length listing) untold_entry = cc in
       sym (length-replicate (length listing) untold_entry) ∙ sym (ap length lists) ∙ length-replicate (length own) untold_entry
@@ -133,26 +136,27 @@ record OwnCmd (ch : Choice) (told : Cmd) (y : HostPast) : Type 0 where
   same : told ≡ untold_cmd own
   chosen : IsChosen ch own
 
-own_cmd : (ch : Choice) (x y : HostPast) → Pairs (FillsCmd (StandsChosen ch) (SuitsChoice ch)) x.cmd y.cmd → (c : Cmd) → x.cmd ≡ Some c → OwnCmd ch c y
-own_cmd ch x y both c told = by y.cmd refl (subst (λ (o : Option Cmd). Pairs (FillsCmd (StandsChosen ch) (SuitsChoice ch)) o y.cmd) told both)
+own_cmd : (ch : Choice) (x y : HostPast) → Pairs (ChosenCmd ch) x.cmd y.cmd → (c : Cmd) → x.cmd ≡ Some c
+    → OwnCmd ch c y
+own_cmd ch x y both c told = by y.cmd refl (subst (λ (o : Option Cmd). Pairs (ChosenCmd ch) o y.cmd) told both)
   where
-    by : (o : Option Cmd) → y.cmd ≡ o → Pairs (FillsCmd (StandsChosen ch) (SuitsChoice ch)) (Some c) o → OwnCmd ch c y
+    by : (o : Option Cmd) → y.cmd ≡ o → Pairs (ChosenCmd ch) (Some c) o → OwnCmd ch c y
     by None e is = absurd is
     by (Some own) e is = record { own = own; is = e; same = is.is; chosen = is.suits.chosen }
 
 -- what is chosen allows the answer, in whatever past is told so
 abbrev pub AllowsAnswer : ℕ → Reply → Option HostPast → State → Choice → Type 0
-AllowsAnswer m given o s ch = (k : Option HostPast) (t : State) → Pairs (FillsHost (StandsChosen ch) (SuitsChoice ch)) o k → FillsState (StandsChosen ch) s t
+AllowsAnswer m given o s ch = (k : Option HostPast) (t : State) → Pairs (ChosenHost ch) o k → ChosenState ch s t
     → OfHost k (λ host. AskAllowed m given host t)
 
 answer_of : (m : ℕ) (given : Reply) (x : HostPast) (s : State) (is : QuestionFits m given x s) → Picks (λ ch. (y : HostPast) (t : State)
-    → FillsHost (StandsChosen ch) (SuitsChoice ch) x y → FillsState (StandsChosen ch) s t → AskAllowed m given y t)
+    → ChosenHost ch x y → ChosenState ch s t → AskAllowed m given y t)
 answer_of m given x (Bad origin damage gate) is = absurd is
 answer_of m given x (Sound p a f) is =
     let pick = ask_pick (take m (with_pending a f)) given is.cmd is.fits in record { choice = pick.choice; holds = by pick.choice pick.holds }
   where
     by : (ch : Choice) → GivesAsked (take m (with_pending a f)) is.cmd given ch → (y : HostPast) (t : State)
-        → FillsHost (StandsChosen ch) (SuitsChoice ch) x y → FillsState (StandsChosen ch) (Sound p a f) t → AskAllowed m given y t
+        → ChosenHost ch x y → ChosenState ch (Sound p a f) t → AskAllowed m given y t
     by ch holds y (Bad from why gate) host state = absurd state
     by ch holds y (Sound q b g) host state =
         let all = filled_all (StandsChosen ch) a b f g state.1 state.2 in
@@ -165,15 +169,17 @@ answer_of m given x (Sound p a f) is =
           };
           cmd = cmd.own;
           told = cmd.is;
-          is = holds (take m (with_pending b g)) cmd.own (pairs_take (FillsFile (StandsChosen ch)) m (with_pending a f) (with_pending b g) all) cmd.same cmd.chosen;
+          is = holds (take m (with_pending b g)) cmd.own (pairs_take (ChosenFile ch) m (with_pending a f) (with_pending b g) all) cmd.same cmd.chosen;
         }
 
 -- an answer to a question is allowed by some bytes and listing where it fits
-pub answer_pick : (m : ℕ) (given : Reply) (o : Option HostPast) (s : State) → OfHost o (λ host. QuestionFits m given host s) → Picks (AllowsAnswer m given o s)
+pub answer_pick : (m : ℕ) (given : Reply) (o : Option HostPast) (s : State) → OfHost o (λ host. QuestionFits m given host s)
+    → Picks (AllowsAnswer m given o s)
 answer_pick m given None s fits = absurd fits
 answer_pick m given (Some x) s fits = let pick = answer_of m given x s fits in record { choice = pick.choice; holds = by pick.choice pick.holds }
   where
-    by : (ch : Choice) → ((y : HostPast) (t : State) → FillsHost (StandsChosen ch) (SuitsChoice ch) x y → FillsState (StandsChosen ch) s t → AskAllowed m given y t)
+    by : (ch : Choice)
+        → ((y : HostPast) (t : State) → ChosenHost ch x y → ChosenState ch s t → AskAllowed m given y t)
         → AllowsAnswer m given (Some x) s ch
     by ch holds None t host state = absurd host
     by ch holds (Some y) t host state = holds y t host state

@@ -12,6 +12,7 @@ use Rattle.fam_base.specs.declared.cmd.Cmd.TheVariants as cmd
 use Rattle.fam_base.specs.declared.cmd.Content.{Content}
 use Rattle.fam_base.specs.declared.cmd.Content.TheVariants as content
 use Rattle.fam_base.specs.declared.entry.Entry.{Entry}
+use Rattle.fam_rules.specs.Asks.{File}
 use Rattle.fam_rules.specs.Content.{HoldsBytes, content_byte}
 use Rattle.fam_rules.specs.Decide.{wish_of}
 use Rattle.fam_rules.specs.Solo.{content_of}
@@ -19,10 +20,11 @@ use Rattle.fam_tree.specs.Listings.{IsListed}
 use Rattle.fam_history.specs.declared.command.ToldCommand.TheVariants as told
 use Rattle.fam_history.specs.Told.{told_of_command}
 use Rattle.fam_journal.specs.Notes.{Note, Start}
+use Rattle.fam_journal.specs.Past.{HostPast, Past, State}
 use Rattle.fam_judge.specs.Alike.{AreAlikeNotes, Begins, ToldNote, told_note}
 use Rattle.fam_judge.specs.Formed.{AreSoundNotes, IsSoundCommand, IsSoundNote}
 use Rattle.fam_judge.specs.Untold.{untold, untold_bytes, untold_cmd}
-use Rattle.fam_judge.proofs.Filling.{StartSuits, StartsSuit}
+use Rattle.fam_judge.proofs.Filling.{FillBytes, FillFiles, FillsCmd, FillsFile, FillsHost, FillsPast, FillsState, StartSuits, StartsSuit}
 
 -- the bytes of files and of verifies at each offset, and a listing
 pub record Choice : Type 0 where
@@ -109,7 +111,8 @@ chosen_below f bytes low i = by (cases_lt i (length bytes))
         let none : get_or (chosen_bytes f bytes) i 0 ≡ 0 = get_or_past (chosen_bytes f bytes) i 0 (omega (arith, past, count)) in
         omega (arith, none)
 
-sound_listing : (listing old : List Entry) (b : Bool) → IsSoundCommand (cmd.Check listing) → IsSoundCommand (cmd.Check old) → IsSoundCommand (cmd.Check (if b then listing else old))
+sound_listing : (listing old : List Entry) (b : Bool) → IsSoundCommand (cmd.Check listing) → IsSoundCommand (cmd.Check old)
+    → IsSoundCommand (cmd.Check (if b then listing else old))
 sound_listing listing old true one other = one
 sound_listing listing old false one other = other
 
@@ -154,7 +157,8 @@ IsChosen ch (cmd.Verify path against) = IsChosenContent ch.wanted against
 IsChosen ch (cmd.Check listing) = length listing ≡ length ch.listing → listing ≡ ch.listing
 IsChosen ch c = ⊤
 
-listing_is : (listing old : List Entry) (b : Bool) → (length old == length listing) ≡ b → length (if b then listing else old) ≡ length listing → (if b then listing else old) ≡ listing
+listing_is : (listing old : List Entry) (b : Bool) → (length old == length listing) ≡ b
+    → length (if b then listing else old) ≡ length listing → (if b then listing else old) ≡ listing
 listing_is listing old true same count = refl
 listing_is listing old false other count = absurd (grind (arith, nat_tests))
 
@@ -207,7 +211,8 @@ past_told bytes i past =
     get_or_past (untold_bytes bytes) i 0 (omega (arith, past, count)) ∙ sym (get_or_past bytes i 0 past)
 
 -- what a command fills in
-pub chosen_fills : (ch : Choice) (c : Cmd) → SuitsChoice ch c → (i : ℕ) → StandsChosen ch i (content_byte (content_of (untold_cmd c)) i) (content_byte (content_of c) i)
+pub chosen_fills : (ch : Choice) (c : Cmd) → SuitsChoice ch c → (i : ℕ)
+    → StandsChosen ch i (content_byte (content_of (untold_cmd c)) i) (content_byte (content_of c) i)
 chosen_fills ch (cmd.Cp path attr stripe bytes) is i = (is.sound.fits.content i, by (cases_lt i (length bytes)))
   where
     by : (i < length bytes) ⊎ (length bytes ≤ i)
@@ -227,3 +232,33 @@ any_fills (cmd.Cp path attr stripe bytes) sound i = (sound.fits.content i, by (c
     by (inr past) = inl (past_told bytes i past)
 any_fills (cmd.Creat path size attr stripe fill) sound i = (content_below fill sound.fits.content i, inl refl)
 any_fills c sound i = (omega arith, inl refl)
+
+-- What is filled with what is chosen.
+
+-- bytes
+abbrev pub ChosenBytes : Choice → List ℕ → List ℕ → Type 0
+ChosenBytes ch told bytes = FillBytes (StandsChosen ch) told bytes
+
+-- a file
+abbrev pub ChosenFile : Choice → File → File → Type 0
+ChosenFile ch told file = FillsFile (StandsChosen ch) told file
+
+-- files
+abbrev pub ChosenFiles : Choice → List File → List File → Type 0
+ChosenFiles ch told files = FillFiles (StandsChosen ch) told files
+
+-- a state
+abbrev pub ChosenState : Choice → State → State → Type 0
+ChosenState ch told state = FillsState (StandsChosen ch) told state
+
+-- a command
+abbrev pub ChosenCmd : Choice → Cmd → Cmd → Type 0
+ChosenCmd ch told own = FillsCmd (StandsChosen ch) (SuitsChoice ch) told own
+
+-- a host
+abbrev pub ChosenHost : Choice → HostPast → HostPast → Type 0
+ChosenHost ch told host = FillsHost (StandsChosen ch) (SuitsChoice ch) told host
+
+-- a past
+abbrev pub ChosenPast : Choice → Past → Past → Type 0
+ChosenPast ch told past = FillsPast (StandsChosen ch) (SuitsChoice ch) told past

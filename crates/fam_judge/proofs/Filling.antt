@@ -78,6 +78,7 @@ module _ (Stands : ℕ → ℕ → ℕ → Type 0) where
   filled_all a b (Some x) None files more = absurd more
   filled_all a b (Some x) (Some y) files more = AllZip-push FillsFile a b x y files more
 
+  -- behind what is shown
   pub shows_filled : (m : ℕ) (s t : State) → FillsState s t → FillsState (shows m s) (shows m t)
   shows_filled m (Sound p a x) (Sound q b y) is =
       filled_if (m == length a + 1) (m == length b + 1) (ap (λ (n : ℕ). m == n + 1) (filled_length a b is.1)) _ _ _ _ (is.0, filled_all a b x y is.1 is.2, tt) is
@@ -193,7 +194,8 @@ module _ (Stands : ℕ → ℕ → ℕ → Type 0) where
     filled_cmd (Some x) (Some y) is = is.cmd
 
     -- a note keeps it
-    pub filled_after : (a b : Past) (note : Note) → StartSuits Suits note → FillsPast Suits a b → FillsPast Suits (past_after a (untold_note note)) (past_after b note)
+    pub filled_after : (a b : Past) (note : Note) → StartSuits Suits note → FillsPast Suits a b
+        → FillsPast Suits (past_after a (untold_note note)) (past_after b note)
     filled_after a b (Host name uuid) suits is = record {
       state = is.state;
       hosts = AllZip-push (FillsHost Suits) a.hosts b.hosts _ _ is.hosts (record { uuid = refl; cmd = tt; floor = refl; wrote = refl });
@@ -223,11 +225,13 @@ module _ (Stands : ℕ → ℕ → ℕ → Type 0) where
     filled_after a b note suits is = record { state = is.state; hosts = is.hosts }
 
     -- so do some
-    pub filled_behind : (a b : Past) (notes : List Note) → StartsSuit Suits notes → FillsPast Suits a b → FillsPast Suits (past_behind a (untold_notes notes)) (past_behind b notes)
+    pub filled_behind : (a b : Past) (notes : List Note) → StartsSuit Suits notes → FillsPast Suits a b
+        → FillsPast Suits (past_behind a (untold_notes notes)) (past_behind b notes)
     filled_behind a b [] suits is = is
     filled_behind a b (note ∷ notes) suits is =
         filled_behind (past_after a (untold_note note)) (past_after b note) notes suits.1 (filled_after a b note suits.0 is)
 
     -- the past of a journal fills that of what is told of it
-    pub filled_of : (start : Image) (notes : List Note) → StartsSuit Suits notes → FillsPast Suits (past_of start (untold_notes notes)) (past_of start notes)
+    pub filled_of : (start : Image) (notes : List Note) → StartsSuit Suits notes
+        → FillsPast Suits (past_of start (untold_notes notes)) (past_of start notes)
     filled_of start notes suits = filled_behind (first_past start) (first_past start) notes suits (first_filled start)

@@ -30,14 +30,16 @@ abbrev pub AnyFits : ℕ → ℕ → ℕ → Type 0
 AnyFits i told byte = FitsByte told byte
 
 -- the file at a path, in both
-pub at_path : (Stands : ℕ → ℕ → ℕ → Type 0) (a b : List File) (path : List ℕ) → FillFiles Stands a b → Pairs (FillsFile Stands) (file_at a path) (file_at b path)
+pub at_path : (Stands : ℕ → ℕ → ℕ → Type 0) (a b : List File) (path : List ℕ) → FillFiles Stands a b
+    → Pairs (FillsFile Stands) (file_at a path) (file_at b path)
 at_path Stands a b path files =
     pairs_find (FillsFile Stands) _ _ (λ x y one. ap (λ (e : Entry). path_eq e.path path) one.entry) a b files
 
 -- Contents.
 
 -- what is told of a byte that is wanted
-pub told_wanted : (against : Content) (n i : ℕ) → IsLong (given_count (untold_content against)) n → i < n → FitsWanted (content_byte (untold_content against) i) (content_byte against i)
+pub told_wanted : (against : Content) (n i : ℕ) → IsLong (given_count (untold_content against)) n → i < n
+    → FitsWanted (content_byte (untold_content against) i) (content_byte against i)
 told_wanted content.Zero n i long below = inl refl
 told_wanted (content.Seed seed) n i long below = inl refl
 told_wanted (content.Bytes bytes) n i long below =
@@ -100,7 +102,8 @@ given_told m told bytes given fill false other r e = subst (λ (x : Reply). Veri
 )
 
 -- a verify's reply
-pub verified_told : (m : ℕ) (told bytes : List ℕ) → FillBytes AnyFits told bytes → (against : Content) (given : Reply) → verified m bytes against ≡ given
+pub verified_told : (m : ℕ) (told bytes : List ℕ) → FillBytes AnyFits told bytes → (against : Content) (given : Reply)
+    → verified m bytes against ≡ given
     → VerifiedFits m told (untold_content against) given
 verified_told m told bytes fill content.Zero given e = compared_told m told bytes fill content.Zero tt given e
 verified_told m told bytes fill (content.Seed seed) given e = compared_told m told bytes fill (content.Seed seed) tt given e
@@ -114,7 +117,8 @@ kind_told m kind.File r given F fits e = fits e
 
 -- a reply on a file
 file_told : (m : ℕ) (x y : Option File) (given : Reply) (Fits : List ℕ → Type 0) (question : List ℕ → Reply) → Pairs (FillsFile AnyFits) x y
-    → ((told bytes : List ℕ) → FillBytes AnyFits told bytes → question bytes ≡ given → Fits told) → of_file m y question ≡ given → FileFits m x given Fits
+    → ((told bytes : List ℕ) → FillBytes AnyFits told bytes → question bytes ≡ given → Fits told) → of_file m y question ≡ given
+        → FileFits m x given Fits
 file_told m None None given Fits question both fits e = sym e
 file_told m None (Some y) given Fits question both fits e = absurd both
 file_told m (Some x) None given Fits question both fits e = absurd both
@@ -123,7 +127,8 @@ file_told m (Some x) (Some y) given Fits question both fits e =
         (ap (λ (f : Entry). of_kind m f.kind (question y.bytes)) both.entry ∙ e)
 
 -- as many bytes are read of as many
-pub read_length : (told bytes : List ℕ) (offset count : ℕ) → length bytes ≡ length told → length (file_bytes_from offset count bytes) ≡ length (file_bytes_from offset count told)
+pub read_length : (told bytes : List ℕ) (offset count : ℕ) → length bytes ≡ length told
+    → length (file_bytes_from offset count bytes) ≡ length (file_bytes_from offset count told)
 read_length told bytes offset count same =
     let one : length (take count (drop offset bytes)) ≡ min count (length (drop offset bytes)) = length-take count (drop offset bytes) in
     let other : length (take count (drop offset told)) ≡ min count (length (drop offset told)) = length-take count (drop offset told) in
@@ -139,14 +144,16 @@ read_inside bytes offset count i below =
     omega (arith, below, one, long)
 
 -- each of them
-pub read_at : (bytes : List ℕ) (offset count i : ℕ) → i < length (file_bytes_from offset count bytes) → get_or (file_bytes_from offset count bytes) i 0 ≡ get_or bytes (offset + i) 0
+pub read_at : (bytes : List ℕ) (offset count i : ℕ) → i < length (file_bytes_from offset count bytes)
+    → get_or (file_bytes_from offset count bytes) i 0 ≡ get_or bytes (offset + i) 0
 read_at bytes offset count i below =
     let one : length (take count (drop offset bytes)) ≡ min count (length (drop offset bytes)) = length-take count (drop offset bytes) in
     let short : i < count = omega (arith, below, one) in
     get_or-take count (drop offset bytes) i 0 short ∙ get_or-drop offset bytes i 0
 
 -- the same bytes of both
-read_told : (told bytes : List ℕ) (offset count : ℕ) → FillBytes AnyFits told bytes → FitBytes (file_bytes_from offset count told) (file_bytes_from offset count bytes)
+read_told : (told bytes : List ℕ) (offset count : ℕ) → FillBytes AnyFits told bytes
+    → FitBytes (file_bytes_from offset count told) (file_bytes_from offset count bytes)
 read_told told bytes offset count fill = record {
   count = read_length told bytes offset count fill.count;
   each = λ i below.
@@ -158,7 +165,8 @@ read_told told bytes offset count fill = record {
 -- Questions.
 
 -- what is asked of entries is asked of those that are told
-pub ask_told : (told files : List File) (c : Cmd) (given : Reply) → FillFiles AnyFits told files → IsSoundCommand c → ask files c ≡ Some given → AskFits told (untold_cmd c) given
+pub ask_told : (told files : List File) (c : Cmd) (given : Reply) → FillFiles AnyFits told files → IsSoundCommand c
+    → ask files c ≡ Some given → AskFits told (untold_cmd c) given
 ask_told told files cmd.Logplay given both sound e =
     ap₂ (λ (n : ℕ) (l : List Entry). Some (reply.Played n (replay l))) (filled_length AnyFits told files both) (filled_entries AnyFits told files both) ∙ e
 ask_told told files cmd.Mount given both sound e = ap (λ (n : ℕ). Some (reply.Mounted n)) (filled_length AnyFits told files both) ∙ e

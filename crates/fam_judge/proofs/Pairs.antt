@@ -38,21 +38,24 @@ module _ {A B : Type 0} (R : A → B → Type 0) where
   pairs_changed zero f g kept (x ∷ xs) (y ∷ ys) both = (kept x y both.0, both.1)
   pairs_changed (suc i) f g kept (x ∷ xs) (y ∷ ys) both = (both.0, pairs_changed i f g kept xs ys both.1)
 
-  either : (a b : Bool) → a ≡ b → (x : A) (y : B) (o : Option A) (k : Option B) → R x y → Pairs R o k → Pairs R (cond a (Some x) o) (cond b (Some y) k)
+  either : (a b : Bool) → a ≡ b → (x : A) (y : B) (o : Option A) (k : Option B) → R x y → Pairs R o k
+      → Pairs R (cond a (Some x) o) (cond b (Some y) k)
   either true true same x y o k one more = one
   either false false same x y o k one more = more
   either true false same x y o k one more = absurd (cc)
   either false true same x y o k one more = absurd (cc)
 
   -- the first that pass tests which see the same
-  pub pairs_find : (p : A → Bool) (q : B → Bool) → ((x : A) (y : B) → R x y → p x ≡ q y) → (xs : List A) (ys : List B) → AllZip R xs ys → Pairs R (find p xs) (find q ys)
+  pub pairs_find : (p : A → Bool) (q : B → Bool) → ((x : A) (y : B) → R x y → p x ≡ q y) → (xs : List A) (ys : List B) → AllZip R xs ys
+      → Pairs R (find p xs) (find q ys)
   pairs_find p q same [] [] both = tt
   pairs_find p q same [] (y ∷ ys) both = absurd both
   pairs_find p q same (x ∷ xs) [] both = absurd both
   pairs_find p q same (x ∷ xs) (y ∷ ys) both = either (p x) (q y) (same x y both.0) x y _ _ both.0 (pairs_find p q same xs ys both.1)
 
   -- what is seen of them is the same, where it is of each two
-  pub pairs_map : {C : Type 0} (f : A → C) (g : B → C) → ((x : A) (y : B) → R x y → f x ≡ g y) → (xs : List A) (ys : List B) → AllZip R xs ys → map f xs ≡ map g ys
+  pub pairs_map : {C : Type 0} (f : A → C) (g : B → C) → ((x : A) (y : B) → R x y → f x ≡ g y) → (xs : List A) (ys : List B)
+      → AllZip R xs ys → map f xs ≡ map g ys
   pairs_map f g same [] [] both = refl
   pairs_map f g same [] (y ∷ ys) both = absurd both
   pairs_map f g same (x ∷ xs) [] both = absurd both

@@ -16,8 +16,7 @@ use Rattle.fam_rules.specs.Reply as reply
 use Rattle.fam_rules.specs.Reply.{Reply}
 use Rattle.fam_judge.specs.Fitting.{FileFits, FitBytes, FitsByte, FitsWanted, IsLong, KindFits, MayBeSame, MayDiffer, ReadFits, VerifiedFits, given_count}
 use Rattle.fam_judge.specs.Untold.{untold, untold_content}
-use Rattle.fam_judge.proofs.Choosing.{Choice, IsChosenContent, StandsChosen, any}
-use Rattle.fam_judge.proofs.Filling.{FillBytes, FillsFile}
+use Rattle.fam_judge.proofs.Choosing.{ChosenBytes, ChosenFile, Choice, IsChosenContent, any}
 use Rattle.fam_judge.proofs.Fitted.{read_at, read_inside, read_length}
 use Rattle.fam_judge.proofs.Pairs.{Pairs}
 
@@ -90,7 +89,8 @@ wanted_is w a c (inr (none, is)) fits = is
 -- Contents.
 
 -- a content's bytes are told, or chosen
-content_is : (wanted : ℕ → ℕ) (against : Content) → IsChosenContent wanted against → (n i : ℕ) → IsLong (given_count (untold_content against)) n → i < n
+content_is : (wanted : ℕ → ℕ) (against : Content) → IsChosenContent wanted against → (n i : ℕ)
+    → IsLong (given_count (untold_content against)) n → i < n
     → IsWanted (wanted i) (content_byte (untold_content against) i) (content_byte against i)
 content_is wanted content.Zero is n i long below = inl (refl, omega arith)
 content_is wanted (content.Seed seed) is n i long below = inl (refl, omega arith)
@@ -99,7 +99,8 @@ content_is wanted (content.Bytes bytes) is n i long below =
     inr (get_or-replicate (length bytes) i untold 0 short, is i short)
 
 -- given bytes that are as many are compared
-verified_compared : (m : ℕ) (bytes : List ℕ) (against : Content) → IsLong (given_count (untold_content against)) (length bytes) → verified m bytes against ≡ compared m bytes against
+verified_compared : (m : ℕ) (bytes : List ℕ) (against : Content) → IsLong (given_count (untold_content against)) (length bytes)
+    → verified m bytes against ≡ compared m bytes against
 verified_compared m bytes content.Zero long = refl
 verified_compared m bytes (content.Seed seed) long = refl
 verified_compared m bytes (content.Bytes given) long = by (length given == length bytes) refl
@@ -110,7 +111,8 @@ verified_compared m bytes (content.Bytes given) long = by (length given == lengt
     by false e = let count : length given ≡ length bytes = sym (length-replicate (length given) untold) ∙ long in absurd (grind (arith, nat_tests))
 
 -- given bytes that aren't as many are told so
-verified_length : (m : ℕ) (bytes : List ℕ) (against : Content) (wanted : ℕ) → given_count (untold_content against) ≡ Some wanted → wanted ≢ length bytes
+verified_length : (m : ℕ) (bytes : List ℕ) (against : Content) (wanted : ℕ) → given_count (untold_content against) ≡ Some wanted
+    → wanted ≢ length bytes
     → verified m bytes against ≡ reply.Length m (length bytes) wanted
 verified_length m bytes content.Zero wanted given other = absurd (cc)
 verified_length m bytes (content.Seed seed) wanted given other = absurd (cc)
@@ -128,7 +130,7 @@ verified_length m bytes (content.Bytes own) wanted given other = by (length own 
 
 -- what is chosen gives this reply, for whatever content is told so
 abbrev pub GivesVerified : ℕ → List ℕ → Content → Reply → Choice → Type 0
-GivesVerified m told content given ch = (bytes : List ℕ) (against : Content) → FillBytes (StandsChosen ch) told bytes → content ≡ untold_content against
+GivesVerified m told content given ch = (bytes : List ℕ) (against : Content) → ChosenBytes ch told bytes → content ≡ untold_content against
     → IsChosenContent ch.wanted against → verified m bytes against ≡ given
 
 same_passes : (a b : ℕ) → a ≡ b → not (a == b) ≡ false
@@ -180,11 +182,13 @@ module _ (m : ℕ) (told : List ℕ) (content : Content) where
     compares : length bytes ≡ length told → verified m bytes against ≡ compared m bytes against
     compares count = verified_compared m bytes against (long_own (length bytes) (sym count))
 
-    wants : (wanted : ℕ → ℕ) → IsChosenContent wanted against → (i : ℕ) → i < length told → IsWanted (wanted i) (content_byte content i) (content_byte against i)
+    wants : (wanted : ℕ → ℕ) → IsChosenContent wanted against → (i : ℕ) → i < length told
+        → IsWanted (wanted i) (content_byte content i) (content_byte against i)
     wants wanted chosen i below =
         subst (λ (c : Content). IsWanted (wanted i) (content_byte c i) (content_byte against i)) (sym is) (content_is wanted against chosen (length told) i (long_own (length told) refl) below)
 
-    all_same : FillBytes (StandsChosen same_choice) told bytes → IsChosenContent both against → MayBeSame told content → verified m bytes against ≡ reply.Same m
+    all_same : ChosenBytes same_choice told bytes → IsChosenContent both against → MayBeSame told content
+        → verified m bytes against ≡ reply.Same m
     all_same fill chosen may =
         compares fill.count ∙ ap (compared_at m bytes against) (none_is _ (length bytes) same (first_difference bytes against) (searched _ (length bytes) 0))
       where
@@ -193,7 +197,7 @@ module _ (m : ℕ) (told : List ℕ) (content : Content) where
             let inside : o < length told = omega (arith, below, fill.count) in
             same_passes _ _ (same_picked (slice_index told o) (slice_index bytes o) (content_byte content o) (content_byte against o) (fill.each o inside) (wants both chosen o inside) (may o inside))
 
-    one_differs : (o f w : ℕ) (may : MayDiffer told content o f w) → FillBytes (StandsChosen (differs_choice o f w may.found_fits.0)) told bytes
+    one_differs : (o f w : ℕ) (may : MayDiffer told content o f w) → ChosenBytes (differs_choice o f w may.found_fits.0) told bytes
         → IsChosenContent (except o w) against → verified m bytes against ≡ reply.Differs m o f w
     one_differs o f w may fill chosen =
         compares fill.count ∙ ap (compared_at m bytes against) (first_is _ (length bytes) o (omega (arith, may.within, fill.count)) passes before (first_difference bytes against) (searched _ (length bytes) 0))
@@ -241,7 +245,7 @@ module _ (m : ℕ) (told : List ℕ) (content : Content) where
 -- Reads.
 
 read_same : (told bytes found : List ℕ) (offset count : ℕ) (ch : Choice) → ((i : ℕ) → ch.source i ≡ pick (slice_index found (i - offset)) 0)
-    → FitBytes (file_bytes_from offset count told) found → FillBytes (StandsChosen ch) told bytes → file_bytes_from offset count bytes ≡ found
+    → FitBytes (file_bytes_from offset count told) found → ChosenBytes ch told bytes → file_bytes_from offset count bytes ≡ found
 read_same told bytes found offset count ch is fit fill = ext_get_or 0 (file_bytes_from offset count bytes) found (same ∙ sym fit.count) each
   where
     same : length (file_bytes_from offset count bytes) ≡ length (file_bytes_from offset count told)
@@ -261,7 +265,7 @@ read_same told bytes found offset count ch is fit fill = ext_get_or 0 (file_byte
 
 -- a read's reply is given by some bytes where it fits
 pub read_pick : (m : ℕ) (told : List ℕ) (offset count : ℕ) (given : Reply) → ReadFits m told offset count given
-    → Picks (λ ch. (bytes : List ℕ) → FillBytes (StandsChosen ch) told bytes → reply.Bytes m (file_bytes_from offset count bytes) ≡ given)
+    → Picks (λ ch. (bytes : List ℕ) → ChosenBytes ch told bytes → reply.Bytes m (file_bytes_from offset count bytes) ≡ given)
 read_pick m told offset count given fits =
     let ch : Choice = record any { source = λ i. pick (slice_index fits.0 (i - offset)) 0; bytes = λ i. pick_below (slice_index fits.0 (i - offset)) 0 } in record {
       choice = ch;
@@ -271,24 +275,26 @@ read_pick m told offset count given fits =
 -- Files.
 
 module _ {D : Type 0} (Good : Choice → D → Type 0) (question : D → List ℕ → Reply) (m : ℕ) (given : Reply) (Fits : List ℕ → Type 0)
-    (picks : (told : List ℕ) → Fits told → Picks (λ ch. (d : D) (bytes : List ℕ) → Good ch d → FillBytes (StandsChosen ch) told bytes → question d bytes ≡ given)) where
+    (picks : (told : List ℕ) → Fits told → Picks (λ ch. (d : D) (bytes : List ℕ) → Good ch d → ChosenBytes ch told bytes → question d bytes ≡ given)) where
   kind_pick : (k : Kind) (told : List ℕ) → KindFits m k given (Fits told)
-      → Picks (λ ch. (d : D) (bytes : List ℕ) → Good ch d → FillBytes (StandsChosen ch) told bytes → of_kind m k (question d bytes) ≡ given)
+      → Picks (λ ch. (d : D) (bytes : List ℕ) → Good ch d → ChosenBytes ch told bytes → of_kind m k (question d bytes) ≡ given)
   kind_pick kind.Directory told fits = record { choice = any; holds = λ d bytes good fill. sym fits }
   kind_pick kind.File told fits = picks told fits
 
-  none_pick : given ≡ reply.NotFound m → (ch : Choice) (d : D) (y : Option File) → Pairs (FillsFile (StandsChosen ch)) None y → of_file m y (question d) ≡ given
+  none_pick : given ≡ reply.NotFound m → (ch : Choice) (d : D) (y : Option File) → Pairs (ChosenFile ch) None y
+      → of_file m y (question d) ≡ given
   none_pick fits ch d None both = sym fits
   none_pick fits ch d (Some y) both = absurd both
 
-  some_pick : (x : File) (ch : Choice) → ((d : D) (bytes : List ℕ) → Good ch d → FillBytes (StandsChosen ch) x.bytes bytes → of_kind m x.entry.kind (question d bytes) ≡ given)
-      → (d : D) (y : Option File) → Good ch d → Pairs (FillsFile (StandsChosen ch)) (Some x) y → of_file m y (question d) ≡ given
+  some_pick : (x : File) (ch : Choice)
+      → ((d : D) (bytes : List ℕ) → Good ch d → ChosenBytes ch x.bytes bytes → of_kind m x.entry.kind (question d bytes) ≡ given)
+      → (d : D) (y : Option File) → Good ch d → Pairs (ChosenFile ch) (Some x) y → of_file m y (question d) ≡ given
   some_pick x ch holds d None good both = absurd both
   some_pick x ch holds d (Some y) good both = ap (λ (e : Entry). of_kind m e.kind (question d y.bytes)) (sym both.entry) ∙ holds d y.bytes good both.bytes
 
   -- by what stands at a path
   pub file_pick : (x : Option File) → FileFits m x given Fits
-      → Picks (λ ch. (d : D) (y : Option File) → Good ch d → Pairs (FillsFile (StandsChosen ch)) x y → of_file m y (question d) ≡ given)
+      → Picks (λ ch. (d : D) (y : Option File) → Good ch d → Pairs (ChosenFile ch) x y → of_file m y (question d) ≡ given)
   file_pick None fits = record { choice = any; holds = λ d y good both. none_pick fits any d y both }
   file_pick (Some x) fits =
       let some = kind_pick x.entry.kind x.bytes fits in
