@@ -67,7 +67,8 @@ entries_all a b None None same more = same
 entries_all a b None (Some y) same more = absurd (cc)
 entries_all a b (Some x) None same more = absurd (cc)
 entries_all a b (Some x) (Some y) same more =
-    map-append entry_of a (x ∷ []) ∙ ap₂ (λ (l : List Entry) (e : Entry). l ++ e ∷ []) same (same_Some x.entry y.entry more) ∙ sym (map-append entry_of b (y ∷ []))
+    map-append entry_of a (x ∷ []) ∙ ap₂ (λ (l : List Entry) (e : Entry). l ++ e ∷ []) same (same_Some x.entry y.entry more)
+        ∙ sym (map-append entry_of b (y ∷ []))
 
 none_too : (x y : Option File) → option_map entry_of x ≡ option_map entry_of y → x ≡ None → y ≡ None
 none_too x None same none = refl
@@ -84,7 +85,8 @@ cmd_too : (x y : HostPast) → AgreeHosts x y → (cmd : Cmd) → x.cmd ≡ Some
 cmd_too x y agree cmd told = by y.cmd refl
   where
     by : (o : Option Cmd) → y.cmd ≡ o → TellsSame cmd y
-    by None e = absurd (let no : Some (untold_cmd cmd) ≡ None = sym (ap (option_map untold_cmd) told) ∙ agree.cmd ∙ ap (option_map untold_cmd) e in cc)
+    by None e = absurd (
+        let no : Some (untold_cmd cmd) ≡ None = sym (ap (option_map untold_cmd) told) ∙ agree.cmd ∙ ap (option_map untold_cmd) e in cc)
     by (Some other) e = record {
       other = other;
       told = e;
@@ -112,7 +114,8 @@ decided_agrees x y p q a b f g decision agree params same more is =
       cmd = cmd.other;
       told = cmd.told;
       none = none_too f g more is.none;
-      is = sym (ap₂ (λ (r : Params) (w : Option Wish). option_map (decide_wish r x.uuid (entries_of a)) w) params (same_wish is.cmd cmd.other cmd.same)
+      is = sym (ap₂ (λ (r : Params) (w : Option Wish). option_map (decide_wish r x.uuid (entries_of a)) w) params
+              (same_wish is.cmd cmd.other cmd.same)
           ∙ ap₂ (λ (me : List ℕ) (l : List Entry). option_map (decide_wish q me l) (wish_of cmd.other)) agree.uuid same) ∙ is.is;
     }
 
@@ -132,7 +135,8 @@ writes_agrees seq e x y (Sound p a f) (Bad from why count) agree is allowed = ab
 writes_agrees seq e x y (Bad origin damage gate) t agree is allowed = absurd allowed
 
 -- and be acknowledged
-pub appended_agrees : (seq : ℕ) (x y : HostPast) (s t : State) → AgreeHosts x y → AgreeStates s t → AppendedAllowed seq x s → AppendedAllowed seq y t
+pub appended_agrees : (seq : ℕ) (x y : HostPast) (s t : State) → AgreeHosts x y → AgreeStates s t
+    → AppendedAllowed seq x s → AppendedAllowed seq y t
 appended_agrees seq x y (Sound p a f) (Sound q b g) agree is allowed = record {
   entry = allowed.entry;
   named = sym agree.wrote ∙ allowed.named;

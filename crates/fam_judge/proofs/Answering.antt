@@ -45,7 +45,8 @@ is_of told own same = subst (λ (c : Cmd). IsOf c own) (sym same) (own_of own)
 
 -- what is chosen gives this reply, for whatever files and command are told so
 abbrev GivesAsked : List File → Cmd → Reply → Choice → Type 0
-GivesAsked told c given ch = (files : List File) (own : Cmd) → ChosenFiles ch told files → c ≡ untold_cmd own → IsChosen ch own → ask files own ≡ Some given
+GivesAsked told c given ch = (files : List File) (own : Cmd) → ChosenFiles ch told files
+    → c ≡ untold_cmd own → IsChosen ch own → ask files own ≡ Some given
 
 module _ (told : List File) (given : Reply) where
   count : (ch : Choice) (files : List File) → ChosenFiles ch told files → length files ≡ length told
@@ -58,19 +59,22 @@ module _ (told : List File) (given : Reply) where
   play_pick fits = record {
     choice = any;
     holds = λ files own fill same chosen.
-        ap (ask files) (is_of cmd.Logplay own same) ∙ ap₂ (λ (n : ℕ) (l : List Entry). Some (reply.Played n (replay l))) (count any files fill) (entries any files fill) ∙ fits;
+        ap (ask files) (is_of cmd.Logplay own same)
+        ∙ ap₂ (λ (n : ℕ) (l : List Entry). Some (reply.Played n (replay l))) (count any files fill) (entries any files fill) ∙ fits;
   }
 
   mount_pick : ask told cmd.Mount ≡ Some given → Picks (GivesAsked told cmd.Mount given)
   mount_pick fits = record {
     choice = any;
-    holds = λ files own fill same chosen. ap (ask files) (is_of cmd.Mount own same) ∙ ap (λ (n : ℕ). Some (reply.Mounted n)) (count any files fill) ∙ fits;
+    holds = λ files own fill same chosen.
+        ap (ask files) (is_of cmd.Mount own same) ∙ ap (λ (n : ℕ). Some (reply.Mounted n)) (count any files fill) ∙ fits;
   }
 
   path_pick : (path : List ℕ) (against : Content) → AskFits told (cmd.Verify path against) given
       → Picks (GivesAsked told (cmd.Verify path against) given)
   path_pick path against fits =
-      let pick = file_pick (λ ch (wanted : Content). (against ≡ untold_content wanted) × IsChosenContent ch.wanted wanted) (λ wanted bytes. verified (length told) bytes wanted) (length told) given
+      let pick = file_pick (λ ch (wanted : Content). (against ≡ untold_content wanted) × IsChosenContent ch.wanted wanted)
+          (λ wanted bytes. verified (length told) bytes wanted) (length told) given
           (λ bytes. VerifiedFits (length told) bytes against given)
           (λ bytes is. let one = verify_pick (length told) bytes against given is in
               record { choice = one.choice; holds = λ wanted own good fill. one.holds own wanted fill good.0 good.1 })
@@ -89,12 +93,14 @@ module _ (told : List File) (given : Reply) where
   bytes_pick path offset most fits =
       let pick = file_pick {D = ⊤} (λ ch d. ⊤) (λ d bytes. reply.Bytes (length told) (file_bytes_from offset most bytes)) (length told) given
           (λ bytes. ReadFits (length told) bytes offset most given)
-          (λ bytes is. let one = read_pick (length told) bytes offset most given is in record { choice = one.choice; holds = λ d own good fill. one.holds own fill })
+          (λ bytes is. let one = read_pick (length told) bytes offset most given is in
+              record { choice = one.choice; holds = λ d own good fill. one.holds own fill })
           (file_at told path) fits in record {
         choice = pick.choice;
         holds = λ files own fill same chosen.
             ap (ask files) (is_of (cmd.Read path offset most) own same)
-            ∙ ap (λ (n : ℕ). Some (of_file n (file_at files path) (λ bytes. reply.Bytes n (file_bytes_from offset most bytes)))) (count pick.choice files fill)
+            ∙ ap (λ (n : ℕ). Some (of_file n (file_at files path) (λ bytes. reply.Bytes n (file_bytes_from offset most bytes))))
+                (count pick.choice files fill)
             ∙ ap Some (pick.holds tt (file_at files path) tt (at_path (StandsChosen pick.choice) told files path fill));
       }
 
@@ -169,7 +175,8 @@ answer_of m given x (Sound p a f) is =
           };
           cmd = cmd.own;
           told = cmd.is;
-          is = holds (take m (with_pending b g)) cmd.own (pairs_take (ChosenFile ch) m (with_pending a f) (with_pending b g) all) cmd.same cmd.chosen;
+          is = holds (take m (with_pending b g)) cmd.own
+              (pairs_take (ChosenFile ch) m (with_pending a f) (with_pending b g) all) cmd.same cmd.chosen;
         }
 
 -- an answer to a question is allowed by some bytes and listing where it fits

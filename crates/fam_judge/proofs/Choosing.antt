@@ -22,6 +22,7 @@ use Rattle.fam_history.specs.Told.{told_of_command}
 use Rattle.fam_journal.specs.Notes.{Note, Start}
 use Rattle.fam_journal.specs.Past.{HostPast, Past, State}
 use Rattle.fam_judge.specs.Alike.{AreAlikeNotes, Begins, ToldNote, told_note}
+use Rattle.fam_judge.specs.Fitting.{FitsByte}
 use Rattle.fam_judge.specs.Formed.{AreSoundNotes, IsSoundCommand, IsSoundNote}
 use Rattle.fam_judge.specs.Untold.{untold, untold_bytes, untold_cmd}
 use Rattle.fam_judge.proofs.Filling.{FillBytes, FillFiles, FillsCmd, FillsFile, FillsHost, FillsPast, FillsState, StartSuits, StartsSuit}
@@ -39,7 +40,8 @@ unfolding IsStrictlySortedBy
 none_listed = record {
   limits = tt;
   fits = record { wish = λ w e. absurd (cc); content = tt };
-  listed = λ entries e. let none : [] ≡ entries = cc in subst (λ (l : List Entry). All IsListed l) none (λ k x below. absurd (omega (arith, below)));
+  listed = λ entries e. let none : [] ≡ entries = cc in
+      subst (λ (l : List Entry). All IsListed l) none (λ k x below. absurd (omega (arith, below)));
 }
 
 -- where nothing is to choose
@@ -75,7 +77,8 @@ listing_length listing old true same = grind (arith, nat_tests)
 listing_length listing old false other = refl
 
 told_chosen : (ch : Choice) (c : Cmd) → told_of_command (chosen_cmd ch c) ≡ told_of_command c
-told_chosen ch (cmd.Cp path attr stripe bytes) = ap (λ (n : ℕ). told.Cp path n attr stripe) (length-map-range_with_len ch.source 0 (length bytes))
+told_chosen ch (cmd.Cp path attr stripe bytes) =
+    ap (λ (n : ℕ). told.Cp path n attr stripe) (length-map-range_with_len ch.source 0 (length bytes))
 told_chosen ch (cmd.Verify path content.Zero) = refl
 told_chosen ch (cmd.Verify path (content.Seed seed)) = refl
 told_chosen ch (cmd.Verify path (content.Bytes bytes)) = ap (told.VerifySource path) (length-map-range_with_len ch.wanted 0 (length bytes))
@@ -224,10 +227,11 @@ chosen_fills ch c is i = (omega arith, inl refl)
 
 -- what any command fills in
 pub any_fills : (c : Cmd) → IsSoundCommand c → (i : ℕ)
-    → (content_byte (content_of c) i < 256) × ((content_byte (content_of (untold_cmd c)) i ≡ content_byte (content_of c) i) ⊎ (content_byte (content_of (untold_cmd c)) i ≡ untold))
+    → FitsByte (content_byte (content_of (untold_cmd c)) i) (content_byte (content_of c) i)
 any_fills (cmd.Cp path attr stripe bytes) sound i = (sound.fits.content i, by (cases_lt i (length bytes)))
   where
-    by : (i < length bytes) ⊎ (length bytes ≤ i) → (get_or (untold_bytes bytes) i 0 ≡ get_or bytes i 0) ⊎ (get_or (untold_bytes bytes) i 0 ≡ untold)
+    by : (i < length bytes) ⊎ (length bytes ≤ i)
+        → (get_or (untold_bytes bytes) i 0 ≡ get_or bytes i 0) ⊎ (get_or (untold_bytes bytes) i 0 ≡ untold)
     by (inl below) = inr (get_or-replicate (length bytes) i untold 0 below)
     by (inr past) = inl (past_told bytes i past)
 any_fills (cmd.Creat path size attr stripe fill) sound i = (content_below fill sound.fits.content i, inl refl)

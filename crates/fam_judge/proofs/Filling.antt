@@ -16,7 +16,8 @@ use Rattle.fam_rules.specs.Asks.{File, entries_of}
 use Rattle.fam_rules.specs.Content.{content_byte, fill}
 use Rattle.fam_rules.specs.Solo.{content_of, held_file}
 use Rattle.fam_journal.specs.Notes.{Answer, Note, Host, Made, Cut, Start, Mark, Found, Writes, Answered}
-use Rattle.fam_journal.specs.Past.{Bad, HostPast, Past, Sound, State, acknowledges, cmd_of, ended_state, filled_bytes, finds, first_past, past_after, past_behind, past_of, pends, settled_length, shows, shows_count, state_read, with_pending}
+use Rattle.fam_journal.specs.Past.{Bad, HostPast, Past, Sound, State, acknowledges, cmd_of, ended_state, filled_bytes, finds, first_past}
+use Rattle.fam_journal.specs.Past.{past_after, past_behind, past_of, pends, settled_length, shows, shows_count, state_read, with_pending}
 use Rattle.fam_judge.specs.Untold.{untold_cmd, untold_note, untold_notes}
 use Rattle.fam_judge.proofs.Pairs.{Pairs, pairs_changed, pairs_get, pairs_map}
 use Rattle.fam_judge.proofs.Sizes.{acknowledged, effect, ended_is}
@@ -57,7 +58,8 @@ module _ (Stands : ℕ → ℕ → ℕ → Type 0) where
   -- States.
 
   -- by a test
-  pub filled_if : (b c : Bool) → b ≡ c → (s t x y : State) → FillsState s x → FillsState t y → FillsState (if b then s else t) (if c then x else y)
+  pub filled_if : (b c : Bool) → b ≡ c → (s t x y : State) → FillsState s x → FillsState t y
+      → FillsState (if b then s else t) (if c then x else y)
   filled_if true true same s t x y one other = one
   filled_if false false same s t x y one other = other
   filled_if true false same s t x y one other = absurd (cc)
@@ -81,7 +83,8 @@ module _ (Stands : ℕ → ℕ → ℕ → Type 0) where
   -- behind what is shown
   pub shows_filled : (m : ℕ) (s t : State) → FillsState s t → FillsState (shows m s) (shows m t)
   shows_filled m (Sound p a x) (Sound q b y) is =
-      filled_if (m == length a + 1) (m == length b + 1) (ap (λ (n : ℕ). m == n + 1) (filled_length a b is.1)) _ _ _ _ (is.0, filled_all a b x y is.1 is.2, tt) is
+      filled_if (m == length a + 1) (m == length b + 1) (ap (λ (n : ℕ). m == n + 1) (filled_length a b is.1)) _ _ _ _
+          (is.0, filled_all a b x y is.1 is.2, tt) is
   shows_filled m (Sound p a x) (Bad from why count) is = absurd is
   shows_filled m (Bad origin damage gate) (Sound q b y) is = absurd is
   shows_filled m (Bad origin damage gate) (Bad from why count) is = is
@@ -92,7 +95,8 @@ module _ (Stands : ℕ → ℕ → ℕ → Type 0) where
 
   finds_filled : (n : ℕ) (s t : State) → FillsState s t → FillsState (finds n s) (finds n t)
   finds_filled n (Sound p a x) (Sound q b y) is =
-      filled_if (n == length a) (n == length b) (ap (λ (m : ℕ). n == m) (filled_length a b is.1)) _ _ _ _ (is.0, is.1, tt) (shows_filled n (Sound p a x) (Sound q b y) is)
+      filled_if (n == length a) (n == length b) (ap (λ (m : ℕ). n == m) (filled_length a b is.1)) _ _ _ _
+          (is.0, is.1, tt) (shows_filled n (Sound p a x) (Sound q b y) is)
   finds_filled n (Sound p a x) (Bad from why count) is = absurd is
   finds_filled n (Bad origin damage gate) (Sound q b y) is = absurd is
   finds_filled n (Bad origin damage gate) (Bad from why count) is = is
@@ -159,7 +163,8 @@ module _ (Stands : ℕ → ℕ → ℕ → Type 0) where
           let short : i < n = subst (λ (k : ℕ). i < k) (length-map-range_with_len f 0 n) below in
           let one : get_or (map f (range_with_len 0 n)) i 0 ≡ f i = get_or-map-range_with_len f 0 n i i 0 short (omega arith) in
           let other : get_or (map g (range_with_len 0 n)) i 0 ≡ g i = get_or-map-range_with_len g 0 n i i 0 short (omega arith) in
-          subst (λ (b : ℕ). Stands i b (get_or (map g (range_with_len 0 n)) i 0)) (sym one) (subst (λ (b : ℕ). Stands i (f i) b) (sym other) (stands i));
+          subst (λ (b : ℕ). Stands i b (get_or (map g (range_with_len 0 n)) i 0)) (sym one)
+              (subst (λ (b : ℕ). Stands i (f i) b) (sym other) (stands i));
     }
 
     filled_files : (memory : Lines) (entries : List Entry) → FillFiles (map (held_file memory) entries) (map (held_file memory) entries)
@@ -175,7 +180,8 @@ module _ (Stands : ℕ → ℕ → ℕ → Type 0) where
     -- what an image holds is told
     pub first_filled : (image : Image) → FillsPast Suits (first_past image) (first_past image)
     first_filled image = record {
-      state = filled_if (nat_lt (length image) least_lines) (nat_lt (length image) least_lines) refl _ _ _ _ (refl, refl, refl) (read_filled image (reading image));
+      state = filled_if (nat_lt (length image) least_lines) (nat_lt (length image) least_lines) refl _ _ _ _
+          (refl, refl, refl) (read_filled image (reading image));
       hosts = tt;
     }
 
@@ -208,18 +214,22 @@ module _ (Stands : ℕ → ℕ → ℕ → Type 0) where
     filled_after a b (Start h cmd) suits is = record {
       state = is.state;
       hosts = pairs_changed (FillsHost Suits) h _ _
-          (λ x y one. record { uuid = one.uuid; cmd = record { is = refl; suits = suits }; floor = refl; wrote = refl }) a.hosts b.hosts is.hosts;
+          (λ x y one. record { uuid = one.uuid; cmd = record { is = refl; suits = suits }; floor = refl; wrote = refl })
+          a.hosts b.hosts is.hosts;
     }
     filled_after a b (Mark h) suits is = record {
       state = is.state;
       hosts = pairs_changed (FillsHost Suits) h _ _
-          (λ x y one. record { uuid = one.uuid; cmd = one.cmd; floor = ap Some (settled_filled a.state b.state is.state); wrote = one.wrote }) a.hosts b.hosts is.hosts;
+          (λ x y one. record { uuid = one.uuid; cmd = one.cmd; floor = ap Some (settled_filled a.state b.state is.state); wrote = one.wrote })
+          a.hosts b.hosts is.hosts;
     }
     filled_after a b (Found h n) suits is = record { state = finds_filled n a.state b.state is.state; hosts = is.hosts }
     filled_after a b (Writes h seq e) suits is = record {
       state = pends_filled _ _ a.state b.state
-          (record { entry = refl; bytes = filled_new _ _ e.size (filled_cmd _ _ (pairs_get (FillsHost Suits) a.hosts b.hosts h is.hosts)) }) is.state;
-      hosts = pairs_changed (FillsHost Suits) h _ _ (λ x y one. record { uuid = one.uuid; cmd = one.cmd; floor = one.floor; wrote = refl }) a.hosts b.hosts is.hosts;
+          (record { entry = refl; bytes = filled_new _ _ e.size (filled_cmd _ _ (pairs_get (FillsHost Suits) a.hosts b.hosts h is.hosts)) })
+          is.state;
+      hosts = pairs_changed (FillsHost Suits) h _ _
+          (λ x y one. record { uuid = one.uuid; cmd = one.cmd; floor = one.floor; wrote = refl }) a.hosts b.hosts is.hosts;
     }
     filled_after a b (Answered h answer) suits is = record { state = ended_filled answer a.state b.state is.state; hosts = is.hosts }
     filled_after a b note suits is = record { state = is.state; hosts = is.hosts }

@@ -63,14 +63,16 @@ test_other a b e same = grind (arith, nat_tests)
 module _ (m : ℕ) (told bytes : List ℕ) (fill : FillBytes AnyFits told bytes) (against : Content) where
   compared_told : IsLong (given_count (untold_content against)) (length told) → (given : Reply) → compared m bytes against ≡ given
       → VerifiedFits m told (untold_content against) given
-  compared_told long given e = subst (λ (r : Reply). VerifiedFits m told (untold_content against) r) e (by (first_difference bytes against) (searched _ (length bytes) 0))
+  compared_told long given e =
+      subst (λ (r : Reply). VerifiedFits m told (untold_content against) r) e (by (first_difference bytes against) (searched _ (length bytes) 0))
     where
       differs : ℕ → Bool
       differs o = not (slice_index bytes o == content_byte against o)
 
       agree : (i : ℕ) → i < length told → differs i ≡ false → MayAgree told (untold_content against) i
       agree i below same =
-          agrees _ _ _ _ (fill.each i below) (told_wanted against (length told) i long below) (test_same (slice_index bytes i) (content_byte against i) same)
+          agrees _ _ _ _ (fill.each i below) (told_wanted against (length told) i long below)
+              (test_same (slice_index bytes i) (content_byte against i) same)
 
       by : (o : Option ℕ) → IsSearched differs 0 (length bytes) o → VerifiedFits m told (untold_content against) (compared_at m bytes against o)
       by None none = (refl, long, λ i below. agree i below (none i (omega arith) (omega (arith, fill.count))))
@@ -157,9 +159,11 @@ read_told : (told bytes : List ℕ) (offset count : ℕ) → FillBytes AnyFits t
 read_told told bytes offset count fill = record {
   count = read_length told bytes offset count fill.count;
   each = λ i below.
-      let own : i < length (file_bytes_from offset count bytes) = subst (λ (n : ℕ). i < n) (sym (read_length told bytes offset count fill.count)) below in
+      let own : i < length (file_bytes_from offset count bytes) =
+          subst (λ (n : ℕ). i < n) (sym (read_length told bytes offset count fill.count)) below in
       subst (λ (t : ℕ). FitsByte t (get_or (file_bytes_from offset count bytes) i 0)) (sym (read_at told offset count i below))
-          (subst (λ (b : ℕ). FitsByte (get_or told (offset + i) 0) b) (sym (read_at bytes offset count i own)) (fill.each (offset + i) (read_inside told offset count i below)));
+          (subst (λ (b : ℕ). FitsByte (get_or told (offset + i) 0) b) (sym (read_at bytes offset count i own))
+              (fill.each (offset + i) (read_inside told offset count i below)));
 }
 
 -- Questions.
@@ -168,16 +172,19 @@ read_told told bytes offset count fill = record {
 pub ask_told : (told files : List File) (c : Cmd) (given : Reply) → FillFiles AnyFits told files → IsSoundCommand c
     → ask files c ≡ Some given → AskFits told (untold_cmd c) given
 ask_told told files cmd.Logplay given both sound e =
-    ap₂ (λ (n : ℕ) (l : List Entry). Some (reply.Played n (replay l))) (filled_length AnyFits told files both) (filled_entries AnyFits told files both) ∙ e
+    ap₂ (λ (n : ℕ) (l : List Entry). Some (reply.Played n (replay l))) (filled_length AnyFits told files both)
+        (filled_entries AnyFits told files both) ∙ e
 ask_told told files cmd.Mount given both sound e = ap (λ (n : ℕ). Some (reply.Mounted n)) (filled_length AnyFits told files both) ∙ e
 ask_told told files (cmd.Verify path against) given both sound e =
     let n = filled_length AnyFits told files both in
-    file_told (length told) (file_at told path) (file_at files path) given _ (λ bytes. verified (length told) bytes against) (at_path AnyFits told files path both)
+    file_told (length told) (file_at told path) (file_at files path) given _ (λ bytes. verified (length told) bytes against)
+        (at_path AnyFits told files path both)
         (λ x bytes fill is. verified_told (length told) x bytes fill against given is)
         (ap (λ (m : ℕ). of_file m (file_at files path) (λ bytes. verified m bytes against)) n ∙ same_Some _ given e)
 ask_told told files (cmd.Read path offset count) given both sound e =
     let n = filled_length AnyFits told files both in
-    file_told (length told) (file_at told path) (file_at files path) given _ (λ bytes. reply.Bytes (length told) (file_bytes_from offset count bytes)) (at_path AnyFits told files path both)
+    file_told (length told) (file_at told path) (file_at files path) given _ (λ bytes. reply.Bytes (length told) (file_bytes_from offset count bytes))
+        (at_path AnyFits told files path both)
         (λ x bytes fill is. (file_bytes_from offset count bytes, sym is, read_told x bytes offset count fill))
         (ap (λ (m : ℕ). of_file m (file_at files path) (λ bytes. reply.Bytes m (file_bytes_from offset count bytes))) n ∙ same_Some _ given e)
 ask_told told files (cmd.Check listing) given both sound e =

@@ -71,7 +71,8 @@ chosen_filled : (start : Image) (ch : Choice) (notes : List Note) → AreSoundNo
 chosen_filled start ch notes sound =
     subst (λ (l : List Note). ChosenPast ch (past_of start l) (past_of start (map (chosen_note ch) notes)))
     (sym (alike_notes_untold notes (map (chosen_note ch) notes) (notes_told ch notes)))
-    (filled_of (StandsChosen ch) (SuitsChoice ch) (λ i b low. (low, inl refl)) (chosen_fills ch) start (map (chosen_note ch) notes) (starts_suit ch notes sound))
+    (filled_of (StandsChosen ch) (SuitsChoice ch) (λ i b low. (low, inl refl)) (chosen_fills ch) start (map (chosen_note ch) notes)
+        (starts_suit ch notes sound))
 
 -- What is allowed fits.
 
@@ -100,7 +101,8 @@ question_fits : (m : ℕ) (given : Reply) (x y : HostPast) (s t : State) → Any
 question_fits m given x y (Sound p a f) (Sound q b g) host state allowed =
     let all = filled_all AnyFits a b f g state.1 state.2 in
     let cmd = cmd_told x y host.cmd allowed.cmd allowed.told in record {
-      bounds = floor_told x y m (with_pending a f) (with_pending b g) host.floor (filled_length AnyFits (with_pending a f) (with_pending b g) all) allowed.bounds;
+      bounds = floor_told x y m (with_pending a f) (with_pending b g) host.floor
+          (filled_length AnyFits (with_pending a f) (with_pending b g) all) allowed.bounds;
       cmd = untold_cmd allowed.cmd;
       told = cmd.told;
       fits = ask_told (take m (with_pending a f)) (take m (with_pending b g)) allowed.cmd given
@@ -119,8 +121,8 @@ module _ (x y : HostPast) (s t : State) (host : AnyHost x y) (state : AnyState s
 
   reply_fits : (given : Reply) → ReplyAllowed given y t → ReplyFits given x s
   reply_fits (reply.Appended seq) allowed =
-      appended_agrees seq y x (acknowledges seq t) (acknowledges seq s) back_host
-      (agree_back (acknowledges seq s) (acknowledges seq t) (states_agree (acknowledges seq s) (acknowledges seq t) (acknowledged_filled AnyFits seq s t state))) allowed
+      let same = states_agree (acknowledges seq s) (acknowledges seq t) (acknowledged_filled AnyFits seq s t state) in
+      appended_agrees seq y x (acknowledges seq t) (acknowledges seq s) back_host (agree_back (acknowledges seq s) (acknowledges seq t) same) allowed
   reply_fits (reply.NotAppended why) allowed = cause_agrees why y x t s back_host back_state allowed
   reply_fits (reply.Reports report) allowed = report_agrees report y x t s back_host back_state allowed
   reply_fits (reply.NoSuperblock fault) allowed = damage_agrees (NoSuperblock fault) t s back_state allowed
@@ -159,10 +161,12 @@ to_host (Some x) None is P Q step fits = absurd is
 to_host (Some x) (Some y) is P Q step fits = step x y is fits
 
 allowed_fits : (told past : Past) (note : Note) → AnyPast told past → Allowed past note → Fits told note
-allowed_fits told past (Found h n) is allowed = found_agrees n past.state told.state (agree_back told.state past.state (states_agree told.state past.state is.state)) allowed
+allowed_fits told past (Found h n) is allowed =
+    found_agrees n past.state told.state (agree_back told.state past.state (states_agree told.state past.state is.state)) allowed
 allowed_fits told past (Writes h seq e) is allowed =
     of_host (slice_get told.hosts h) (slice_get past.hosts h) (pairs_get AnyHost told.hosts past.hosts h is.hosts) _ _
-    (λ x y one. writes_agrees seq e y x past.state told.state (back_host x y told.state past.state one is.state) (back_state x y told.state past.state one is.state)) allowed
+    (λ x y one. writes_agrees seq e y x past.state told.state (back_host x y told.state past.state one is.state)
+        (back_state x y told.state past.state one is.state)) allowed
 allowed_fits told past (Answered h answer) is allowed =
     of_host (slice_get told.hosts h) (slice_get past.hosts h) (pairs_get AnyHost told.hosts past.hosts h is.hosts) _ _
     (λ x y one. answer_fits x y told.state past.state one is.state answer) allowed
@@ -216,9 +220,12 @@ module _ (start : Image) (before : List Note) (sound : AreSoundNotes before) whe
           (states_agree _ _ (acknowledged_filled AnyFits seq _ _ own_filled.state))) fits)
   reply_allowed h (reply.NotAppended why) fits = as_before _ (host_allowed h _ _ (λ x y host state. cause_agrees why x y _ _ host state) fits)
   reply_allowed h (reply.Reports report) fits = as_before _ (host_allowed h _ _ (λ x y host state. report_agrees report x y _ _ host state) fits)
-  reply_allowed h (reply.NoSuperblock fault) fits = as_before _ (host_allowed h _ _ (λ x y host state. damage_agrees (NoSuperblock fault) _ _ state) fits)
-  reply_allowed h (reply.BadHeader fault) fits = as_before _ (host_allowed h _ _ (λ x y host state. damage_agrees (BadHeader fault) _ _ state) fits)
-  reply_allowed h (reply.BadSlot i reason) fits = as_before _ (host_allowed h _ _ (λ x y host state. damage_agrees (BadSlot i reason) _ _ state) fits)
+  reply_allowed h (reply.NoSuperblock fault) fits =
+      as_before _ (host_allowed h _ _ (λ x y host state. damage_agrees (NoSuperblock fault) _ _ state) fits)
+  reply_allowed h (reply.BadHeader fault) fits =
+      as_before _ (host_allowed h _ _ (λ x y host state. damage_agrees (BadHeader fault) _ _ state) fits)
+  reply_allowed h (reply.BadSlot i reason) fits =
+      as_before _ (host_allowed h _ _ (λ x y host state. damage_agrees (BadSlot i reason) _ _ state) fits)
   reply_allowed h (reply.Played m tree) fits = question_allowed h m (reply.Played m tree) _ fits (λ past is. is)
   reply_allowed h (reply.Mounted m) fits = question_allowed h m (reply.Mounted m) _ fits (λ past is. is)
   reply_allowed h (reply.Same m) fits = question_allowed h m (reply.Same m) _ fits (λ past is. is)

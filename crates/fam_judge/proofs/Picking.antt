@@ -106,9 +106,11 @@ verified_compared m bytes (content.Seed seed) long = refl
 verified_compared m bytes (content.Bytes given) long = by (length given == length bytes) refl
   where
     by : (b : Bool) → (length given == length bytes) ≡ b
-        → (if b then compared m bytes (content.Bytes given) else reply.Length m (length bytes) (length given)) ≡ compared m bytes (content.Bytes given)
+        → (if b then compared m bytes (content.Bytes given) else reply.Length m (length bytes) (length given))
+            ≡ compared m bytes (content.Bytes given)
     by true e = refl
-    by false e = let count : length given ≡ length bytes = sym (length-replicate (length given) untold) ∙ long in absurd (grind (arith, nat_tests))
+    by false e =
+        let count : length given ≡ length bytes = sym (length-replicate (length given) untold) ∙ long in absurd (grind (arith, nat_tests))
 
 -- given bytes that aren't as many are told so
 verified_length : (m : ℕ) (bytes : List ℕ) (against : Content) (wanted : ℕ) → given_count (untold_content against) ≡ Some wanted
@@ -177,7 +179,8 @@ module _ (m : ℕ) (told : List ℕ) (content : Content) where
 
   module _ (bytes : List ℕ) (against : Content) (is : content ≡ untold_content against) (long : IsLong (given_count content) (length told)) where
     long_own : (n : ℕ) → length told ≡ n → IsLong (given_count (untold_content against)) n
-    long_own n same = subst (λ (k : ℕ). IsLong (given_count (untold_content against)) k) same (subst (λ (c : Content). IsLong (given_count c) (length told)) is long)
+    long_own n same =
+        subst (λ (k : ℕ). IsLong (given_count (untold_content against)) k) same (subst (λ (c : Content). IsLong (given_count c) (length told)) is long)
 
     compares : length bytes ≡ length told → verified m bytes against ≡ compared m bytes against
     compares count = verified_compared m bytes against (long_own (length bytes) (sym count))
@@ -185,22 +188,27 @@ module _ (m : ℕ) (told : List ℕ) (content : Content) where
     wants : (wanted : ℕ → ℕ) → IsChosenContent wanted against → (i : ℕ) → i < length told
         → IsWanted (wanted i) (content_byte content i) (content_byte against i)
     wants wanted chosen i below =
-        subst (λ (c : Content). IsWanted (wanted i) (content_byte c i) (content_byte against i)) (sym is) (content_is wanted against chosen (length told) i (long_own (length told) refl) below)
+        subst (λ (c : Content). IsWanted (wanted i) (content_byte c i) (content_byte against i)) (sym is)
+            (content_is wanted against chosen (length told) i (long_own (length told) refl) below)
 
     all_same : ChosenBytes same_choice told bytes → IsChosenContent both against → MayBeSame told content
         → verified m bytes against ≡ reply.Same m
     all_same fill chosen may =
-        compares fill.count ∙ ap (compared_at m bytes against) (none_is _ (length bytes) same (first_difference bytes against) (searched _ (length bytes) 0))
+        compares fill.count
+        ∙ ap (compared_at m bytes against) (none_is _ (length bytes) same (first_difference bytes against) (searched _ (length bytes) 0))
       where
         same : (o : ℕ) → o < length bytes → not (slice_index bytes o == content_byte against o) ≡ false
         same o below =
             let inside : o < length told = omega (arith, below, fill.count) in
-            same_passes _ _ (same_picked (slice_index told o) (slice_index bytes o) (content_byte content o) (content_byte against o) (fill.each o inside) (wants both chosen o inside) (may o inside))
+            same_passes _ _ (same_picked (slice_index told o) (slice_index bytes o) (content_byte content o) (content_byte against o)
+                (fill.each o inside) (wants both chosen o inside) (may o inside))
 
     one_differs : (o f w : ℕ) (may : MayDiffer told content o f w) → ChosenBytes (differs_choice o f w may.found_fits.0) told bytes
         → IsChosenContent (except o w) against → verified m bytes against ≡ reply.Differs m o f w
     one_differs o f w may fill chosen =
-        compares fill.count ∙ ap (compared_at m bytes against) (first_is _ (length bytes) o (omega (arith, may.within, fill.count)) passes before (first_difference bytes against) (searched _ (length bytes) 0))
+        compares fill.count
+        ∙ ap (compared_at m bytes against) (first_is _ (length bytes) o (omega (arith, may.within, fill.count)) passes before
+            (first_difference bytes against) (searched _ (length bytes) 0))
         ∙ ap₂ (λ (x y : ℕ). reply.Differs m o x y) found wanted
       where
         found : slice_index bytes o ≡ f
@@ -209,7 +217,8 @@ module _ (m : ℕ) (told : List ℕ) (content : Content) where
 
         wanted : content_byte against o ≡ w
         wanted = wanted_is w (content_byte content o) (content_byte against o)
-            (subst (λ (x : ℕ). IsWanted x (content_byte content o) (content_byte against o)) (except_here o w) (wants (except o w) chosen o may.within)) may.wanted_fits
+            (subst (λ (x : ℕ). IsWanted x (content_byte content o) (content_byte against o)) (except_here o w)
+                (wants (except o w) chosen o may.within)) may.wanted_fits
 
         passes : not (slice_index bytes o == content_byte against o) ≡ true
         passes = other_passes _ _ (λ same. may.other (sym found ∙ same ∙ wanted))
@@ -219,7 +228,8 @@ module _ (m : ℕ) (told : List ℕ) (content : Content) where
             let inside : i < length told = omega (arith, below, may.within) in
             same_passes _ _ (same_picked (slice_index told i) (slice_index bytes i) (content_byte content i) (content_byte against i)
                 (subst (λ (x : ℕ). IsSource x (slice_index told i) (slice_index bytes i)) (except_other o f i below) (fill.each i inside))
-                (subst (λ (x : ℕ). IsWanted x (content_byte content i) (content_byte against i)) (except_other o w i below) (wants (except o w) chosen i inside))
+                (subst (λ (x : ℕ). IsWanted x (content_byte content i) (content_byte against i)) (except_other o w i below)
+                    (wants (except o w) chosen i inside))
                 (may.before i below))
 
   -- a verify's reply is given by some bytes where it fits
@@ -261,13 +271,17 @@ read_same told bytes found offset count ch is fit fill = ext_get_or 0 (file_byte
             is (offset + i) ∙ ap (λ (k : ℕ). pick (get_or found k 0) 0) place ∙ pick_first (get_or found i 0) 0 fits.0 in
         read_at bytes offset count i below
         ∙ found_is (get_or found i 0) (get_or told (offset + i) 0) (get_or bytes (offset + i) 0)
-            (subst (λ (x : ℕ). IsSource x (get_or told (offset + i) 0) (get_or bytes (offset + i) 0)) chosen (fill.each (offset + i) (read_inside told offset count i inside))) fits
+            (subst (λ (x : ℕ). IsSource x (get_or told (offset + i) 0) (get_or bytes (offset + i) 0)) chosen
+                (fill.each (offset + i) (read_inside told offset count i inside))) fits
 
 -- a read's reply is given by some bytes where it fits
 pub read_pick : (m : ℕ) (told : List ℕ) (offset count : ℕ) (given : Reply) → ReadFits m told offset count given
     → Picks (λ ch. (bytes : List ℕ) → ChosenBytes ch told bytes → reply.Bytes m (file_bytes_from offset count bytes) ≡ given)
 read_pick m told offset count given fits =
-    let ch : Choice = record any { source = λ i. pick (slice_index fits.0 (i - offset)) 0; bytes = λ i. pick_below (slice_index fits.0 (i - offset)) 0 } in record {
+    let ch : Choice = record any {
+      source = λ i. pick (slice_index fits.0 (i - offset)) 0;
+      bytes = λ i. pick_below (slice_index fits.0 (i - offset)) 0;
+    } in record {
       choice = ch;
       holds = λ bytes fill. ap (reply.Bytes m) (read_same told bytes fits.0 offset count ch (λ i. refl) fits.2 fill) ∙ sym fits.1;
     }
@@ -275,7 +289,8 @@ read_pick m told offset count given fits =
 -- Files.
 
 module _ {D : Type 0} (Good : Choice → D → Type 0) (question : D → List ℕ → Reply) (m : ℕ) (given : Reply) (Fits : List ℕ → Type 0)
-    (picks : (told : List ℕ) → Fits told → Picks (λ ch. (d : D) (bytes : List ℕ) → Good ch d → ChosenBytes ch told bytes → question d bytes ≡ given)) where
+    (picks : (told : List ℕ) → Fits told
+        → Picks (λ ch. (d : D) (bytes : List ℕ) → Good ch d → ChosenBytes ch told bytes → question d bytes ≡ given)) where
   kind_pick : (k : Kind) (told : List ℕ) → KindFits m k given (Fits told)
       → Picks (λ ch. (d : D) (bytes : List ℕ) → Good ch d → ChosenBytes ch told bytes → of_kind m k (question d bytes) ≡ given)
   kind_pick kind.Directory told fits = record { choice = any; holds = λ d bytes good fill. sym fits }
@@ -290,7 +305,8 @@ module _ {D : Type 0} (Good : Choice → D → Type 0) (question : D → List �
       → ((d : D) (bytes : List ℕ) → Good ch d → ChosenBytes ch x.bytes bytes → of_kind m x.entry.kind (question d bytes) ≡ given)
       → (d : D) (y : Option File) → Good ch d → Pairs (ChosenFile ch) (Some x) y → of_file m y (question d) ≡ given
   some_pick x ch holds d None good both = absurd both
-  some_pick x ch holds d (Some y) good both = ap (λ (e : Entry). of_kind m e.kind (question d y.bytes)) (sym both.entry) ∙ holds d y.bytes good both.bytes
+  some_pick x ch holds d (Some y) good both =
+      ap (λ (e : Entry). of_kind m e.kind (question d y.bytes)) (sym both.entry) ∙ holds d y.bytes good both.bytes
 
   -- by what stands at a path
   pub file_pick : (x : Option File) → FileFits m x given Fits

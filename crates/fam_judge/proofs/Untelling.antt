@@ -70,14 +70,17 @@ untold_notes_alike a b same = sym (notes_alike a) ∙ ap (map told_note) same �
 
 -- what a command wants to append doesn't go by bytes
 pub untold_wish : (c : Cmd) → wish_of (untold_cmd c) ≡ wish_of c
-untold_wish (cmd.Cp path attr stripe bytes) = ap (λ (n : ℕ). wish_of (cmd.Creat path n attr stripe content.Zero)) (length-replicate (length bytes) untold)
+untold_wish (cmd.Cp path attr stripe bytes) =
+    ap (λ (n : ℕ). wish_of (cmd.Creat path n attr stripe content.Zero)) (length-replicate (length bytes) untold)
 untold_wish c = refl
 
 untold_again : (c : Cmd) → untold_cmd (untold_cmd c) ≡ untold_cmd c
-untold_again (cmd.Cp path attr stripe bytes) = ap (λ (n : ℕ). cmd.Cp path attr stripe (replicate n untold)) (length-replicate (length bytes) untold)
+untold_again (cmd.Cp path attr stripe bytes) =
+    ap (λ (n : ℕ). cmd.Cp path attr stripe (replicate n untold)) (length-replicate (length bytes) untold)
 untold_again (cmd.Verify path content.Zero) = refl
 untold_again (cmd.Verify path (content.Seed seed)) = refl
-untold_again (cmd.Verify path (content.Bytes bytes)) = ap (λ (n : ℕ). cmd.Verify path (content.Bytes (replicate n untold))) (length-replicate (length bytes) untold)
+untold_again (cmd.Verify path (content.Bytes bytes)) =
+    ap (λ (n : ℕ). cmd.Verify path (content.Bytes (replicate n untold))) (length-replicate (length bytes) untold)
 untold_again (cmd.Check listing) = ap (λ (n : ℕ). cmd.Check (replicate n untold_entry)) (length-replicate (length listing) untold_entry)
 untold_again c = refl
 

@@ -124,14 +124,15 @@ pub fn an_answer_moves_down()
         → IsExplained start (a ++ Answered h answer ∷ (lines ++ b)) → IsExplained start (a ++ (lines ++ Answered h answer ∷ b)) }
 {}
 
-/// A note that is allowed for some bytes behind some notes (`IsAllowedForSome`) fits what these tell (`Fits`): a table says so
-/// that chooses no bytes.
+/// A note that is allowed behind some notes for some bytes of sources (`IsAllowedForSome`) fits what these notes tell (`Fits`),
+/// which chooses no bytes.
 pub fn what_is_allowed_fits()
     ensures { (start : Image) (before : List Note) (note : Note) → IsAllowedForSome start before note
         → Fits (past_of start (untold_notes before)) note }
 {}
 
-/// And a note that fits what some notes tell is allowed for some bytes behind them, where their commands are sound.
+/// A note that fits what some notes tell (`Fits`) is allowed behind them for some bytes of sources (`IsAllowedForSome`), where
+/// their commands are sound.
 pub fn what_fits_is_allowed()
     ensures { (start : Image) (before : List Note) (note : Note) → AreSoundNotes before
         → Fits (past_of start (untold_notes before)) note → IsAllowedForSome start before note }
