@@ -33,3 +33,12 @@ pub mod OverFits
 pub mod Places
 pub mod OverOwn
 pub mod OverWrites
+pub mod Untelling
+pub mod Pairs
+pub mod Filling
+pub mod Agreeing
+pub mod Fitted
+pub mod Choosing
+pub mod Picking
+pub mod Answering
+pub mod Fitting

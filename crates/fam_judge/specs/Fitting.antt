@@ -1,6 +1,6 @@
 -- Which notes fit what is told before them: as `Allowed` of fam_journal says, but that a byte or an entry of a source, which isn't told,
 -- may be any. docs/MODEL.md, "The journal".
-use Rattle.std.specs.Prelude.{ℕ, ⊤, ◌≡◌, ◌≢◌, ◌⊎◌, ◌<◌, ◌≤◌, ◌==◌, All, List, length, take, slice_get, slice_index, Option, Some, None}
+use Rattle.std.specs.Prelude.{ℕ, ⊤, ◌≡◌, ◌≢◌, ◌⊎◌, ◌<◌, List, length, take, slice_get, slice_index, Option, Some, None}
 use Rattle.fam_base.specs.declared.cmd.Cmd.{Cmd}
 use Rattle.fam_base.specs.declared.cmd.Cmd.TheVariants.{Logplay, Mount, Mkdir, Creat, Cp, Verify, Read, Check, Fsck}
 use Rattle.fam_base.specs.declared.cmd.Content.{Content}

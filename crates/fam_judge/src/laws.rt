@@ -15,12 +15,15 @@ ghost use Rattle.fam_journal.specs.Legal.{Legal};
 ghost use Rattle.fam_journal.specs.Calls.{number_of, Call, Does};
 ghost use Rattle.fam_journal.specs.Machines.{Machines};
 ghost use Rattle.fam_journal.specs.Notes.{Answer, Answered, Note, Start};
+ghost use Rattle.fam_journal.specs.Past.{past_of};
 ghost use Rattle.fam_journal.specs.Shapes.{AreShaped, HostShape, TaskNote, TaskShape, shapes_of, shown_shapes};
 ghost use Rattle.fam_judge.specs.Alike.{AreAlikeNotes, AreWhollyTold};
 ghost use Rattle.fam_judge.specs.Asks.{AskSoundCommands};
-ghost use Rattle.fam_judge.specs.Explained.{IsExplained, IsExplainedBy};
+ghost use Rattle.fam_judge.specs.Explained.{IsAllowedForSome, IsExplained, IsExplainedBy};
+ghost use Rattle.fam_judge.specs.Fitting.{Fits};
 ghost use Rattle.fam_judge.specs.Formed.{AreFormed, HavePlaces, AreSoundNotes, IsFormedNote, HasPlace};
 ghost use Rattle.fam_judge.specs.GivesWay.{GiveWay};
+ghost use Rattle.fam_judge.specs.Untold.{untold_notes};
 
 /// A legal journal whose notes have the form of the tables (`AreFormed`) is explained as it stands.
 pub fn what_is_legal_is_explained()
@@ -119,4 +122,18 @@ pub fn a_start_moves_up()
 pub fn an_answer_moves_down()
     ensures { (start : Image) (a lines b : List Note) (h : ℕ) (answer : Answer) → GiveWay h (shapes_of (a ++ Answered h answer ∷ [])) lines
         → IsExplained start (a ++ Answered h answer ∷ (lines ++ b)) → IsExplained start (a ++ (lines ++ Answered h answer ∷ b)) }
+{}
+
+/// A note that is allowed behind some notes for some bytes of sources (`IsAllowedForSome`) fits what these notes tell (`Fits`),
+/// which chooses no bytes.
+pub fn what_is_allowed_fits()
+    ensures { (start : Image) (before : List Note) (note : Note) → IsAllowedForSome start before note
+        → Fits (past_of start (untold_notes before)) note }
+{}
+
+/// A note that fits what some notes tell (`Fits`) is allowed behind them for some bytes of sources (`IsAllowedForSome`), where
+/// their commands are sound.
+pub fn what_fits_is_allowed()
+    ensures { (start : Image) (before : List Note) (note : Note) → AreSoundNotes before
+        → Fits (past_of start (untold_notes before)) note → IsAllowedForSome start before note }
 {}
