@@ -42,3 +42,4 @@ pub mod Choosing
 pub mod Picking
 pub mod Answering
 pub mod Fitting
+pub mod MetReplies
