@@ -43,3 +43,4 @@ pub mod Picking
 pub mod Answering
 pub mod Fitting
 pub mod MetReplies
+pub mod OverAnswers

@@ -87,13 +87,16 @@ marked_first s Marked p q over = has_mark refl
 marked_first s (Met n) p q over = absurd over
 marked_first s (Named seq) p q over = absurd over
 
-marked_begun : Marked ≡ Begun → ⊥
+-- two stages
+pub marked_begun : Marked ≡ Begun → ⊥
 marked_begun e = cc
 
-met_begun : (n : ℕ) → Met n ≡ Begun → ⊥
+-- two stages
+pub met_begun : (n : ℕ) → Met n ≡ Begun → ⊥
 met_begun n e = cc
 
-named_begun : (n : ℕ) → Named n ≡ Begun → ⊥
+-- two stages
+pub named_begun : (n : ℕ) → Named n ≡ Begun → ⊥
 named_begun n e = cc
 
 -- a host's command has one stage
@@ -151,7 +154,8 @@ module _ (start : Image) (x c : Possible) (d : Direct x c) (h : ℕ) where
 
 -- Counts that are found.
 
-found_later : (n : ℕ) (s : State) → FoundAllowed n s → Later s (finds n s)
+-- what is told of it
+pub found_later : (n : ℕ) (s : State) → FoundAllowed n s → Later s (finds n s)
 found_later n s found = record { settled = settled_finds n s found; master = master_finds n s found; none = λ none. none_finds n s found }
 
 module _ (start : Image) (x c : Possible) (d : Direct x c) (h n : ℕ) (found : FoundAllowed n c.state) where

@@ -6,5 +6,4 @@ pub mod Explained
 pub mod GivesWay
 pub mod Untold
 pub mod Fitting
-pub mod Standing
 pub mod Possible
