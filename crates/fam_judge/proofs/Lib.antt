@@ -25,3 +25,4 @@ pub mod Easier
 pub mod Masters
 pub mod Sided
 pub mod AnswersDown
+pub mod Standing

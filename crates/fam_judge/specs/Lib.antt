@@ -4,3 +4,4 @@ pub mod Formed
 pub mod Asks
 pub mod Explained
 pub mod GivesWay
+pub mod Standing

@@ -1,0 +1,8 @@
+-- Which note may stand next: the table over the note alone is the form of the tables.
+pub mod Faces
+pub mod Sizes
+pub mod Sound
+pub mod Refusals
+pub mod Formed
+pub mod Fresh
+pub mod Asking
