@@ -6,3 +6,5 @@ pub mod Refusals
 pub mod Formed
 pub mod Fresh
 pub mod Asking
+pub mod Making
+pub mod Refused
