@@ -8,3 +8,4 @@ pub mod Fresh
 pub mod Asking
 pub mod Making
 pub mod Refused
+pub mod Stands
