@@ -9,3 +9,4 @@ pub mod Asking
 pub mod Making
 pub mod Refused
 pub mod Stands
+pub mod Distinct
