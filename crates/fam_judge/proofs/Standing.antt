@@ -10,3 +10,4 @@ pub mod Making
 pub mod Refused
 pub mod Stands
 pub mod Distinct
+pub mod Alike

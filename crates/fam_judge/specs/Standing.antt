@@ -218,6 +218,21 @@ pub record IsFormedAs (lines : ℕ) (hosts : List HostShape) (note : Note) : Typ
   pub alike : told_note chosen ≡ told_note note
   pub formed : IsFormedNote lines hosts chosen
 
+-- a note of a running command
+abbrev pub is_own : Note → Bool
+is_own (Host name uuid) = false
+is_own (Made h p) = false
+is_own (Cut h k) = false
+is_own (Start h cmd) = false
+is_own (Mark h) = true
+is_own (Found h n) = true
+is_own (Writes h seq entry) = true
+is_own (Answered h answer) = true
+is_own (Stop h) = false
+is_own (Halt h) = false
+is_own (Umount h) = false
+is_own (Refused name cause) = false
+
 -- Hosts whose commands tell the same.
 
 -- what is told of a running command, and how far it has come
