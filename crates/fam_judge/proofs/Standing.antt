@@ -11,3 +11,4 @@ pub mod Refused
 pub mod Stands
 pub mod Distinct
 pub mod Alike
+pub mod Listings
