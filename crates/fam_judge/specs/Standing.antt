@@ -13,7 +13,7 @@ use Rattle.fam_base.specs.Paths.{is_path}
 use Rattle.fam_base.specs.Units.{least_unit}
 use Rattle.fam_commands.specs.Classes.{is_mount}
 use Rattle.fam_format.specs.Layout.{least_lines, log_offset, slots_of}
-use Rattle.fam_format.specs.Params.{IsUuid, is_format, is_log_length, is_unit, need}
+use Rattle.fam_format.specs.Params.{IsUuid, is_format, is_log_length, need}
 use Rattle.fam_history.specs.declared.command.ToldCommand.{ToldCommand}
 use Rattle.fam_history.specs.declared.command.ToldCommand.TheVariants as told
 use Rattle.fam_history.specs.Told.{told_of_command}

@@ -1,10 +1,10 @@
 -- Whether a note may stand next is settled by what is told of it, and of the hosts.
-use Rattle.std.proofs.Common.{◌≡◌, ◌≢◌, inl, inr, ℕ, Bool, true, false, List, [], ◌∷◌, length, map, Option, Some, None, refl, ap, sym, ◌∙◌, subst}
+use Rattle.std.proofs.Common.{◌≡◌, inl, inr, ℕ, Bool, true, false, List, [], ◌∷◌, length, map, Option, Some, None, refl, ap, sym, ◌∙◌, subst}
 use Rattle.std.specs.Prelude.{⊤, is_some, option_map, slice_get}
 use Rattle.std.proofs.lemmas.Option.{same_Some, slice_get-map}
 use Rattle.fam_base.specs.declared.cmd.Attr.{Attr}
 use Rattle.fam_base.specs.declared.cmd.Cmd.{Cmd}
-use Rattle.fam_base.specs.declared.cmd.Cmd.TheVariants.{Logplay, Mount, Mkdir, Creat, Cp, Verify, Read, Check, Fsck}
+use Rattle.fam_base.specs.declared.cmd.Cmd.TheVariants.{Logplay, Mount, Cp, Verify, Check, Fsck}
 use Rattle.fam_base.specs.declared.cmd.Content.TheVariants as content
 use Rattle.fam_base.specs.declared.cmd.Stripe.{Stripe}
 use Rattle.fam_base.specs.declared.entry.Entry.{Entry}
@@ -18,7 +18,7 @@ use Rattle.fam_rules.specs.Reply.{Reply}
 use Rattle.fam_journal.specs.Notes.{Answer, Replied, MediaFault, Note, Host, Made, Cut, Start, Mark, Found, Writes, Answered, Stop, Halt, Umount, Refused}
 use Rattle.fam_journal.specs.Shapes.{AnswerShape, CommandStage, EntryShape, HostShape, OfRunning, OfTask, ReplyShape, TaskNote, TaskShape}
 use Rattle.fam_judge.specs.Alike.{told_note, whole_command, whole_note}
-use Rattle.fam_judge.specs.Formed.{AnswerPlace, HasPlace, ReplyPlace, SlotPlace}
+use Rattle.fam_judge.specs.Formed.{AnswerPlace, SlotPlace}
 use Rattle.fam_judge.specs.Standing.{Face, IsMadeBy, MayDeclare, MayMake, MayRefuse, MayStand, MayStart, OfFace, engaged_in, ToldHost, ToldTask, face, faces, is_own, told_host, told_hosts, told_task}
 use Rattle.fam_judge.proofs.Telling.{command_back, note_back}
 

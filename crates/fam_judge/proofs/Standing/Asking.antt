@@ -1,23 +1,22 @@
 -- Events that are asked of a declared host.
-use Rattle.std.proofs.Common.{◌≡◌, ◌*◌, ◌<◌, ◌≤◌, ℕ, Bool, true, false, List, [], ◌∷◌, length, map, Option, Some, None, refl, ap, ap₂, sym, ◌∙◌, subst, arith}
+use Rattle.std.proofs.Common.{◌≡◌, ◌*◌, ◌<◌, ◌≤◌, ℕ, Bool, true, false, List, [], ◌∷◌, length, Option, Some, None, refl, ap, ap₂, sym, ◌∙◌, subst, arith}
 use Rattle.std.specs.Prelude.{◌&&◌, not, nat_le, nat_lt, option_map, slice_get}
 use Rattle.std.proofs.lemmas.Bool.Decides.{nat_tests}
 use Rattle.std.proofs.lemmas.Option.{same_Some, slice_get-map}
 use Rattle.fam_format.specs.Layout.{least_lines}
 use Rattle.fam_format.specs.Stop.{or_else}
-use Rattle.fam_machine.specs.Mkfs.{EarlyRefusal, early_refusal}
+use Rattle.fam_machine.specs.Mkfs.{early_refusal}
 use Rattle.fam_rules.specs.Place.{line_bytes}
 use Rattle.fam_journal.specs.declared.event.Event.{Event}
 use Rattle.fam_journal.specs.declared.refusal.Refusal.{Refusal}
 use Rattle.fam_journal.specs.declared.refusal.Refusal.TheVariants as why
-use Rattle.fam_journal.specs.Calls.{begins_refusal, busy_at, busy_refusal, cause_of, idle_refusal, is_engaged, keeps_at, line_refusal, number_of, on_host, umounts_refusal, when}
+use Rattle.fam_journal.specs.Calls.{begins_refusal, busy_at, busy_refusal, cause_of, idle_refusal, keeps_at, line_refusal, number_of, on_host, umounts_refusal, when}
 use Rattle.fam_journal.specs.EventShapes.{EventShape}
 use Rattle.fam_journal.specs.Laws.{IsValidEvent}
 use Rattle.fam_journal.specs.Machines.{Machines}
-use Rattle.fam_journal.specs.Members.{index_of}
 use Rattle.fam_journal.specs.Notes.{Note, Refused}
 use Rattle.fam_journal.specs.Shapes.{AtShape, HostShape, OfHostShape, ShapeByRefusal, makes_told, shown_shapes}
-use Rattle.fam_judge.specs.Formed.{HasPlace, IsFormedNote, IsSoundNote}
+use Rattle.fam_judge.specs.Formed.{IsFormedNote}
 use Rattle.fam_judge.specs.Standing.{AreDistinct, Face, engaged_in, face, faces, number_in}
 use Rattle.fam_judge.proofs.Standing.Faces.{engaged_faced, index_is, keeps_face, keeps_faced, lines_faced, number_faced, other_text, runs_face, runs_faced, text_same}
 

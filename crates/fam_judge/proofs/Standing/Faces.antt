@@ -4,7 +4,7 @@ use Rattle.std.specs.Prelude.{◌||◌, if◌then◌else◌, is_some, option_map
 use Rattle.std.specs.Cmp.Lexicographic.{pointwise_decides}
 use Rattle.std.proofs.lemmas.Bool.Decides.{Decides-eqb}
 use Rattle.std.proofs.lemmas.List.{length-map, length-replicate}
-use Rattle.std.proofs.lemmas.Option.{same_Some, slice_get-map, slice_get_within}
+use Rattle.std.proofs.lemmas.Option.{same_Some, slice_get-map}
 use Rattle.fam_base.specs.PathOrder.{path_eq}
 use Rattle.fam_journal.specs.Calls.{busy_at, has_name, is_busy_host, is_engaged, is_kept_host, is_same, keeps_at, number_of}
 use Rattle.fam_journal.specs.Members.{index_from, index_of}

@@ -1,13 +1,10 @@
 -- A note that some event adds stands in the table.
-use Rattle.std.proofs.Common.{◌≡◌, ◌≢◌, ◌<◌, ◌⊎◌, inl, inr, ℕ, Bool, true, false, List, [], ◌∷◌, length, Option, Some, None, refl, ap, sym, ◌∙◌, subst}
-use Rattle.std.specs.Prelude.{⊤, ◌&&◌, not, option_map, slice_get}
+use Rattle.std.proofs.Common.{◌≡◌, ◌≢◌, ◌<◌, ◌⊎◌, inl, inr, ℕ, Bool, true, false, List, [], ◌∷◌, Option, Some, None, refl, ap, sym, ◌∙◌, subst}
+use Rattle.std.specs.Prelude.{⊤, ◌&&◌, option_map, slice_get}
 use Rattle.std.proofs.lemmas.List.{length-map}
 use Rattle.std.proofs.lemmas.Option.{slice_get-map}
 use Rattle.fam_base.specs.declared.cmd.Cmd.{Cmd}
-use Rattle.fam_base.specs.declared.cmd.Cmd.TheVariants as cmd
-use Rattle.fam_base.specs.declared.entry.Params.{Params}
 use Rattle.fam_commands.specs.Classes.{is_mount}
-use Rattle.fam_history.specs.Told.{told_of_command}
 use Rattle.fam_machine.specs.declared.request.MkfsRequest.{MkfsRequest}
 use Rattle.fam_machine.specs.HostMoves.{Evict, Fetch, Leak, Move}
 use Rattle.fam_machine.specs.Mkfs.{asked as asked_params}
@@ -22,15 +19,15 @@ use Rattle.fam_journal.specs.Calls.{begins_refusal, busy_at, idle_refusal, line_
 use Rattle.fam_journal.specs.Events.{mounts}
 use Rattle.fam_journal.specs.EventShapes.{AskShape, EventShape, NoMore, StartShape, StepsShape, UnfitNotes, UnfitShape}
 use Rattle.fam_journal.specs.Laws.{IsValidEvent}
-use Rattle.fam_journal.specs.Notes.{Note, Host, Made, Cut, Start, Mark, Found, Writes, Answered, Stop, Halt, Umount, Refused}
-use Rattle.fam_journal.specs.Shapes.{ActsShape, AtShape, CompletesShape, DirtyShape, DoesShape, FreeShape, HostActsShape, HostShape, OfHostShape, OfRunning, ShapeByRefusal, SuperForm, TaskNote, made_note, makes_told, refusal_told}
+use Rattle.fam_journal.specs.Notes.{Note, Host, Start, Mark, Found, Writes, Answered, Stop, Halt, Umount, Refused}
+use Rattle.fam_journal.specs.Shapes.{ActsShape, AtShape, CompletesShape, DoesShape, FreeShape, HostShape, OfHostShape, OfRunning, ShapeByRefusal, SuperForm, TaskNote, made_note, makes_told, refusal_told}
 use Rattle.fam_journal.proofs.Calls.Tests.{no_when}
 use Rattle.fam_judge.specs.Formed.{HasPlace, IsFormedNote, IsSoundNote}
-use Rattle.fam_judge.specs.Standing.{AtNamed, Face, IsMadeBy, MayAsk, MayMake, MayRefuse, MayStand, OfFace, face, faces, is_told_mount}
+use Rattle.fam_judge.specs.Standing.{AtNamed, MayAsk, MayRefuse, MayStand, face, faces}
 use Rattle.fam_judge.proofs.Following.{note_runs}
 use Rattle.fam_judge.proofs.Origins.{none_one, none_running, one_note}
 use Rattle.fam_judge.proofs.Standing.Faces.{of_face}
-use Rattle.fam_judge.proofs.Standing.Refusals.{MakesFree, all, asked, begins_free, begins_row, declared, declares_free, declares_row, idle_row, line_free, line_row, m, makes_free, makes_row, not_false, of_asked, on_free, on_row, runs_asked, umounts_free, umounts_row}
+use Rattle.fam_judge.proofs.Standing.Refusals.{MakesFree, asked, begins_free, begins_row, declared, declares_free, declares_row, idle_row, line_free, line_row, m, makes_free, makes_row, not_false, of_asked, on_free, on_row, runs_asked, umounts_free, umounts_row}
 use Rattle.fam_judge.proofs.Standing.Sound.{told_mount, told_sound}
 
 -- an ask of a mount comes to one

@@ -1,7 +1,7 @@
 -- There are listings of any number of entries below 2 ^ 64: of directories whose names are words of 64 letters, in order.
 use Rattle.std.proofs.Common.{◌≡◌, ◌⊎◌, ◌+◌, ◌*◌, ◌^◌, ◌<◌, ◌≤◌, ◌&&◌, inl, inr, ℕ, zero, suc, Bool, true, false, List, [], ◌∷◌, ◌++◌, length, map, take, lit<, refl, ap, ap₂, sym, ◌∙◌, subst, arith}
-use Rattle.std.specs.Prelude.{⊤, All}
-use Rattle.std.specs.List.{AllByRecursion, list_all, slice_split}
+use Rattle.std.specs.Prelude.{⊤}
+use Rattle.std.specs.List.{AllByRecursion, list_all}
 use Rattle.std.specs.List.Sorted.{IsStrictlySortedBy}
 use Rattle.std.specs.declared.cmp.Ordering.TheVariants.{Less}
 use Rattle.std.proofs.Math.Nat.{pow-suc}
@@ -11,7 +11,6 @@ use Rattle.std.proofs.lemmas.List.Splits.{slice_split_none}
 use Rattle.fam_base.specs.declared.entry.Entry.{Entry}
 use Rattle.fam_base.specs.declared.entry.Kind.TheVariants as kind
 use Rattle.fam_base.specs.declared.entry.MapKind.TheVariants as mapped
-use Rattle.fam_base.specs.Commands.{IsListing}
 use Rattle.fam_base.specs.PathOrder.{path_cmp}
 use Rattle.fam_base.specs.Paths.{has_no_nul, is_name, is_path, is_slash, names}
 use Rattle.fam_base.proofs.PathLemmas.{path_of_parts}

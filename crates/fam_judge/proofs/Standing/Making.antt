@@ -15,9 +15,9 @@ use Rattle.fam_journal.specs.EventShapes.{EventShape}
 use Rattle.fam_journal.specs.Notes.{Note, Made, Cut}
 use Rattle.fam_journal.specs.Shapes.{ActsShape, FreeShape, HostShape, made_note, makes_told, shown_shapes}
 use Rattle.fam_judge.specs.Formed.{IsFormedNote}
-use Rattle.fam_judge.specs.Standing.{AreDistinct, Face, IsMadeBy, MayMake, MayStand, OfFace, engaged_in, face, faces}
-use Rattle.fam_judge.proofs.Standing.Asking.{HasShape, at_shape, makes_is, on_passes, own_number, shape_of}
-use Rattle.fam_judge.proofs.Standing.Faces.{HasFace, face_of}
+use Rattle.fam_judge.specs.Standing.{AreDistinct, Face, IsMadeBy, MayStand, engaged_in, faces}
+use Rattle.fam_judge.proofs.Standing.Asking.{at_shape, makes_is, on_passes, own_number, shape_of}
+use Rattle.fam_judge.proofs.Standing.Faces.{face_of}
 use Rattle.fam_judge.proofs.Standing.Sizes.{Numbers, bad, least_passes, numbers, pass, small}
 use Rattle.fam_judge.proofs.Standing.Sound.{zeros}
 

@@ -1,5 +1,5 @@
 -- What a call is refused for stands in the table.
-use Rattle.std.proofs.Common.{◌≡◌, ◌≢◌, ◌*◌, ◌<◌, ◌≤◌, inl, inr, ℕ, Bool, true, false, List, length, map, Option, Some, None, refl, ap, ap₂, sym, ◌∙◌, subst, arith}
+use Rattle.std.proofs.Common.{◌≡◌, ◌*◌, ◌<◌, ◌≤◌, inl, inr, ℕ, Bool, true, false, List, length, Option, Some, None, refl, ap, sym, ◌∙◌, subst, arith}
 use Rattle.std.specs.Prelude.{⊤, ◌&&◌, ◌||◌, not, nat_le, nat_lt, option_map, slice_get}
 use Rattle.std.proofs.lemmas.Bool.{cases_lt}
 use Rattle.std.proofs.lemmas.Bool.Decides.{nat_tests}
@@ -16,7 +16,7 @@ use Rattle.fam_journal.specs.Calls as call
 use Rattle.fam_journal.specs.Calls.{begins_refusal, busy_at, busy_refusal, cause_of, host_limit, idle_refusal, is_engaged, is_same, keeps_at, line_refusal, number_of, on_host, refusal_of, same_refusal, umounts_refusal, when}
 use Rattle.fam_journal.specs.Machines.{Machines}
 use Rattle.fam_journal.specs.Members.{index_of}
-use Rattle.fam_journal.specs.Shapes.{HostShape, makes_told, refusal_told, shown_shape, shown_shapes}
+use Rattle.fam_journal.specs.Shapes.{HostShape, makes_told, refusal_told, shown_shapes}
 use Rattle.fam_journal.proofs.Calls.Declares.{none_passes}
 use Rattle.fam_journal.proofs.Calls.Tests.{at_most, below_of, no_busy, no_cause, no_same, no_when, or_first, or_next}
 use Rattle.fam_judge.specs.Standing.{AtNamed, Face, HasRoom, IsDeclared, IsNotBefore, MayMake, MayRefuse, engaged_in, faces, number_in, same_in}

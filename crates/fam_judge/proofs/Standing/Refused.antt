@@ -1,7 +1,6 @@
 -- A refusal that stands in the table some event adds.
 use Rattle.std.proofs.Common.{◌≡◌, ◌≢◌, ◌*◌, ◌<◌, ◌≤◌, inl, inr, ℕ, Bool, true, false, List, [], ◌∷◌, length, Option, Some, None, refl, ap, ap₂, sym, ◌∙◌, subst, arith}
 use Rattle.std.specs.Prelude.{⊤, ◌&&◌, ◌||◌, not, nat_le, option_map, slice_get}
-use Rattle.std.proofs.lemmas.Bool.Decides.{nat_tests}
 use Rattle.std.proofs.lemmas.List.{length-map}
 use Rattle.std.proofs.lemmas.Option.{slice_get_cases}
 use Rattle.fam_base.specs.declared.cmd.Cmd.TheVariants.{Fsck, Mount}
@@ -10,7 +9,6 @@ use Rattle.fam_base.specs.Units.{least_unit}
 use Rattle.fam_base.specs.declared.line.LineNo.{LineNo}
 use Rattle.fam_format.specs.Layout.{least_lines}
 use Rattle.fam_format.specs.Stop.{or_else}
-use Rattle.fam_machine.specs.HostMoves.{Evict}
 use Rattle.fam_machine.specs.Mkfs.{EarlyRefusal, early_refusal, is_geometry}
 use Rattle.fam_rules.specs.Place.{line_bytes}
 use Rattle.fam_journal.specs.declared.event.Ask.{Ask}
@@ -21,16 +19,15 @@ use Rattle.fam_journal.specs.declared.refusal.Refusal.TheVariants as why
 use Rattle.fam_journal.specs.Calls as call
 use Rattle.fam_journal.specs.Calls.{begins_refusal, busy_refusal, cause_of, host_limit, idle_refusal, line_refusal, number_of, on_host, refusal_of, same_refusal, umounts_refusal, when}
 use Rattle.fam_journal.specs.Events.{mounts}
-use Rattle.fam_journal.specs.EventShapes.{EventShape, NoMore, StartShape, UnfitNotes, UnfitShape}
-use Rattle.fam_journal.specs.Members.{index_from}
-use Rattle.fam_journal.specs.Notes.{Note, Refused}
+use Rattle.fam_journal.specs.EventShapes.{UnfitShape}
+use Rattle.fam_journal.specs.Notes.{Refused}
 use Rattle.fam_journal.specs.Shapes.{AtShape, FreeShape, HostShape, makes_told, refusal_told, shown_shapes}
 use Rattle.fam_journal.proofs.Calls.Declares.{none_passes}
 use Rattle.fam_judge.specs.Formed.{IsFormedNote}
-use Rattle.fam_judge.specs.Standing.{AreDistinct, Face, IsDeclared, IsNotBefore, MayAsk, MayMake, MayRefuse, engaged_in, faces, number_in, same_in}
-use Rattle.fam_judge.proofs.Standing.Asking.{at_shape, begins_is, begins_small, found_number, free_shape, idle_is, le_fails, le_passes, line_is, makes_is, on_passes, on_refused, refused_by, refused_shape, shape_of, umounts_is}
-use Rattle.fam_judge.proofs.Standing.Faces.{IsFirst, IsNamed, count_faced, index_found, index_is, index_none, named_of, number_faced, other_text, same_faced, text_same}
-use Rattle.fam_judge.proofs.Standing.Fresh.{FreshUuid, fresh_uuid}
+use Rattle.fam_judge.specs.Standing.{AreDistinct, Face, IsNotBefore, MayAsk, MayMake, MayRefuse, engaged_in, faces, number_in, same_in}
+use Rattle.fam_judge.proofs.Standing.Asking.{at_shape, begins_is, begins_small, found_number, idle_is, le_fails, le_passes, line_is, makes_is, on_passes, on_refused, refused_by, refused_shape, shape_of, umounts_is}
+use Rattle.fam_judge.proofs.Standing.Faces.{IsNamed, count_faced, index_found, index_is, index_none, named_of, number_faced, other_text, same_faced, text_same}
+use Rattle.fam_judge.proofs.Standing.Fresh.{fresh_uuid}
 use Rattle.fam_judge.proofs.Standing.Making.{makes_passes, request_of, request_sound}
 use Rattle.fam_judge.proofs.Standing.Sizes.{Needs, Numbers, bad, least_passes, needs_of, numbers, pass, small}
 

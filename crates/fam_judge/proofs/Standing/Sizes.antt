@@ -10,7 +10,7 @@ use Rattle.fam_base.specs.Units.{least_unit}
 use Rattle.fam_format.specs.Layout.{log_limit, log_offset}
 use Rattle.fam_format.specs.Params.{is_log_length, is_unit, need}
 use Rattle.fam_format.proofs.UnitPowers.{unit_told}
-use Rattle.fam_machine.specs.Mkfs.{BadGeometry, EarlyRefusal, TooSmall, early_refusal, is_geometry}
+use Rattle.fam_machine.specs.Mkfs.{BadGeometry, TooSmall, early_refusal, is_geometry}
 use Rattle.fam_rules.specs.Place.{line_bytes}
 use Rattle.fam_journal.proofs.Calls.Tests.{at_most, both_first, both_next}
 use Rattle.fam_judge.specs.Standing.{HasRoom, is_need, leaves_log, units}

@@ -1,5 +1,5 @@
 -- What stands in the table some event adds, or a note that tells the same.
-use Rattle.std.proofs.Common.{◌≡◌, ◌<◌, ◌≤◌, inr, ℕ, Bool, true, false, List, [], ◌∷◌, length, Option, Some, None, refl, ap, ap₂, sym, ◌∙◌, subst}
+use Rattle.std.proofs.Common.{◌≡◌, ◌≤◌, inr, ℕ, Bool, true, false, List, [], ◌∷◌, length, Option, Some, None, refl, ap, ap₂, sym, ◌∙◌}
 use Rattle.std.specs.Prelude.{⊤, ◌&&◌, not, nat_le, option_map, slice_get}
 use Rattle.fam_base.specs.declared.cmd.Cmd.{Cmd}
 use Rattle.fam_commands.specs.Classes.{is_mount}
@@ -14,13 +14,13 @@ use Rattle.fam_journal.specs.declared.event.Event.TheVariants as event
 use Rattle.fam_journal.specs.declared.refusal.Refusal.TheVariants as why
 use Rattle.fam_journal.specs.Calls as call
 use Rattle.fam_journal.specs.Calls.{begins_refusal, host_limit, idle_refusal, number_of, on_host, refusal_of, same_refusal, umounts_refusal, when}
-use Rattle.fam_journal.specs.EventShapes.{EventShape, NoMore, StartShape, UnfitNotes}
+use Rattle.fam_journal.specs.EventShapes.{EventShape}
 use Rattle.fam_journal.specs.Laws.{IsValidEvent}
 use Rattle.fam_journal.specs.Notes.{Note, Host, Made, Cut, Start, Mark, Found, Writes, Answered, Stop, Halt, Umount, Refused}
-use Rattle.fam_journal.specs.Shapes.{AtShape, HostShape, OfRunning, TaskNote, refusal_told, shapes_after, shown_shapes}
-use Rattle.fam_judge.specs.Alike.{Begins, told_note}
+use Rattle.fam_journal.specs.Shapes.{AtShape, HostShape, OfRunning, TaskNote, refusal_told, shown_shapes}
+use Rattle.fam_judge.specs.Alike.{Begins}
 use Rattle.fam_judge.specs.Formed.{HasPlace, IsFormedNote, IsSoundNote}
-use Rattle.fam_judge.specs.Standing.{AreDistinct, Face, IsFormedAs, MayDeclare, MayStand, OfFace, face, faces, is_told_mount}
+use Rattle.fam_judge.specs.Standing.{AreDistinct, Face, IsFormedAs, MayDeclare, MayStand, face, faces, is_told_mount}
 use Rattle.fam_judge.proofs.Following.{note_runs}
 use Rattle.fam_judge.proofs.Forming.{task_formed}
 use Rattle.fam_judge.proofs.Standing.Asking.{at_shape, begins_is, free_shape, idle_is, le_fails, on_passes, own_number, shape_of, umounts_is}
