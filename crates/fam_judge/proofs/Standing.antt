@@ -12,3 +12,4 @@ pub mod Stands
 pub mod Distinct
 pub mod Alike
 pub mod Listings
+pub mod Journals

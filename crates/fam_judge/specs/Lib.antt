@@ -5,3 +5,4 @@ pub mod Asks
 pub mod Explained
 pub mod GivesWay
 pub mod Standing
+pub mod ToldHosts

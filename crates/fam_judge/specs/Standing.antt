@@ -1,6 +1,6 @@
 -- Which note may stand next, as a table over the note alone: by the host's own command, or by what is seen of the hosts, but of no
 -- event. It holds where some event adds a note that tells the same.
-use Rattle.std.specs.Prelude.{ℕ, ⊤, ◌≡◌, ◌≢◌, ◌⊎◌, ◌+◌, ◌-◌, ◌*◌, ◌^◌, ◌<◌, ◌≤◌, ◌&&◌, ◌||◌, IsTrue, Bool, true, false, All, List, [], ◌∷◌, length, map, slice_get, is_some, option_map, Option, Some, None}
+use Rattle.std.specs.Prelude.{ℕ, ⊤, ◌≡◌, ◌≢◌, ◌⊎◌, ◌+◌, ◌-◌, ◌*◌, ◌^◌, ◌<◌, ◌≤◌, ◌&&◌, ◌||◌, IsTrue, Bool, true, false, All, List, [], ◌∷◌, length, map, slice_get, is_some, Option, Some, None}
 use Rattle.std.specs.List.{list_any}
 use Rattle.fam_base.specs.Commands.{IsListing, read_limit}
 use Rattle.fam_base.specs.declared.cmd.Cmd.{Cmd}
@@ -27,7 +27,7 @@ use Rattle.fam_journal.specs.declared.refusal.Refusal.TheVariants as why
 use Rattle.fam_journal.specs.Calls.{host_limit}
 use Rattle.fam_journal.specs.Members.{index_of}
 use Rattle.fam_journal.specs.Notes.{Note, Host, Made, Cut, Start, Mark, Found, Writes, Answered, Stop, Halt, Umount, Refused}
-use Rattle.fam_journal.specs.Shapes.{CommandStage, HostShape, OfRunning, TaskNote, TaskShape}
+use Rattle.fam_journal.specs.Shapes.{HostShape, OfRunning, TaskNote, shapes_after}
 use Rattle.fam_judge.specs.Alike.{told_note}
 use Rattle.fam_judge.specs.Formed.{HasPlace, IsFormedNote}
 
@@ -233,28 +233,7 @@ is_own (Halt h) = false
 is_own (Umount h) = false
 is_own (Refused name cause) = false
 
--- Hosts whose commands tell the same.
-
--- what is told of a running command, and how far it has come
-pub record ToldTask : Type 0 where
-  pub cmd : ToldCommand
-  pub stage : CommandStage
-
--- what is told of a host
-pub record ToldHost : Type 0 where
-  pub name : List ℕ
-  pub uuid : List ℕ
-  pub task : Option ToldTask
-  pub keeps : Bool
-
--- of a running command
-abbrev pub told_task : TaskShape → ToldTask
-told_task t = record { cmd = told_of_command t.cmd; stage = t.stage }
-
--- of a host
-abbrev pub told_host : HostShape → ToldHost
-told_host host = record { name = host.name; uuid = host.uuid; task = option_map told_task host.task; keeps = host.keeps }
-
--- so of all hosts
-abbrev pub told_hosts : List HostShape → List ToldHost
-told_hosts hosts = map told_host hosts
+-- so does each of these notes, behind those before it
+abbrev pub AreStanding : ℕ → List HostShape → List Note → Type 0
+AreStanding lines hosts [] = ⊤
+AreStanding lines hosts (note ∷ notes) = MayStand lines hosts note × AreStanding lines (shapes_after hosts note) notes

@@ -1,6 +1,6 @@
 //! Laws of histories that are explained, with empty bodies.
 
-ghost use Rattle.std.specs.Prelude.{◌≡◌, ◌<◌, ◌^◌, ◌++◌, ℕ, [], ◌∷◌, false, List, Ok, Some, length, slice_get};
+ghost use Rattle.std.specs.Prelude.{◌≡◌, ◌<◌, ◌^◌, ◌++◌, ℕ, [], ◌∷◌, false, List, Ok, Some, length, map, slice_get};
 ghost use Rattle.fam_base.specs.declared.cmd.Cmd.{Cmd};
 ghost use Rattle.fam_base.specs.Image.{Image};
 ghost use Rattle.fam_grammar.specs.Scripts.{script_events};
@@ -15,13 +15,15 @@ ghost use Rattle.fam_journal.specs.Legal.{Legal};
 ghost use Rattle.fam_journal.specs.Calls.{number_of, Call, Does};
 ghost use Rattle.fam_journal.specs.Machines.{Machines};
 ghost use Rattle.fam_journal.specs.Notes.{Answer, Answered, Note, Start};
-ghost use Rattle.fam_journal.specs.Shapes.{AreShaped, HostShape, TaskNote, TaskShape, shapes_of, shown_shapes};
+ghost use Rattle.fam_journal.specs.Shapes.{AreShaped, HostShape, TaskNote, TaskShape, shapes_behind, shapes_of, shown_shapes};
 ghost use Rattle.fam_judge.specs.Alike.{AreAlikeNotes, AreWhollyTold, told_note};
 ghost use Rattle.fam_judge.specs.Asks.{AskSoundCommands};
-ghost use Rattle.fam_judge.specs.Explained.{IsExplained, IsExplainedBy};
+ghost use Rattle.fam_judge.specs.Explained.{AreAllowedForSome, IsExplained, IsExplainedBy};
 ghost use Rattle.fam_judge.specs.Formed.{AreFormed, HavePlaces, AreSoundNotes, IsFormedNote, HasPlace};
 ghost use Rattle.fam_judge.specs.GivesWay.{GiveWay};
-ghost use Rattle.fam_judge.specs.Standing.{AreDistinct, IsFormedAs, MayList, MayStand, faces, is_own, told_hosts};
+ghost use Rattle.fam_judge.specs.Shows.{ShowsJournal};
+ghost use Rattle.fam_judge.specs.Standing.{AreDistinct, AreStanding, IsFormedAs, MayList, MayStand, faces, is_own};
+ghost use Rattle.fam_judge.specs.ToldHosts.{told_behind, told_hosts};
 
 /// A legal journal whose notes have the form of the tables (`AreFormed`) is explained as it stands.
 pub fn what_is_legal_is_explained()
@@ -146,6 +148,22 @@ pub fn what_stands_is_told()
         → MayStand lines b note }
     ensures alike { (lines : ℕ) (a b : List HostShape) (note : Note) → told_hosts a ≡ told_hosts b → MayStand lines a note
         → MayStand lines b note }
+{}
+
+/// What is told of the hosts behind some notes is settled by what is told of these.
+pub fn hosts_are_told()
+    ensures { (notes : List Note) (hosts : List HostShape)
+        → told_hosts (shapes_behind hosts notes) ≡ told_behind (told_hosts hosts) (map told_note notes) }
+{}
+
+/// Which histories are explained, without a word of events: a journal whose notes stand (`AreStanding`), and are allowed,
+/// explains what it shows (`explains`), and some such journal explains what is explained (`explained`).
+pub fn what_stands_explains()
+    ensures explains { (start : Image) (history journal : List Note) → ShowsJournal history journal
+        → AreStanding (length start) [] journal → AreAllowedForSome start [] journal → IsExplained start history }
+    ensures explained { (start : Image) (history : List Note) → IsExplained start history
+        → (journal : List Note) × ShowsJournal history journal × AreStanding (length start) [] journal
+        × AreAllowedForSome start [] journal }
 {}
 
 /// A listing may have any number of entries below 2 ^ 64. So what is told of a check is always told of a sound one.

@@ -19,7 +19,8 @@ use Rattle.fam_journal.specs.Notes.{Answer, Replied, MediaFault, Note, Host, Mad
 use Rattle.fam_journal.specs.Shapes.{AnswerShape, CommandStage, EntryShape, HostShape, OfRunning, OfTask, ReplyShape, TaskNote, TaskShape}
 use Rattle.fam_judge.specs.Alike.{told_note, whole_command, whole_note}
 use Rattle.fam_judge.specs.Formed.{AnswerPlace, SlotPlace}
-use Rattle.fam_judge.specs.Standing.{Face, IsMadeBy, MayDeclare, MayMake, MayRefuse, MayStand, MayStart, OfFace, engaged_in, ToldHost, ToldTask, face, faces, is_own, told_host, told_hosts, told_task}
+use Rattle.fam_judge.specs.Standing.{Face, IsMadeBy, MayDeclare, MayMake, MayRefuse, MayStand, MayStart, OfFace, engaged_in, face, faces, is_own}
+use Rattle.fam_judge.specs.ToldHosts.{ToldHost, ToldTask, told_host, told_hosts, told_task}
 use Rattle.fam_judge.proofs.Telling.{command_back, note_back}
 
 -- Notes.

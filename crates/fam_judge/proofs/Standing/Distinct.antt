@@ -1,5 +1,5 @@
 -- The hosts of a journal of this form are distinct: their UUIDs are such, and no two have the same name or UUID.
-use Rattle.std.proofs.Common.{◌≡◌, ◌⊎◌, ◌≤◌, inl, inr, ℕ, zero, suc, Bool, true, false, List, [], ◌∷◌, ◌++◌, length, map, Option, Some, None, refl, ap, sym, ◌∙◌, subst, arith}
+use Rattle.std.proofs.Common.{◌≡◌, ◌⊎◌, ◌≤◌, inl, inr, ℕ, zero, suc, false, List, [], ◌∷◌, ◌++◌, length, map, Option, Some, None, refl, ap, sym, ◌∙◌, subst, arith}
 use Rattle.std.specs.Prelude.{◌||◌, option_map, slice_get}
 use Rattle.std.proofs.lemmas.List.{length-append, length-map, map-append}
 use Rattle.std.proofs.lemmas.Option.{same_Some, slice_get-map}
@@ -12,7 +12,7 @@ use Rattle.fam_journal.proofs.Calls.Declares.{none_passes}
 use Rattle.fam_judge.specs.Formed.{AreFormed, IsFormedNote}
 use Rattle.fam_judge.specs.Standing.{AreDistinct, Face, MayDeclare, face, faces}
 use Rattle.fam_judge.proofs.Masters.{last_at}
-use Rattle.fam_judge.proofs.Standing.Faces.{text_same}
+use Rattle.fam_judge.proofs.Standing.Faces.{either_left, either_right, text_same}
 use Rattle.fam_judge.proofs.Standing.Formed.{formed_stands}
 
 -- Names and UUIDs.
@@ -73,14 +73,6 @@ distinct_changed hosts k f same is =
 
 -- One host more.
 
-either_left : (a b : Bool) → (a || b) ≡ false → a ≡ false
-either_left true b e = absurd cc
-either_left false b e = refl
-
-either_right : (a b : Bool) → (a || b) ≡ false → b ≡ false
-either_right true b e = absurd cc
-either_right false b e = e
-
 other_than : (a b : List ℕ) → path_eq a b ≡ false → a ≡ b → ⊥
 other_than a b no_text e = let same = text_same a b e in absurd cc
 
@@ -114,7 +106,8 @@ module _ (all : List Face) (f : Face) (is : AreDistinct all) (may : MayDeclare a
 -- Notes.
 
 module _ (lines : ℕ) where
-  distinct_after : (hosts : List HostShape) (y : Note) → AreDistinct (faces hosts) → IsFormedNote lines hosts y → AreDistinct (faces (shapes_after hosts y))
+  -- behind a note of this form
+  pub distinct_after : (hosts : List HostShape) (y : Note) → AreDistinct (faces hosts) → IsFormedNote lines hosts y → AreDistinct (faces (shapes_after hosts y))
   distinct_after hosts (Host name uuid) is formed =
       subst AreDistinct (sym (map-append face hosts _))
       (distinct_more (faces hosts) (record { name = name; uuid = uuid; runs = false; keeps = false }) is (formed_stands lines hosts (Host name uuid) formed))
@@ -135,9 +128,10 @@ module _ (lines : ℕ) where
   distinct_behind [] hosts is formed = is
   distinct_behind (y ∷ journal) hosts is formed = distinct_behind journal (shapes_after hosts y) (distinct_after hosts y is formed.0) formed.1
 
-  -- behind a whole journal
-  pub distinct_hosts : (journal : List Note) → AreFormed lines [] journal → AreDistinct (faces (shapes_of journal))
-  distinct_hosts journal formed = distinct_behind journal [] none formed
-    where
-      none : AreDistinct []
-      none = record { uuids = λ k f at. absurd cc; names = λ k l f g first second e. absurd cc; apart = λ k l f g first second e. absurd cc; few = omega arith }
+-- of no hosts
+pub distinct_none : AreDistinct []
+distinct_none = record { uuids = λ k f at. absurd cc; names = λ k l f g first second e. absurd cc; apart = λ k l f g first second e. absurd cc; few = omega arith }
+
+-- behind a whole journal
+pub distinct_hosts : (lines : ℕ) (journal : List Note) → AreFormed lines [] journal → AreDistinct (faces (shapes_of journal))
+distinct_hosts lines journal formed = distinct_behind lines journal [] distinct_none formed

@@ -30,6 +30,18 @@ other_text a b ne = by (path_eq a b) refl
     by true e = absurd (ne (same_text a b e))
     by false e = e
 
+-- Tests.
+
+-- where neither passes the first doesn't
+pub either_left : (a b : Bool) → (a || b) ≡ false → a ≡ false
+either_left true b e = absurd cc
+either_left false b e = refl
+
+-- and the second doesn't
+pub either_right : (a b : Bool) → (a || b) ≡ false → b ≡ false
+either_right true b e = absurd cc
+either_right false b e = e
+
 -- Places.
 
 -- a test looks at what is made of members

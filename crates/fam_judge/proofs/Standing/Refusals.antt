@@ -20,7 +20,7 @@ use Rattle.fam_journal.specs.Shapes.{HostShape, makes_told, refusal_told, shown_
 use Rattle.fam_journal.proofs.Calls.Declares.{none_passes}
 use Rattle.fam_journal.proofs.Calls.Tests.{at_most, below_of, no_busy, no_cause, no_same, no_when, or_first, or_next}
 use Rattle.fam_judge.specs.Standing.{AtNamed, Face, HasRoom, IsDeclared, IsNotBefore, MayMake, MayRefuse, engaged_in, faces, number_in, same_in}
-use Rattle.fam_judge.proofs.Standing.Faces.{IsFirst, at_named, count_faced, engaged_faced, index_found, keeps_face, keeps_faced, lines_faced, number_faced, runs_face, runs_faced, same_faced}
+use Rattle.fam_judge.proofs.Standing.Faces.{IsFirst, at_named, count_faced, either_left, engaged_faced, index_found, keeps_face, keeps_faced, lines_faced, number_faced, runs_face, runs_faced, same_faced}
 use Rattle.fam_judge.proofs.Standing.Sizes.{Numbers, bad, need_found, numbers, pass, room_of, small}
 
 -- Tests.
@@ -43,10 +43,6 @@ not_false false e = absurd cc
 when_some : (b : Bool) (cause w : Refusal) → when b cause ≡ Some w → (b ≡ true) × (cause ≡ w)
 when_some true cause w e = (refl, same_Some cause w e)
 when_some false cause w e = absurd cc
-
-either_left : (a b : Bool) → (a || b) ≡ false → a ≡ false
-either_left true b e = absurd cc
-either_left false b e = refl
 
 both_true : (a b : Bool) → (a && b) ≡ true → (a ≡ true) × (b ≡ true)
 both_true true true e = (refl, refl)
