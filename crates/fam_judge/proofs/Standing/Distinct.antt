@@ -67,7 +67,8 @@ map_twice [] = refl
 map_twice (x ∷ xs) = ap (λ (ls : List Label). label (face x) ∷ ls) (map_twice xs)
 
 -- a host changes, but not its name or UUID
-distinct_changed : (hosts : List HostShape) (k : ℕ) (f : HostShape → HostShape) → ((x : HostShape) → label (face (f x)) ≡ label (face x)) → AreDistinct (faces hosts) → AreDistinct (faces (changed_at k f hosts))
+distinct_changed : (hosts : List HostShape) (k : ℕ) (f : HostShape → HostShape)
+    → ((x : HostShape) → label (face (f x)) ≡ label (face x)) → AreDistinct (faces hosts) → AreDistinct (faces (changed_at k f hosts))
 distinct_changed hosts k f same is =
     distinct_alike (faces hosts) (faces (changed_at k f hosts)) (map_twice hosts ∙ sym (label_kept (λ x. label (face x)) k f same hosts) ∙ sym (map_twice (changed_at k f hosts))) is
 

@@ -26,7 +26,8 @@ use Rattle.fam_judge.proofs.Telling.{both, heads, more_is_none, none_is_more, no
 staged : (stage : CommandStage) (x : HostShape) → told_host (with_stage stage x) ≡ with_told_stage stage (told_host x)
 staged stage x = ap (λ (o : Option ToldTask). let h : ToldHost = record { name = x.name; uuid = x.uuid; task = o; keeps = x.keeps } in h) (by x.task)
   where
-    by : (o : Option TaskShape) → option_map told_task (option_map (λ (t : TaskShape). record t { stage = stage }) o) ≡ option_map (λ (t : ToldTask). record t { stage = stage }) (option_map told_task o)
+    by : (o : Option TaskShape) → option_map told_task (option_map (λ (t : TaskShape). record t { stage = stage }) o)
+        ≡ option_map (λ (t : ToldTask). record t { stage = stage }) (option_map told_task o)
     by None = refl
     by (Some t) = refl
 
@@ -98,7 +99,8 @@ allowed_told past (Start h c) y e is = absurd cc
 allowed_told past x y e is = subst (Allowed past) (sym (note_back y x (ap whole_note (sym e)))) is
 
 -- so behind notes that tell the same
-pub allowed_alike : (start : Image) (a b before other : List Note) → AreAlikeNotes a b → AreAlikeNotes before other → AreAllowedForSome start before a → AreAllowedForSome start other b
+pub allowed_alike : (start : Image) (a b before other : List Note) → AreAlikeNotes a b → AreAlikeNotes before other
+    → AreAllowedForSome start before a → AreAllowedForSome start other b
 allowed_alike start [] [] before other alike first is = tt
 allowed_alike start [] (y ∷ b) before other alike first is = absurd (none_is_more (told_note y) (map told_note b) alike)
 allowed_alike start (x ∷ a) [] before other alike first is = absurd (more_is_none (told_note x) (map told_note a) alike)
@@ -115,7 +117,8 @@ allowed_alike start (x ∷ a) (y ∷ b) before other alike first is =
     )
 
 -- a journal whose notes stand, and are allowed, explains what it shows
-pub standing_explains : (start : Image) (history journal : List Note) → ShowsJournal history journal → AreStanding (length start) [] journal → AreAllowedForSome start [] journal → IsExplained start history
+pub standing_explains : (start : Image) (history journal : List Note) → ShowsJournal history journal
+    → AreStanding (length start) [] journal → AreAllowedForSome start [] journal → IsExplained start history
 standing_explains start history journal shows stands allowed =
     let formed = journal_formed (length start) journal stands in (
       formed.0,

@@ -92,7 +92,8 @@ module _ (lines : ℕ) (hosts : List HostShape) where
         record {
           event = event.Mkfs own.host.name (request_of least_unit least_unit (Some k));
           valid = request_sound least_unit least_unit (Some k);
-          shape = making own.host.name h shape.host (request_of least_unit least_unit (Some k)) (request_sound least_unit least_unit (Some k)) (own_number lines hosts distinct h own.host own.is) shape.is
+          shape = making own.host.name h shape.host (request_of least_unit least_unit (Some k)) (request_sound least_unit least_unit (Some k))
+              (own_number lines hosts distinct h own.host own.is) shape.is
               (makes_passes least_unit least_unit (least_passes lines is.0.0) is.0.1) (Cut h k) refl;
           sound = tt;
           placed = tt;

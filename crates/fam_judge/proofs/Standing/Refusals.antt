@@ -55,9 +55,11 @@ or_cause (Some x) b w e first next = first e
 or_cause None b w e first next = next refl e
 
 module _ (lines : ℕ) (hosts : List HostShape) where
+  -- the machine, as refusals see it
   abbrev pub m : Machines
   m = shown_shapes lines hosts
 
+  -- what is seen of the hosts
   abbrev pub all : List Face
   all = faces hosts
 
@@ -268,6 +270,7 @@ module _ (lines : ℕ) (hosts : List HostShape) where
       | inr high ↦ high
     ]
 
+    -- a host that is declared
     pub declares_row : (w : Refusal) → refusal_told (call.Declares name uuid) lines hosts ≡ Some w → MayRefuse lines all name w
     unfolding refusal_of
     declares_row w e =
@@ -290,5 +293,6 @@ module _ (lines : ℕ) (hosts : List HostShape) where
     unfolding refusal_of
     declares_free e = (
       sym (same_faced lines hosts name uuid) ∙ no_same _ (or_first _ _ e),
-      subst (λ (n : ℕ). n < host_limit) (count_faced lines hosts) (below_of _ _ (no_when (nat_le host_limit (length m.hosts)) why.TooManyHosts (or_next (same_refusal (index_of (is_same name uuid) m.hosts)) _ e))),
+      subst (λ (n : ℕ). n < host_limit) (count_faced lines hosts)
+          (below_of _ _ (no_when (nat_le host_limit (length m.hosts)) why.TooManyHosts (or_next (same_refusal (index_of (is_same name uuid) m.hosts)) _ e))),
     )

@@ -238,6 +238,7 @@ module _ (lines : ℕ) (hosts : List HostShape) (name : List ℕ) where
     asks : (what : Ask) (w : Refusal) → mounts what ≡ false → UnfitShape what w → MayAsk lines (faces hosts) name → Formed w
     asks what w plain unfit may = let at = named_of name (faces hosts) _ may.1 in unfit_source _ at what w plain unfit may.0 at.holds
 
+    -- whatever the cause is
     pub refused_formed : (w : Refusal) → MayRefuse lines (faces hosts) name w → Formed w
     refused_formed why.NoHost is = no_host is
     refused_formed (why.SameHost host) is =
