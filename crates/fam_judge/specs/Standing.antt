@@ -212,6 +212,11 @@ MayStand lines hosts (Halt h) = OfFace (slice_get (faces hosts) h) (λ f. ⊤)
 MayStand lines hosts (Umount h) = OfFace (slice_get (faces hosts) h) (λ f. (f.runs ≡ false) × (f.keeps ≡ true))
 MayStand lines hosts (Refused name cause) = MayRefuse lines (faces hosts) name cause
 
+-- so does each of these notes, behind those before it
+abbrev pub AreStanding : ℕ → List HostShape → List Note → Type 0
+AreStanding lines hosts [] = ⊤
+AreStanding lines hosts (note ∷ notes) = MayStand lines hosts note × AreStanding lines (shapes_after hosts note) notes
+
 -- a note that tells the same has the form of the tables
 pub record IsFormedAs (lines : ℕ) (hosts : List HostShape) (note : Note) : Type 0 where
   pub chosen : Note
@@ -232,8 +237,3 @@ is_own (Stop h) = false
 is_own (Halt h) = false
 is_own (Umount h) = false
 is_own (Refused name cause) = false
-
--- so does each of these notes, behind those before it
-abbrev pub AreStanding : ℕ → List HostShape → List Note → Type 0
-AreStanding lines hosts [] = ⊤
-AreStanding lines hosts (note ∷ notes) = MayStand lines hosts note × AreStanding lines (shapes_after hosts note) notes
