@@ -44,3 +44,4 @@ pub mod Answering
 pub mod Fitting
 pub mod MetReplies
 pub mod OverAnswers
+pub mod Standing

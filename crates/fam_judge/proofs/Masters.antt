@@ -162,7 +162,7 @@ module _ (hosts : List HostShape) (k : ℕ) (f : HostShape → HostShape) (t : S
   }
 
 -- one more at the end
-last_at : {A : Type 0} (xs : List A) (y : A) (k : ℕ) (z : A) → slice_get (xs ++ y ∷ []) k ≡ Some z → (slice_get xs k ≡ Some z) ⊎ ((k ≡ length xs) × (y ≡ z))
+pub last_at : {A : Type 0} (xs : List A) (y : A) (k : ℕ) (z : A) → slice_get (xs ++ y ∷ []) k ≡ Some z → (slice_get xs k ≡ Some z) ⊎ ((k ≡ length xs) × (y ≡ z))
 last_at [] y zero z is = inr (refl, same_Some y z is)
 last_at [] y (suc k) z is = absurd cc
 last_at (x ∷ xs) y zero z is = inl is

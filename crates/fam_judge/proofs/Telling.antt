@@ -12,7 +12,7 @@ none_is_some : {A : Type 0} (x : A) → None ≡ Some x → ⊥
 none_is_some x e = cc
 
 -- what is told of a command is it, where all is told
-command_back : (h : ℕ) (c : Cmd) (note : Note) → whole_command h (told_of_command c) ≡ Some note → Start h c ≡ note
+pub command_back : (h : ℕ) (c : Cmd) (note : Note) → whole_command h (told_of_command c) ≡ Some note → Start h c ≡ note
 command_back h cmd.Logplay note e = same_Some (Start h cmd.Logplay) note e
 command_back h cmd.Mount note e = same_Some (Start h cmd.Mount) note e
 command_back h cmd.Fsck note e = same_Some (Start h cmd.Fsck) note e

@@ -7,3 +7,5 @@ pub mod GivesWay
 pub mod Untold
 pub mod Fitting
 pub mod Possible
+pub mod Standing
+pub mod ToldHosts

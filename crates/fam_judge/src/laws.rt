@@ -1,6 +1,6 @@
 //! Laws of histories that are explained, with empty bodies.
 
-ghost use Rattle.std.specs.Prelude.{◌≡◌, ◌++◌, ℕ, [], ◌∷◌, List, Ok, Some, length, slice_get};
+ghost use Rattle.std.specs.Prelude.{◌≡◌, ◌<◌, ◌^◌, ◌++◌, ℕ, [], ◌∷◌, false, List, Ok, Some, length, map, slice_get};
 ghost use Rattle.fam_base.specs.declared.cmd.Cmd.{Cmd};
 ghost use Rattle.fam_base.specs.Image.{Image};
 ghost use Rattle.fam_grammar.specs.Scripts.{script_events};
@@ -16,14 +16,17 @@ ghost use Rattle.fam_journal.specs.Calls.{number_of, Call, Does};
 ghost use Rattle.fam_journal.specs.Machines.{Machines};
 ghost use Rattle.fam_journal.specs.Notes.{Answer, Answered, Note, Start};
 ghost use Rattle.fam_journal.specs.Past.{past_of};
-ghost use Rattle.fam_journal.specs.Shapes.{AreShaped, HostShape, TaskNote, TaskShape, shapes_of, shown_shapes};
-ghost use Rattle.fam_judge.specs.Alike.{AreAlikeNotes, AreWhollyTold};
+ghost use Rattle.fam_journal.specs.Shapes.{AreShaped, HostShape, TaskNote, TaskShape, shapes_of, shown_shapes, shapes_behind};
+ghost use Rattle.fam_judge.specs.Alike.{AreAlikeNotes, AreWhollyTold, told_note};
 ghost use Rattle.fam_judge.specs.Asks.{AskSoundCommands};
-ghost use Rattle.fam_judge.specs.Explained.{IsAllowedForSome, IsExplained, IsExplainedBy};
+ghost use Rattle.fam_judge.specs.Explained.{IsAllowedForSome, IsExplained, IsExplainedBy, AreAllowedForSome};
 ghost use Rattle.fam_judge.specs.Fitting.{Fits};
 ghost use Rattle.fam_judge.specs.Formed.{AreFormed, HavePlaces, AreSoundNotes, IsFormedNote, HasPlace};
 ghost use Rattle.fam_judge.specs.GivesWay.{GiveWay};
 ghost use Rattle.fam_judge.specs.Untold.{untold_notes};
+ghost use Rattle.fam_judge.specs.Shows.{ShowsJournal};
+ghost use Rattle.fam_judge.specs.Standing.{AreDistinct, AreStanding, IsFormedAs, MayList, MayStand, faces, is_own};
+ghost use Rattle.fam_judge.specs.ToldHosts.{told_behind, told_hosts};
 
 /// A legal journal whose notes have the form of the tables (`AreFormed`) is explained as it stands.
 pub fn what_is_legal_is_explained()
@@ -136,4 +139,51 @@ pub fn what_is_allowed_fits()
 pub fn what_fits_is_allowed()
     ensures { (start : Image) (before : List Note) (note : Note) → AreSoundNotes before
         → Fits (past_of start (untold_notes before)) note → IsAllowedForSome start before note }
+{}
+
+/// A note that has the form of the tables stands in the table over the note alone (`MayStand`), which speaks of no event.
+pub fn what_is_formed_stands()
+    ensures { (lines : ℕ) (hosts : List HostShape) (note : Note) → IsFormedNote lines hosts note → MayStand lines hosts note }
+{}
+
+/// Where a note stands in that table, one that tells the same has the form of the tables (`stands`): of hosts that have UUIDs, of
+/// which no two have the same name or UUID, and that are no more than may be declared (`AreDistinct`). So are those of each
+/// journal of this form (`hosts`).
+pub fn what_stands_is_formed()
+    ensures stands { (lines : ℕ) (hosts : List HostShape) (note : Note) → AreDistinct (faces hosts) → MayStand lines hosts note
+        → IsFormedAs lines hosts note }
+    ensures hosts { (lines : ℕ) (journal : List Note) → AreFormed lines [] journal → AreDistinct (faces (shapes_of journal)) }
+{}
+
+/// Whether a note stands in that table is settled by what is told of it (`told`). A note of no running command stands by what is
+/// seen of the hosts (`seen`): their names and UUIDs, which ones run a command, and which ones keep something of the log. Any
+/// note stands by what is told of the hosts and their commands (`alike`).
+pub fn what_stands_is_told()
+    ensures told { (lines : ℕ) (hosts : List HostShape) (a b : Note) → told_note a ≡ told_note b → MayStand lines hosts a
+        → MayStand lines hosts b }
+    ensures seen { (lines : ℕ) (a b : List HostShape) (note : Note) → faces a ≡ faces b → is_own note ≡ false → MayStand lines a note
+        → MayStand lines b note }
+    ensures alike { (lines : ℕ) (a b : List HostShape) (note : Note) → told_hosts a ≡ told_hosts b → MayStand lines a note
+        → MayStand lines b note }
+{}
+
+/// What is told of the hosts behind some notes is settled by what is told of these.
+pub fn hosts_are_told()
+    ensures { (notes : List Note) (hosts : List HostShape)
+        → told_hosts (shapes_behind hosts notes) ≡ told_behind (told_hosts hosts) (map told_note notes) }
+{}
+
+/// Which histories are explained, without a word of events: a journal whose notes stand (`AreStanding`), and are allowed,
+/// explains what it shows (`explains`), and some such journal explains what is explained (`explained`).
+pub fn what_stands_explains()
+    ensures explains { (start : Image) (history journal : List Note) → ShowsJournal history journal
+        → AreStanding (length start) [] journal → AreAllowedForSome start [] journal → IsExplained start history }
+    ensures explained { (start : Image) (history : List Note) → IsExplained start history
+        → (journal : List Note) × ShowsJournal history journal × AreStanding (length start) [] journal
+        × AreAllowedForSome start [] journal }
+{}
+
+/// A listing may have any number of entries below 2 ^ 64. So what is told of a check is always told of a sound one.
+pub fn a_listing_may_have_any_length()
+    ensures { (count : ℕ) → count < 2 ^ 64 → MayList count }
 {}
