@@ -45,3 +45,4 @@ pub mod Fitting
 pub mod MetReplies
 pub mod OverAnswers
 pub mod Standing
+pub mod OverPlain
