@@ -46,3 +46,5 @@ pub mod MetReplies
 pub mod OverAnswers
 pub mod Standing
 pub mod OverPlain
+pub mod OverLines
+pub mod OverHidden

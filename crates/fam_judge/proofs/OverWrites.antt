@@ -106,6 +106,7 @@ module _ (start : Image) (x c : Possible) (d : Direct x c) (apart : IsApart x) (
     pub may : OfRunning (slice_get (shapes_in met) h) (λ me t. TaskNote h me t (Writes h seq e))
     pub fits : Rattle.fam_judge.specs.Fitting.Fits (past_in start met) (Writes h seq e)
     pub over : Direct (after start met (Writes h seq e)) (after start c (Writes h seq e))
+    pub state : (after start met (Writes h seq e)).state ≡ (after start c (Writes h seq e)).state
 
   module _ (both : Both x c h (λ me t. TaskNote h me t (Writes h seq e))) (says : WriteSays seq e both.other.told c.state) where
     counted : FoundAllowed seq x.state × (finds seq x.state ≡ c.state)
@@ -180,6 +181,7 @@ module _ (start : Image) (x c : Possible) (d : Direct x c) (apart : IsApart x) (
                 (written_pairs x c d apart h seq e both.host both.other both.is both.other_is both.over says low (named_file both.host.told.cmd e) _ _
                 (λ a b is other over. host_written found (λ p. refl) (λ p. refl) (λ p. refl) (λ p. refl) (λ p. staged p.shape.task) _ a b over)));
           };
+          state = next_state now (found both.host) there refl counted.1 ∙ sym left_state;
         }
       where
         staged : (o : Option TaskShape) → option_map (λ (t : TaskShape). record t { stage = Named seq }) (option_map (λ (t : TaskShape). record t { stage = Met seq }) o) ≡ option_map (λ (t : TaskShape). record t { stage = Named seq }) o
@@ -203,6 +205,7 @@ module _ (start : Image) (x c : Possible) (d : Direct x c) (apart : IsApart x) (
                 (written_pairs x c d apart h seq e both.host both.other both.is both.other_is both.over says low (named_file both.host.told.cmd e) _ _
                 (λ a b is other over. host_written (λ p. p) (λ p. refl) (λ p. refl) (λ p. refl) (λ p. refl) (λ p. refl) _ a b over));
           };
+          state = next_state x both.host both.is refl state ∙ sym left_state;
         }
 
     by_stage : (a : CommandStage) → both.task.stage ≡ a → StagesOver x.state a (Met seq) both.host.told both.other.told → WritesIn

@@ -158,26 +158,15 @@ abbrev pub NonePends : State → Type 0
 NonePends (Bad origin damage gate) = ⊤
 NonePends (Sound p history pending) = pending ≡ None
 
--- the line ends host k's command
-abbrev pub EndsOf : ℕ → Note → Type 0
-EndsOf k (Stop h) = h ≡ k
-EndsOf k (Halt h) = h ≡ k
-EndsOf k (Answered h answer) = h ≡ k
-EndsOf k note = ⊥
-
--- a line that tells what became of the entry that host k named: it ends the command, or behind it nothing pends
-abbrev pub TellsOf : Image → ℕ → Possible → Note → Type 0
-TellsOf start k x line = EndsOf k line ⊎ NonePends (state_after (past_in start x) line)
-
--- the state, or one in which a host has named an entry of which the line tells
-pub data Before (start : Image) (line : Note) (x now : Possible) : Type 0 where
-  as_is : now ≡ x → Before start line x now
-  written : (k : ℕ) → Wrote start k x now → TellsOf start k now line → Before start line x now
+-- the state, or one in which a host has named an entry by now
+pub data Before (start : Image) (x now : Possible) : Type 0 where
+  as_is : now ≡ x → Before start x now
+  written : (k : ℕ) → Wrote start k x now → Before start x now
 
 -- a line leads from a state to another one
 pub record Leads (start : Image) (x : Possible) (line : Note) (y : Possible) : Type 0 where
   pub first : Possible
-  pub before : Before start line x first
+  pub before : Before start x first
   pub now : Possible
   pub reaches : ReachesFor start (giver line) first now
   pub may : MayStand (length start) (shapes_in now) line
