@@ -48,3 +48,4 @@ pub mod Standing
 pub mod OverPlain
 pub mod OverLines
 pub mod OverHidden
+pub mod OverLate

@@ -19,7 +19,7 @@ use Rattle.fam_judge.proofs.OverWrites.{writes_in}
 use Rattle.fam_judge.proofs.Places.{once_pairs, running_at}
 
 -- of the host's command this holds
-task_of : (c : Possible) (h : ℕ) (P : List ℕ → TaskShape → Type 0) (q : Progress) (t : TaskShape) → OfRunning (slice_get (shapes_in c) h) P → slice_get c.hosts h ≡ Some q → q.shape.task ≡ Some t → P q.shape.uuid t
+pub task_of : (c : Possible) (h : ℕ) (P : List ℕ → TaskShape → Type 0) (q : Progress) (t : TaskShape) → OfRunning (slice_get (shapes_in c) h) P → slice_get c.hosts h ≡ Some q → q.shape.task ≡ Some t → P q.shape.uuid t
 task_of c h P q t may is runs =
     let r = running_at c h P may in
     let one : r.host ≡ q = same_Some r.host q (sym r.is ∙ is) in
@@ -36,9 +36,6 @@ module _ (x c : Possible) (d : Direct x c) (h : ℕ) where
   -- Marks.
 
   module _ (n : ℕ) (low : settled_length x.state ≤ n) (may : OfRunning (slice_get (shapes_in c) h) (λ me t. TaskNote h me t (Mark h))) where
-    floored : HasFloor (settled_length x.state) (Some 0) → ⊤
-    floored has = tt
-
     under : (s : Option ℕ) → HasFloor (settled_length x.state) s → FloorUnder s (Some n)
     under s has = let less = has.2 in (has.0, n, has.1, refl, omega (arith, less, low))
 
