@@ -49,3 +49,5 @@ pub mod OverPlain
 pub mod OverLines
 pub mod OverHidden
 pub mod OverLate
+pub mod Goodness
+pub mod Completing

@@ -171,7 +171,8 @@ last_at (x ∷ xs) y (suc k) z is = elim (last_at xs y k z is) [
   | inr last ↦ inr (ap suc last.0, last.1)
 ]
 
-apart_last : (ids : List (List ℕ)) (u : List ℕ) → AreApart ids → ((k : ℕ) → slice_get ids k ≡ Some u → ⊥) → AreApart (ids ++ u ∷ [])
+-- one more UUID, that is new
+pub apart_last : (ids : List (List ℕ)) (u : List ℕ) → AreApart ids → ((k : ℕ) → slice_get ids k ≡ Some u → ⊥) → AreApart (ids ++ u ∷ [])
 apart_last ids u apart new k l v first second = by (last_at ids u k v first) (last_at ids u l v second)
   where
     by : (slice_get ids k ≡ Some v) ⊎ ((k ≡ length ids) × (u ≡ v)) → (slice_get ids l ≡ Some v) ⊎ ((l ≡ length ids) × (u ≡ v)) → k ≡ l

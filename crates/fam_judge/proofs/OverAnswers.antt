@@ -16,7 +16,7 @@ use Rattle.fam_journal.specs.Past.{HostPast, Sound, State, ended_state, finds, r
 use Rattle.fam_journal.specs.Shapes.{AnswerShape, Begun, CauseShape, CommandStage, HasMet, IsHead, Marked, Met, Named, OfRunning, Pairs, ReplyShape, TaskNote, TaskShape, keeps_behind, with_stage}
 use Rattle.fam_judge.specs.Fitting.{AnswerFits, Fits, ReplyFits}
 use Rattle.fam_judge.specs.Formed.{AnswerPlace, HasPlace, ReplyPlace}
-use Rattle.fam_judge.specs.Possible.{Leads, Meets, NonePends, Possible, Progress, Reaches, StageIs, Wishes, after, after_line, as_is, marked, meets, past_in, shapes_in, stands, told_met, unmarked, untold_met, with_mark, without_mark}
+use Rattle.fam_judge.specs.Possible.{Meets, NonePends, Possible, Progress, Reaches, StageIs, Wishes, after, after_line, marked, meets, past_in, shapes_in, stands, told_met, unmarked, untold_met, with_mark, without_mark}
 use Rattle.fam_judge.proofs.MetReplies.{Target, counted_marked, decided_met, met_target, place_met, shape_met}
 use Rattle.fam_judge.proofs.Over.{StateOver, Within, master_shows, none_shows, over_shows, same, settled_shows}
 use Rattle.fam_judge.proofs.OverFits.{ReplyOver, reply_over}

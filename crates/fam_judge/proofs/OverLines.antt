@@ -17,7 +17,7 @@ use Rattle.fam_journal.specs.Past.{Bad, HostPast, Sound, State, acknowledges, en
 use Rattle.fam_journal.specs.Shapes.{CommandStage, HostShape, Met, OfRunning, Pairs, TaskNote, TaskShape, keeps_behind}
 use Rattle.fam_judge.specs.Fitting.{AnswerFits, Fits, QuestionFits, ReplyFits}
 use Rattle.fam_judge.specs.Formed.{AnswerPlace, HasPlace}
-use Rattle.fam_judge.specs.Possible.{Leads, Possible, Progress, Reaches, Wrote, after, after_line, as_is, giver, meets, past_in, shapes_in}
+use Rattle.fam_judge.specs.Possible.{Possible, Progress, Reaches, Wrote, after, after_line, giver, meets, past_in, shapes_in}
 use Rattle.fam_judge.specs.Standing.{MayStand}
 use Rattle.fam_judge.proofs.Over.{StateOver, Within, master_shows, none_shows, over_shows, settled_shows}
 use Rattle.fam_judge.proofs.OverAnswers.{Comes, comes}
@@ -104,7 +104,7 @@ module _ (start : Image) (x c : Possible) (d : Direct x c) where
   from_comes : (h : ℕ) (given : Reply) (me : List ℕ) → Comes start x c h me (Replied given) → Within (effect (Replied given)) c.state → FollowsIn start x c (Answered h (Replied given))
   from_comes h given me come bound = record {
     next = after_line start come.now (Answered h (Replied given));
-    leads = record { first = x; before = as_is refl; now = come.now; reaches = come.reaches; may = (come.may, come.placed); fits = come.fits; is = refl };
+    leads = record { now = come.now; reaches = come.reaches; may = (come.may, come.placed); fits = come.fits; is = refl };
     over = record {
       state = subst (λ (s : State). StateOver s (ended_state (Replied given) c.state)) (sym (ended_is (Replied given) come.now.state))
           (subst (λ (t : State). StateOver (shows_count (effect (Replied given)) come.now.state) t) (sym (ended_is (Replied given) c.state))
@@ -140,7 +140,7 @@ module _ (start : Image) (x c : Possible) (d : Direct x c) where
       let is = writes_in start x c d apart h seq e may fits in
       record {
         next = after_line start is.met (Writes h seq e);
-        leads = record { first = x; before = as_is refl; now = is.met; reaches = meets is.meets; may = is.may; fits = is.fits; is = refl };
+        leads = record { now = is.met; reaches = meets is.meets; may = is.may; fits = is.fits; is = refl };
         over = is.over;
       }
 

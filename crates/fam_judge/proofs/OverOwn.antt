@@ -11,7 +11,7 @@ use Rattle.fam_journal.specs.Notes.{Note, Mark, Found, Writes}
 use Rattle.fam_journal.specs.Past.{HostPast, State, finds, settled_length}
 use Rattle.fam_journal.specs.Shapes.{Begun, CommandStage, HostShape, IsHead, Marked, Met, Named, OfRunning, Pairs, TaskNote, TaskShape, with_stage}
 use Rattle.fam_judge.specs.Fitting.{Fits}
-use Rattle.fam_judge.specs.Possible.{Before, Leads, Meets, Possible, Progress, Reaches, StageIs, Wishes, after, after_line, as_is, marked, meets, past_in, shapes_in, stands, told_met, unmarked, untold_met, with_mark, without_mark}
+use Rattle.fam_judge.specs.Possible.{Steps, Meets, Possible, Progress, Reaches, StageIs, Wishes, after, after_line, marked, meets, past_in, shapes_in, stands, told_met, unmarked, untold_met, with_mark, without_mark}
 use Rattle.fam_judge.specs.Standing.{MayStand}
 use Rattle.fam_judge.proofs.Over.{StateOver, master_finds, none_finds, over_finds, over_settled, same, settled_finds}
 use Rattle.fam_judge.proofs.OverHosts.{Direct, HasFloor, HostOver, Later, StagesOver, TasksOver, no_later}
@@ -23,7 +23,7 @@ use Rattle.fam_judge.proofs.Places.{Running, changed_is, once_pairs, own_pairs, 
 -- the line leads from x to a state that allows no less than the one behind c
 pub record FollowsIn (start : Image) (x c : Possible) (line : Note) : Type 0 where
   pub next : Possible
-  pub leads : Leads start x line next
+  pub leads : Steps start x line next
   pub over : Direct next (after start c line)
 
 -- of a host that runs a command in both states
@@ -130,8 +130,6 @@ module _ (start : Image) (x c : Possible) (d : Direct x c) (h : ℕ) where
       record {
         next = after_line start now (Mark h);
         leads = record {
-          first = x;
-          before = as_is refl;
           now = now;
           reaches = unmarked (runs_at x h (λ me t. t.stage ≡ Begun) both.host both.task both.is both.runs begun) refl;
           may = runs_at now h (λ me t. TaskNote h me t (Mark h)) _ both.task there both.runs (refl, begun);
@@ -216,8 +214,6 @@ module _ (start : Image) (x c : Possible) (d : Direct x c) (h n : ℕ) (found : 
           record {
             next = after_line start now (Found h n);
             leads = record {
-              first = x;
-              before = as_is refl;
               now = now;
               reaches = marked (runs_at x h (λ me t. t.stage ≡ Begun) both.host both.task both.is both.runs begun) refl;
               may = runs_at now h (λ me t. TaskNote h me t (Found h n)) _ (record both.task { stage = Marked }) there (ap (option_map (λ (t : TaskShape). record t { stage = Marked })) both.runs)
@@ -234,8 +230,6 @@ module _ (start : Image) (x c : Possible) (d : Direct x c) (h n : ℕ) (found : 
           record {
             next = after_line start x (Found h n);
             leads = record {
-              first = x;
-              before = as_is refl;
               now = x;
               reaches = stands refl (not_begun x h both.host both.task both.is both.runs (λ begun. marked_begun (sym is_marked ∙ begun)));
               may = runs_at x h (λ me t. TaskNote h me t (Found h n)) both.host both.task both.is both.runs (refl, subst HasWish (sym both.cmd) both.holds.1, is_marked);

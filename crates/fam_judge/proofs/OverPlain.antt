@@ -12,7 +12,7 @@ use Rattle.fam_journal.specs.Notes.{Answer, Replied, MediaFault, Note, Host, Mad
 use Rattle.fam_journal.specs.Past.{HostPast, Sound, State, halted, settled_length}
 use Rattle.fam_journal.specs.Shapes.{Begun, HostShape, OfRunning, Pairs, TaskNote, TaskShape}
 use Rattle.fam_journal.proofs.Calls.Declares.{none_passes}
-use Rattle.fam_judge.specs.Possible.{Leads, Possible, Progress, after, after_line, as_is, giver, new_progress, past_in, shapes_in}
+use Rattle.fam_judge.specs.Possible.{Possible, Progress, after, after_line, giver, new_progress, past_in, shapes_in}
 use Rattle.fam_judge.specs.Standing.{Face, MayStand, engaged_in, face, faces, is_own}
 use Rattle.fam_judge.proofs.Folding.{shape_in}
 use Rattle.fam_judge.proofs.Over.{StateOver, joined, dropped, same}
@@ -74,8 +74,6 @@ module _ (start : Image) (x c : Possible) (d : Direct x c) where
   plain_leads y none plain fits may over = record {
     next = after_line start x y;
     leads = record {
-      first = x;
-      before = as_is refl;
       now = x;
       reaches = subst (λ (o : Option ℕ). Rattle.fam_judge.specs.Possible.ReachesFor start o x x) (sym none) refl;
       may = stands_over start x c d y plain may;
@@ -172,8 +170,6 @@ module _ (start : Image) (x c : Possible) (d : Direct x c) where
       record {
         next = after_line start x (Answered h (MediaFault line));
         leads = record {
-          first = x;
-          before = as_is refl;
           now = x;
           reaches = refl;
           may = (runs_at x h (λ me t. TaskNote h me t (Answered h (MediaFault line))) both.host both.task both.is both.runs (refl, tt),

@@ -163,15 +163,19 @@ pub data Before (start : Image) (x now : Possible) : Type 0 where
   as_is : now ≡ x → Before start x now
   written : (k : ℕ) → Wrote start k x now → Before start x now
 
--- a line leads from a state to another one
-pub record Leads (start : Image) (x : Possible) (line : Note) (y : Possible) : Type 0 where
-  pub first : Possible
-  pub before : Before start x first
+-- a line leads from a state to another one, with its command as far as it may have come
+pub record Steps (start : Image) (x : Possible) (line : Note) (y : Possible) : Type 0 where
   pub now : Possible
-  pub reaches : ReachesFor start (giver line) first now
+  pub reaches : ReachesFor start (giver line) x now
   pub may : MayStand (length start) (shapes_in now) line
   pub fits : Fits (past_in start now) line
   pub is : y ≡ after_line start now line
+
+-- so it does where some host may have named an entry before
+pub record Leads (start : Image) (x : Possible) (line : Note) (y : Possible) : Type 0 where
+  pub first : Possible
+  pub before : Before start x first
+  pub steps : Steps start first line y
 
 -- the lines lead from a state to another one
 abbrev pub LeadsTo : Image → Possible → List Note → Possible → Type 0
