@@ -51,3 +51,4 @@ pub mod OverHidden
 pub mod OverLate
 pub mod Goodness
 pub mod Completing
+pub mod Choices
