@@ -21,7 +21,7 @@ ghost use Rattle.fam_judge.specs.Alike.{AreAlikeNotes, AreWhollyTold};
 ghost use Rattle.fam_judge.specs.Asks.{AskSoundCommands};
 ghost use Rattle.fam_judge.specs.Explained.{IsAllowedForSome, IsExplained, IsExplainedBy};
 ghost use Rattle.fam_judge.specs.Fitting.{Fits};
-ghost use Rattle.fam_judge.specs.Formed.{AreFormed, HavePlaces, AreSoundNotes, IsFormedNote, HasPlace};
+ghost use Rattle.fam_judge.specs.Formed.{AreFormed, AreListedNotes, HavePlaces, AreSoundNotes, IsFormedNote, HasPlace};
 ghost use Rattle.fam_judge.specs.GivesWay.{GiveWay};
 ghost use Rattle.fam_judge.specs.Untold.{untold_notes};
 
@@ -80,11 +80,13 @@ pub fn answers_stand_at_their_places()
         → AreShaped lines state hosts → Does call state notes left → HavePlaces hosts notes }
 {}
 
-/// Each command that begins in a run is sound, where what stands in its events' asks is within the limits
-/// (`AskSoundCommands`): whatever bytes their sources hold.
+/// Each command that begins in a run is sound (`sound`), and the entries of its listing are such as a source's lines have
+/// (`listed`), where what stands in its events' asks is within the limits (`AskSoundCommands`): whatever bytes their sources hold.
 pub fn commands_that_begin_are_sound()
-    ensures { (files : Files) (events : List Event) (image : Image) (journal : List Note) (last : Session) (ending : Ending)
+    ensures sound { (files : Files) (events : List Event) (image : Image) (journal : List Note) (last : Session) (ending : Ending)
         → AskSoundCommands events → EventsDone ending files events (first_session image) journal last → AreSoundNotes journal }
+    ensures listed { (files : Files) (events : List Event) (image : Image) (journal : List Note) (last : Session) (ending : Ending)
+        → AskSoundCommands events → EventsDone ending files events (first_session image) journal last → AreListedNotes journal }
 {}
 
 /// From an image of at most 1 TiB the journal of a run is explained as it stands, where the events are within their limits
