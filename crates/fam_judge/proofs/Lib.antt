@@ -42,3 +42,7 @@ pub mod Choosing
 pub mod Picking
 pub mod Answering
 pub mod Fitting
+pub mod Finding
+pub mod Least
+pub mod Rows
+pub mod Merging

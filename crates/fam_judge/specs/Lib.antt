@@ -6,5 +6,6 @@ pub mod Explained
 pub mod GivesWay
 pub mod Untold
 pub mod Fitting
+pub mod Counting
 pub mod Standing
 pub mod Possible
