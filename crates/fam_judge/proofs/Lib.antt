@@ -46,3 +46,5 @@ pub mod Finding
 pub mod Least
 pub mod Rows
 pub mod Merging
+pub mod Planning
+pub mod Counting

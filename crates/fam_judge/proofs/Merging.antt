@@ -128,7 +128,8 @@ first_behind p (Missing old ∷ rows) behind q is = subst (λ (x : List ℕ). pa
 first_behind p (Extra new ∷ rows) behind q is = subst (λ (x : List ℕ). path_cmp p x ≡ Less) (same_Some new.path q is) behind.0
 first_behind p (Changed old new ∷ rows) behind q is = subst (λ (x : List ℕ). path_cmp p x ≡ Less) (same_Some old.path q is) behind.0
 
-counts_as : (b d : Bool) (m n : ℕ) (counts : Checked) → b ≡ d → m ≡ n → FirstCounts d n counts → FirstCounts b m counts
+-- by numbers that are equal
+pub counts_as : (b d : Bool) (m n : ℕ) (counts : Checked) → b ≡ d → m ≡ n → FirstCounts d n counts → FirstCounts b m counts
 counts_as b d m n counts one other fits = subst (λ (x : Bool). FirstCounts x m counts) (sym one) (subst (λ (k : ℕ). FirstCounts d k counts) (sym other) fits)
 
 -- where it stands at the first entry
