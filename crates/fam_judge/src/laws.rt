@@ -2,9 +2,13 @@
 
 ghost use Rattle.std.specs.Prelude.{◌≡◌, ◌++◌, ℕ, [], ◌∷◌, List, Ok, Some, length, slice_get};
 ghost use Rattle.fam_base.specs.declared.cmd.Cmd.{Cmd};
+ghost use Rattle.fam_base.specs.declared.cmd.Cmd.TheVariants.{Check};
+ghost use Rattle.fam_base.specs.declared.entry.Entry.{Entry};
 ghost use Rattle.fam_base.specs.Image.{Image};
+ghost use Rattle.fam_format.specs.Tree.{replay};
 ghost use Rattle.fam_grammar.specs.Scripts.{script_events};
 ghost use Rattle.fam_media.specs.Files.{Files};
+ghost use Rattle.fam_rules.specs.declared.answers.Checked.{Checked};
 ghost use Rattle.fam_journal.specs.declared.event.Event.{Event};
 ghost use Rattle.fam_journal.specs.Ends.{Ending, EventsDone};
 ghost use Rattle.fam_journal.specs.Events.{Session, first_session};
@@ -19,11 +23,12 @@ ghost use Rattle.fam_journal.specs.Past.{past_of};
 ghost use Rattle.fam_journal.specs.Shapes.{AreShaped, HostShape, TaskNote, TaskShape, shapes_of, shown_shapes};
 ghost use Rattle.fam_judge.specs.Alike.{AreAlikeNotes, AreWhollyTold};
 ghost use Rattle.fam_judge.specs.Asks.{AskSoundCommands};
+ghost use Rattle.fam_judge.specs.Counting.{CountsFit};
 ghost use Rattle.fam_judge.specs.Explained.{IsAllowedForSome, IsExplained, IsExplainedBy};
-ghost use Rattle.fam_judge.specs.Fitting.{Fits};
+ghost use Rattle.fam_judge.specs.Fitting.{CheckFits, Fits};
 ghost use Rattle.fam_judge.specs.Formed.{AreFormed, AreListedNotes, HavePlaces, AreSoundNotes, IsFormedNote, HasPlace};
 ghost use Rattle.fam_judge.specs.GivesWay.{GiveWay};
-ghost use Rattle.fam_judge.specs.Untold.{untold_notes};
+ghost use Rattle.fam_judge.specs.Untold.{untold_cmd, untold_notes};
 
 /// A legal journal whose notes have the form of the tables (`AreFormed`) is explained as it stands.
 pub fn what_is_legal_is_explained()
@@ -138,4 +143,13 @@ pub fn what_is_allowed_fits()
 pub fn what_fits_is_allowed()
     ensures { (start : Image) (before : List Note) (note : Note) → AreSoundNotes before
         → Fits (past_of start (untold_notes before)) note → IsAllowedForSome start before note }
+{}
+
+/// What a check may answer of a listing that isn't told (`CheckFits`) is a matter of numbers (`CountsFit`): what it may answer fits
+/// them (`counted`), and for numbers that fit there is a listing of as many entries (`listed`).
+pub fn a_check_is_counted()
+    ensures counted { (entries told : List Entry) (counts : Checked) → CheckFits (replay entries) (Check told) counts
+        → CountsFit (replay entries) (length told) counts }
+    ensures listed { (entries told : List Entry) (counts : Checked) → untold_cmd (Check told) ≡ Check told
+        → CountsFit (replay entries) (length told) counts → CheckFits (replay entries) (Check told) counts }
 {}
