@@ -1,5 +1,5 @@
 -- A check of a tree fits what is told of a listing exactly where its numbers fit the tree.
-use Rattle.std.proofs.Common.{◌≡◌, ℕ, ◌+◌, List, [], ◌∷◌, map, length, replicate, Option, Some, None, refl, ap, sym, subst, ◌∙◌, arith}
+use Rattle.std.proofs.Common.{◌≡◌, ℕ, ◌+◌, List, [], ◌∷◌, length, replicate, Option, Some, None, ap, sym, subst, ◌∙◌, arith}
 use Rattle.std.specs.Prelude.{is_some}
 use Rattle.std.specs.FinMap as finmap
 use Rattle.std.specs.List.{AllByRecursion, filter_map}
@@ -7,7 +7,6 @@ use Rattle.std.specs.declared.cmp.Ordering.TheVariants.{Less}
 use Rattle.std.proofs.lemmas.List.{length-replicate}
 use Rattle.std.proofs.lemmas.Map.Keys.{sorted_head, sorted_tail}
 use Rattle.fam_base.specs.Commands.{IsListing}
-use Rattle.fam_base.specs.declared.cmd.Cmd.{Cmd}
 use Rattle.fam_base.specs.declared.cmd.Cmd.TheVariants.{Check}
 use Rattle.fam_base.specs.declared.entry.Entry.{Entry}
 use Rattle.fam_base.specs.PathOrder.{path_cmp}
@@ -23,18 +22,19 @@ use Rattle.fam_judge.specs.Untold.{untold_cmd, untold_entry}
 use Rattle.fam_judge.proofs.Finding.{at, get_at, replay_keyed, values_count, values_in_order}
 use Rattle.fam_judge.proofs.Merging.{ListCounts, Merged, counts_as, merged, own_paths, sizes, told_fits}
 use Rattle.fam_judge.proofs.Planning.{Plan, planned}
-use Rattle.fam_judge.proofs.Rows.{extra_of, first_of, missing_of, new_of, news_in_order, old_of, rows_checked, same_checked, told_of}
+use Rattle.fam_judge.proofs.Rows.{first_of, new_of, news_in_order, rows_checked, same_checked, told_of}
 
 -- Listings.
 
-paths_above : (path : List ℕ) (es : List Entry) → AllByRecursion (λ y. path_cmp path y ≡ Less) (map (λ (e : Entry). e.path) es) → AllAbove path es
+paths_above : (path : List ℕ) (es : List Entry) → AllByRecursion (λ y. path_cmp path y ≡ Less) (own_paths es) → AllAbove path es
 paths_above path [] above = tt
 paths_above path (e ∷ es) above = (above.0, paths_above path es above.1)
 
 listing_in_order : (es : List Entry) → IsListing es → InOrder es
 listing_in_order [] listing = tt
 listing_in_order (e ∷ es) listing =
-    (paths_above e.path es (sorted_head path_cmp e.path (own_paths es) listing), listing_in_order es (sorted_tail path_cmp e.path (own_paths es) listing))
+    (paths_above e.path es (sorted_head path_cmp e.path (own_paths es) listing),
+    listing_in_order es (sorted_tail path_cmp e.path (own_paths es) listing))
 
 same_length : (a b : List Entry) → untold_cmd (Check a) ≡ Check b → length b ≡ length a
 same_length a b alike = let is : replicate (length a) untold_entry ≡ b = cc in ap length (sym is) ∙ length-replicate (length a) untold_entry
@@ -42,13 +42,14 @@ same_length a b alike = let is : replicate (length a) untold_entry ≡ b = cc in
 -- A tree whose entries stand under their own paths.
 
 module _ (tree : Tree) (keyed : IsKeyed tree) where
-  -- the numbers of its entries are its own
+  -- what its entries allow the tree allows
   list_counts : (counts : Checked) (first : Option (List ℕ)) → ListCounts (finmap.values tree) counts first → PathCounts tree counts first
   list_counts counts None fits = fits
   list_counts counts (Some q) fits =
       counts_as (finmap.contains_key tree q) (is_some (at (finmap.values tree) q)) (count_behind q (finmap.keys tree))
       (count_behind q (own_paths (finmap.values tree))) counts (ap is_some (get_at tree q keyed)) (ap (count_behind q) (sym keyed)) fits
 
+  -- and the other way
   tree_counts : (counts : Checked) (first : Option (List ℕ)) → PathCounts tree counts first → ListCounts (finmap.values tree) counts first
   tree_counts counts None fits = fits
   tree_counts counts (Some q) fits =
@@ -59,9 +60,10 @@ module _ (tree : Tree) (keyed : IsKeyed tree) where
   pub counts_fit : (told : List Entry) (counts : Checked) → CheckFits tree (Check told) counts → CountsFit tree (length told) counts
   counts_fit told counts fits =
       let m : Merged (finmap.values tree) fits.listing =
-          merged (length (finmap.values tree) + length fits.listing) (finmap.values tree) fits.listing (omega arith) (values_in_order tree keyed)
-          (listing_in_order fits.listing fits.sound.limits) in
-      let is : checked tree fits.listing ≡ told_of m.rows = ap (checked tree) (sym m.new) ∙ rows_checked tree keyed m.rows m.are (sym m.old) in
+          merged (length (finmap.values tree) + length fits.listing) (finmap.values tree) fits.listing (omega arith)
+          (values_in_order tree keyed) (listing_in_order fits.listing fits.sound.limits) in
+      let is : checked tree fits.listing ≡ told_of m.rows =
+          ap (checked tree) (sym m.new) ∙ rows_checked tree keyed m.rows m.are (sym m.old) in
       subst (λ (c : Checked). CountsFit tree (length told) c) (sym (fits.is ∙ is)) (record {
         size = omega (arith, sizes m.rows, ap length m.new, ap length m.old, values_count tree, same_length fits.listing told fits.alike);
         first = list_counts (told_of m.rows) (first_of m.rows)

@@ -15,7 +15,7 @@ use Rattle.fam_base.specs.PathOrder.{path_cmp}
 use Rattle.fam_format.specs.Tree.{Tree, replay, with_entry}
 use Rattle.fam_tree.proofs.Ordered.{itself}
 use Rattle.fam_tree.proofs.Views.{path_cmp-IsAntisymmetric}
-use Rattle.fam_tree.specs.Keyed.{IsKeyed, paths_of}
+use Rattle.fam_tree.specs.Keyed.{IsKeyed}
 use Rattle.fam_tree.specs.Runs.{AllAbove, InOrder}
 
 -- The order of two paths.
@@ -64,7 +64,8 @@ own_rest e es own = cc
 find_at : (path : List ℕ) (es : List (List ℕ × Entry)) → AreOwn es → find path_cmp path es ≡ at (map (λ (e : List ℕ × Entry). e.1) es) path
 find_at path [] own = refl
 find_at path (e ∷ es) own =
-    ap₂ (λ (q : List ℕ) (o : Option Entry). cond (is_eq (path_cmp path q)) (Some e.1) o) (sym (own_first e es own)) (find_at path es (own_rest e es own))
+    ap₂ (λ (q : List ℕ) (o : Option Entry). cond (is_eq (path_cmp path q)) (Some e.1) o) (sym (own_first e es own))
+    (find_at path es (own_rest e es own))
 
 -- the tree has what its entries have
 pub get_at : (tree : Tree) (path : List ℕ) → IsKeyed tree → finmap.get tree path ≡ at (finmap.values tree) path
@@ -79,7 +80,8 @@ less Less h = refl
 less Equal h = absurd h
 less Greater h = absurd h
 
-all_above : (path : List ℕ) (es : List (List ℕ × Entry)) → AreOwn es → T (below_all path_cmp path es) → AllAbove path (map (λ (e : List ℕ × Entry). e.1) es)
+all_above : (path : List ℕ) (es : List (List ℕ × Entry)) → AreOwn es → T (below_all path_cmp path es)
+    → AllAbove path (map (λ (e : List ℕ × Entry). e.1) es)
 all_above path [] own h = tt
 all_above path (e ∷ es) own h =
     let parts = both (is_lt (path_cmp path e.0)) (below_all path_cmp path es) h in
@@ -90,7 +92,8 @@ all_in_order [] own h = tt
 all_in_order (e ∷ es) own h =
     let parts = both (below_all path_cmp e.0 es) (is_sorted path_cmp es) h in
     let above = all_above e.0 es (own_rest e es own) parts.0 in
-    (subst (λ (p : List ℕ). AllAbove p (map (λ (e : List ℕ × Entry). e.1) es)) (sym (own_first e es own)) above, all_in_order es (own_rest e es own) parts.1)
+    (subst (λ (p : List ℕ). AllAbove p (map (λ (e : List ℕ × Entry). e.1) es)) (sym (own_first e es own)) above,
+    all_in_order es (own_rest e es own) parts.1)
 
 -- they are in order
 pub values_in_order : (tree : Tree) → IsKeyed tree → InOrder (finmap.values tree)
@@ -102,7 +105,8 @@ values_count tree = length-map (finmap.entries tree) (λ (e : List ℕ × Entry)
 
 -- In the tree of a listing.
 
-either : (b : Bool) (e : Entry) (x y : Option Entry) → (is_some (cond b (Some e) x) || is_some y) ≡ (is_some x || is_some (cond b (Some e) y))
+either : (b : Bool) (e : Entry) (x y : Option Entry)
+    → (is_some (cond b (Some e) x) || is_some y) ≡ (is_some x || is_some (cond b (Some e) y))
 either true e None y = refl
 either true e (Some z) y = refl
 either false e x y = refl
@@ -111,7 +115,8 @@ or_nothing : (b : Bool) → b ≡ (b || false)
 or_nothing true = refl
 or_nothing false = refl
 
-held_at : (tree : Tree) (es : List Entry) (path : List ℕ) → is_some (finmap.get (fold with_entry tree es) path) ≡ (is_some (finmap.get tree path) || is_some (at es path))
+held_at : (tree : Tree) (es : List Entry) (path : List ℕ)
+    → is_some (finmap.get (fold with_entry tree es) path) ≡ (is_some (finmap.get tree path) || is_some (at es path))
 held_at tree [] path = or_nothing (is_some (finmap.get tree path))
 held_at tree (e ∷ es) path =
     held_at (with_entry tree e) es path
@@ -127,7 +132,8 @@ own_put : (new : Entry) (es : List (List ℕ × Entry)) → AreOwn es → AreOwn
 own_put new [] own = refl
 own_put new (e ∷ es) own =
     let rest = own_put new es (own_rest e es own) in
-    elim (path_cmp new.path e.0) as (λ o. path_cmp new.path e.0 ≡ o → AreOwn (by_order o ((new.path, new) ∷ e ∷ es) ((e.0, new) ∷ es) (e ∷ put path_cmp new.path new es))) [
+    elim (path_cmp new.path e.0) as (λ o. path_cmp new.path e.0 ≡ o
+    → AreOwn (by_order o ((new.path, new) ∷ e ∷ es) ((e.0, new) ∷ es) (e ∷ put path_cmp new.path new es))) [
       | Less ↦ λ is. ap (λ (l : List (List ℕ)). new.path ∷ l) own
       | Equal ↦ λ is. ap₂ (λ (p : List ℕ) (l : List (List ℕ)). p ∷ l) (path_cmp-IsAntisymmetric new.path e.0 is) (own_rest e es own)
       | Greater ↦ λ is. ap₂ (λ (p : List ℕ) (l : List (List ℕ)). p ∷ l) (own_first e es own) rest

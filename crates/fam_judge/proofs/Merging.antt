@@ -1,7 +1,7 @@
 -- The entries of a tree and of a listing stand in rows, and what these tell fits the numbers that a tree allows.
 use Prim.Native.Nat.{zero, suc}
 use Rattle.std.proofs.Common.{◌≡◌, ◌≤◌, ℕ, ◌+◌, Bool, true, false, cond, List, [], ◌∷◌, map, length, Option, Some, None, refl, ap, sym, subst, ◌∙◌, arith}
-use Rattle.std.specs.Prelude.{⊤, is_some}
+use Rattle.std.specs.Prelude.{is_some}
 use Rattle.std.specs.List.{cons_option, filter, filter_map}
 use Rattle.std.specs.Ordering.{is_lt}
 use Rattle.std.specs.declared.cmp.Ordering.{Ordering}
@@ -16,7 +16,8 @@ use Rattle.fam_tree.proofs.Views.{path_cmp-IsAntisymmetric}
 use Rattle.fam_tree.specs.Runs.{AllAbove, InOrder}
 use Rattle.fam_judge.specs.Counting.{FirstCounts, count_behind}
 use Rattle.fam_judge.proofs.Finding.{after, at, at_above, at_here, at_other, before}
-use Rattle.fam_judge.proofs.Rows.{AreBehind, AreRows, Changed, Extra, IsRow, Missing, Row, Same, behind_weaker, changed_of, extra_of, first_of, missing_of, new_of, old_of, olds_above, row_path, told_of}
+use Rattle.fam_judge.proofs.Rows.{AreBehind, AreRows, IsRow, Row, behind_weaker, olds_above, row_path, told_of}
+use Rattle.fam_judge.proofs.Rows.{Changed, Extra, Missing, Same, changed_of, extra_of, first_of, missing_of, new_of, old_of}
 
 -- Rows of two lists.
 
@@ -57,11 +58,12 @@ merged_first n merges o e olds news count first second Less is =
     with_row (Missing o) tt olds (e ∷ news) (merges olds (e ∷ news) (omega arith) first.1 second) first.0
     (is, above_weaker o.path e.path news is second.0) (λ p a b. a.0)
 merged_first n merges o e olds news count first second Equal is =
-    paired o e olds news (sym (path_cmp-IsAntisymmetric o.path e.path is)) (entry_eq o e) refl (merges olds news (omega arith) first.1 second.1) first.0 second.0
+    paired o e olds news (sym (path_cmp-IsAntisymmetric o.path e.path is)) (entry_eq o e) refl
+    (merges olds news (omega arith) first.1 second.1) first.0 second.0
 merged_first n merges o e olds news count first second Greater is =
     let less = before o.path e.path is in
-    with_row (Extra e) tt (o ∷ olds) news (merges (o ∷ olds) news (omega arith) first second.1) (less, above_weaker e.path o.path olds less first.0) second.0
-    (λ p a b. b.0)
+    with_row (Extra e) tt (o ∷ olds) news (merges (o ∷ olds) news (omega arith) first second.1)
+    (less, above_weaker e.path o.path olds less first.0) second.0 (λ p a b. b.0)
 
 -- lists in order stand in rows
 pub merged : (n : ℕ) → Merges n
@@ -79,7 +81,8 @@ merged (suc n) (o ∷ olds) (e ∷ news) count first second =
 
 -- how many there are on either side
 pub sizes : (rows : List Row)
-    → length (filter_map new_of rows) + length (filter_map missing_of rows) ≡ length (filter_map old_of rows) + length (filter_map extra_of rows)
+    → length (filter_map new_of rows) + length (filter_map missing_of rows)
+      ≡ length (filter_map old_of rows) + length (filter_map extra_of rows)
 sizes [] = refl
 sizes (Same old new ∷ rows) = let rest = sizes rows in omega arith
 sizes (Missing old ∷ rows) = let rest = sizes rows in omega arith
@@ -130,14 +133,16 @@ first_behind p (Changed old new ∷ rows) behind q is = subst (λ (x : List ℕ)
 
 -- by numbers that are equal
 pub counts_as : (b d : Bool) (m n : ℕ) (counts : Checked) → b ≡ d → m ≡ n → FirstCounts d n counts → FirstCounts b m counts
-counts_as b d m n counts one other fits = subst (λ (x : Bool). FirstCounts x m counts) (sym one) (subst (λ (k : ℕ). FirstCounts d k counts) (sym other) fits)
+counts_as b d m n counts one other fits =
+    subst (λ (x : Bool). FirstCounts x m counts) (sym one) (subst (λ (k : ℕ). FirstCounts d k counts) (sym other) fits)
 
 -- where it stands at the first entry
 here_counts : (o : Entry) (olds : List Entry) (counts : Checked) → AllAbove o.path olds
     → 1 ≤ counts.missing + counts.changed → counts.missing + counts.changed ≤ length olds + 1 → ListCounts (o ∷ olds) counts (Some o.path)
 here_counts o olds counts above one more =
     counts_as (is_some (at (o ∷ olds) o.path)) true (count_behind o.path (own_paths (o ∷ olds))) (length olds) counts
-    (ap is_some (at_here o.path o olds refl)) (count_other o.path o olds (ap is_lt (itself o.path)) ∙ count_all o.path olds above) (one, more)
+    (ap is_some (at_here o.path o olds refl))
+    (count_other o.path o olds (ap is_lt (itself o.path)) ∙ count_all o.path olds above) (one, more)
 
 -- what rows tell fits
 pub told_fits : (rows : List Row) → AreRows rows → ListCounts (filter_map old_of rows) (told_of rows) (first_of rows)
@@ -151,10 +156,12 @@ told_fits (Same old new ∷ rows) are = by (first_of rows) refl (told_fits rows 
         let less = first_behind old.path rows are.1 q is in
         counts_as (is_some (at (old ∷ filter_map old_of rows) q)) (is_some (at (filter_map old_of rows) q))
         (count_behind q (own_paths (old ∷ filter_map old_of rows))) (count_behind q (own_paths (filter_map old_of rows))) (told_of rows)
-        (ap is_some (at_other q old (filter_map old_of rows) less)) (count_other q old (filter_map old_of rows) (ap is_lt (after old.path q less))) fits
+        (ap is_some (at_other q old (filter_map old_of rows) less))
+        (count_other q old (filter_map old_of rows) (ap is_lt (after old.path q less))) fits
 told_fits (Missing old ∷ rows) are =
     let most = within rows in
-    here_counts old (filter_map old_of rows) (told_of (Missing old ∷ rows)) (olds_above old.path rows are.2 are.1) (omega arith) (omega arith)
+    here_counts old (filter_map old_of rows) (told_of (Missing old ∷ rows)) (olds_above old.path rows are.2 are.1)
+    (omega arith) (omega arith)
 told_fits (Extra new ∷ rows) are =
     let above = olds_above new.path rows are.2 are.1 in
     counts_as (is_some (at (filter_map old_of rows) new.path)) false (count_behind new.path (own_paths (filter_map old_of rows)))
@@ -162,4 +169,5 @@ told_fits (Extra new ∷ rows) are =
     (count_all new.path (filter_map old_of rows) above) (omega arith, within rows)
 told_fits (Changed old new ∷ rows) are =
     let most = within rows in
-    here_counts old (filter_map old_of rows) (told_of (Changed old new ∷ rows)) (olds_above old.path rows are.2 are.1) (omega arith) (omega arith)
+    here_counts old (filter_map old_of rows) (told_of (Changed old new ∷ rows)) (olds_above old.path rows are.2 are.1)
+    (omega arith) (omega arith)

@@ -1,10 +1,10 @@
 -- Rows of a tree's entries with as many missing, extra and changed as a check tells, and the first path that it tells.
 use Prim.Native.Nat.{zero, suc}
-use Rattle.std.proofs.Common.{◌≡◌, ◌<◌, ◌≤◌, ℕ, ◌+◌, ◌&&◌, ◌==◌, Bool, true, false, List, [], ◌∷◌, map, length, get_or, Option, Some, None, refl, ap, sym, subst, ◌∙◌, arith}
+use Rattle.std.proofs.Common.{◌≡◌, ◌<◌, ◌≤◌, ℕ, ◌+◌, ◌&&◌, ◌==◌, Bool, true, false, List, [], ◌∷◌, length, get_or, Option, Some, None, refl, ap, sym, subst, ◌∙◌, arith}
 use Rattle.std.specs.Prelude.{is_some}
 use Rattle.std.specs.List.{cons_option, filter_map}
 use Rattle.std.specs.Ordering.{is_lt, nat_cmp, ordering_then}
-use Rattle.std.specs.Cmp.Lexicographic.{nat_list_cmp_total, nat_list_eq_equiv, slice_cmp}
+use Rattle.std.specs.Cmp.Lexicographic.{nat_list_cmp_total, nat_list_eq_equiv}
 use Rattle.std.specs.declared.cmp.Ordering.{Ordering}
 use Rattle.std.specs.declared.cmp.Ordering.TheVariants.{Less, Equal, Greater}
 use Rattle.std.proofs.lemmas.Bool.{and_from, eq-eqb}
@@ -22,7 +22,8 @@ use Rattle.fam_judge.specs.Counting.{FirstCounts, count_behind}
 use Rattle.fam_judge.specs.Untold.{untold_entry}
 use Rattle.fam_judge.proofs.Finding.{after, at, at_above, at_here, at_other, before}
 use Rattle.fam_judge.proofs.Merging.{ListCounts, count_all, count_other, counts_as, own_paths}
-use Rattle.fam_judge.proofs.Rows.{AreBehind, AreRows, Changed, Extra, IsRow, Missing, Row, Same, behind_weaker, changed_of, extra_of, first_of, first_with, missing_of, old_of, row_path}
+use Rattle.fam_judge.proofs.Rows.{AreBehind, AreRows, IsRow, Row, behind_weaker, row_path}
+use Rattle.fam_judge.proofs.Rows.{Changed, Extra, Missing, Same, changed_of, extra_of, first_of, first_with, missing_of, old_of}
 
 -- Entries.
 
@@ -32,8 +33,8 @@ same_number n = eq-eqb n n refl
 same_entry : (e : Entry) → entry_eq e e ≡ true
 same_entry e =
     and_from _ _ (and_from _ _ (and_from _ _ (and_from _ _ (and_from _ _ (and_from _ _ (and_from _ _ (and_from _ _
-    (same_number (kind_word e.kind)) (nat_list_eq_equiv.refl e.path)) (same_number e.size)) (same_number e.mode)) (same_number e.uid)) (same_number e.gid))
-    (same_number (map_word e.map))) (same_number (chunk_word e.map))) (extents_equiv.refl e.extents)
+    (same_number (kind_word e.kind)) (nat_list_eq_equiv.refl e.path)) (same_number e.size)) (same_number e.mode)) (same_number e.uid))
+    (same_number e.gid)) (same_number (map_word e.map))) (same_number (chunk_word e.map))) (extents_equiv.refl e.extents)
 
 -- an entry of another size
 abbrev longer : Entry → Entry
@@ -48,8 +49,8 @@ other_size n = grind (arith, nat_tests)
 
 other_entry : (e : Entry) → entry_eq e (longer e) ≡ false
 other_entry e =
-    ap (λ (b : Bool). b && (e.mode == e.mode) && (e.uid == e.uid) && (e.gid == e.gid) && (map_word e.map == map_word e.map) && (chunk_word e.map == chunk_word e.map)
-    && extents_eq e.extents e.extents)
+    ap (λ (b : Bool). b && (e.mode == e.mode) && (e.uid == e.uid) && (e.gid == e.gid) && (map_word e.map == map_word e.map)
+    && (chunk_word e.map == chunk_word e.map) && extents_eq e.extents e.extents)
     (ap (λ (b : Bool). (kind_word e.kind == kind_word e.kind) && path_eq e.path e.path && b) (other_size e.size)
     ∙ false_behind ((kind_word e.kind == kind_word e.kind) && path_eq e.path e.path))
 
@@ -83,8 +84,8 @@ kept_count (Some e) es n is = ap suc is
 with_plan : (r : Row) → IsRow r → (olds : List Entry) (missing extra changed : ℕ) (first : Option (List ℕ)) (Low Lower : List ℕ → Type 0)
     → Plan olds missing extra changed first Low → AllAbove (row_path r) olds → Low (row_path r)
     → ((p : List ℕ) → AllAbove p (cons_option (old_of r) olds) → Lower p → path_cmp p (row_path r) ≡ Less)
-    → Plan (cons_option (old_of r) olds) (count_with (missing_of r) missing) (count_with (extra_of r) extra) (count_with (changed_of r) changed)
-      (first_with r first) Lower
+    → Plan (cons_option (old_of r) olds) (count_with (missing_of r) missing) (count_with (extra_of r) extra)
+      (count_with (changed_of r) changed) (first_with r first) Lower
 with_plan r is olds missing extra changed first Low Lower plan above low lower = record {
   rows = r ∷ plan.rows;
   are = (is, plan.low (row_path r) above low, plan.are);
@@ -164,7 +165,8 @@ first_is_taken b extra e es (suc missing) changed some = refl
 
 -- a plan as another one
 plan_as : (olds : List Entry) (missing extra changed : ℕ) (first wanted : Option (List ℕ)) (Low Lower : List ℕ → Type 0)
-    → Plan olds missing extra changed first Low → first ≡ wanted → ((p : List ℕ) → Lower p → Low p) → Plan olds missing extra changed wanted Lower
+    → Plan olds missing extra changed first Low → first ≡ wanted → ((p : List ℕ) → Lower p → Low p)
+    → Plan olds missing extra changed wanted Lower
 plan_as olds missing extra changed first wanted Low Lower plan same weaker = record {
   rows = plan.rows;
   are = plan.are;
@@ -176,27 +178,32 @@ plan_as olds missing extra changed first wanted Low Lower plan same weaker = rec
   low = λ p a l. plan.low p a (weaker p l);
 }
 
+-- a path before the first one
+abbrev IsLow : List ℕ → List ℕ → Type 0
+IsLow q p = path_cmp p q ≡ Less
+
 module _ (b : ℕ) (q : List ℕ) (q_short : IsShort b q) where
   short_low : (p : List ℕ) → path_cmp p q ≡ Less → IsShort b p
   short_low p less = nat_list_cmp_total.trans p q (b ∷ []) less q_short
 
   -- it is extra, before these
   extra_first : (es : List Entry) (missing extra changed : ℕ) → InOrder es → AreShort b es → AllAbove q es → missing + changed ≤ length es
-      → 1 ≤ extra → Plan es missing extra changed (Some q) (λ p. path_cmp p q ≡ Less)
+      → 1 ≤ extra → Plan es missing extra changed (Some q) (IsLow q)
   extra_first es missing zero changed order short above most some = absurd (omega arith)
   extra_first es missing (suc extra) changed order short above most some =
-      with_plan (Extra (blank q)) tt es missing extra changed (first_taken b extra es missing changed) (IsShort b) (λ p. path_cmp p q ≡ Less)
+      with_plan (Extra (blank q)) tt es missing extra changed (first_taken b extra es missing changed) (IsShort b) (IsLow q)
       (takes b extra es missing changed order short most) above q_short (λ p a l. l)
 
   module _ (counts : Checked) where
     planned_first : (e : Entry) (es : List Entry) → InOrder (e ∷ es) → AreShort b (e ∷ es)
-        → (ListCounts es counts (Some q) → Plan es counts.missing counts.extra counts.changed (Some q) (λ p. path_cmp p q ≡ Less))
+        → (ListCounts es counts (Some q) → Plan es counts.missing counts.extra counts.changed (Some q) (IsLow q))
         → ListCounts (e ∷ es) counts (Some q) → (r : Ordering) → path_cmp e.path q ≡ r
-        → Plan (e ∷ es) counts.missing counts.extra counts.changed (Some q) (λ p. path_cmp p q ≡ Less)
+        → Plan (e ∷ es) counts.missing counts.extra counts.changed (Some q) (IsLow q)
     planned_first e es order short rest fits Less is =
-        with_plan (Same e e) (refl, same_entry e) es counts.missing counts.extra counts.changed (Some q) (λ p. path_cmp p q ≡ Less) (λ p. path_cmp p q ≡ Less)
-        (rest (counts_as (is_some (at es q)) (is_some (at (e ∷ es) q)) (count_behind q (own_paths es)) (count_behind q (own_paths (e ∷ es))) counts
-        (ap is_some (sym (at_other q e es is))) (sym (count_other q e es (ap is_lt (after e.path q is)))) fits)) order.0 is (λ p a l. a.0)
+        with_plan (Same e e) (refl, same_entry e) es counts.missing counts.extra counts.changed (Some q) (IsLow q) (IsLow q)
+        (rest (counts_as (is_some (at es q)) (is_some (at (e ∷ es) q)) (count_behind q (own_paths es))
+        (count_behind q (own_paths (e ∷ es))) counts (ap is_some (sym (at_other q e es is)))
+        (sym (count_other q e es (ap is_lt (after e.path q is)))) fits)) order.0 is (λ p a l. a.0)
     planned_first e es order short rest fits Equal is =
         let own : e.path ≡ q = path_cmp-IsAntisymmetric e.path q is in
         let above : AllAbove q es = subst (λ (p : List ℕ). AllAbove p es) own order.0 in
@@ -204,8 +211,8 @@ module _ (b : ℕ) (q : List ℕ) (q_short : IsShort b q) where
             counts_as true (is_some (at (e ∷ es) q)) (length es) (count_behind q (own_paths (e ∷ es))) counts
             (ap is_some (sym (at_here q e es own)))
             (sym (count_other q e es (ap is_lt (ap (path_cmp q) own ∙ itself q)) ∙ count_all q es above)) fits in
-        plan_as (e ∷ es) counts.missing counts.extra counts.changed (first_taken b counts.extra (e ∷ es) counts.missing counts.changed) (Some q)
-        (IsShort b) (λ p. path_cmp p q ≡ Less) (takes b counts.extra (e ∷ es) counts.missing counts.changed order short (omega (arith, here.1)))
+        plan_as (e ∷ es) counts.missing counts.extra counts.changed (first_taken b counts.extra (e ∷ es) counts.missing counts.changed)
+        (Some q) (IsShort b) (IsLow q) (takes b counts.extra (e ∷ es) counts.missing counts.changed order short (omega (arith, here.1)))
         (first_is_taken b counts.extra e es counts.missing counts.changed here.0 ∙ ap Some own) short_low
     planned_first e es order short rest fits Greater is =
         let less : path_cmp q e.path ≡ Less = before e.path q is in
@@ -216,7 +223,7 @@ module _ (b : ℕ) (q : List ℕ) (q_short : IsShort b q) where
         extra_first (e ∷ es) counts.missing counts.extra counts.changed order short above here.1 here.0
 
     planned_at : (es : List Entry) → InOrder es → AreShort b es → ListCounts es counts (Some q)
-        → Plan es counts.missing counts.extra counts.changed (Some q) (λ p. path_cmp p q ≡ Less)
+        → Plan es counts.missing counts.extra counts.changed (Some q) (IsLow q)
     planned_at [] order short fits = extra_first [] counts.missing counts.extra counts.changed tt tt tt fits.1 fits.0
     planned_at (e ∷ es) order short fits = planned_first e es order short (planned_at es order.1 short.1) fits (path_cmp e.path q) refl
 
@@ -231,7 +238,8 @@ are_short : (b : ℕ) (es : List Entry) → heads es < b → AreShort b es
 are_short b [] less = tt
 are_short b (e ∷ es) less = (is_short b e.path (omega arith), are_short b es (omega arith))
 
-none_first : (b : ℕ) (es : List Entry) (missing extra changed : ℕ) → missing ≡ 0 → extra ≡ 0 → changed ≡ 0 → first_taken b extra es missing changed ≡ None
+none_first : (b : ℕ) (es : List Entry) (missing extra changed : ℕ) → missing ≡ 0 → extra ≡ 0 → changed ≡ 0
+    → first_taken b extra es missing changed ≡ None
 none_first b es missing extra changed m x c = (λ i. first_taken b (x i) es (m i) (c i)) ∙ none_taken b es
 
 -- rows that tell what fits
@@ -240,10 +248,11 @@ pub planned : (es : List Entry) (counts : Checked) → InOrder es → (first : O
 planned es counts order None fits =
     let b = suc (heads es) in
     let most : counts.missing + counts.changed ≤ length es = omega (arith, fits.0, fits.2) in
-    plan_as es counts.missing counts.extra counts.changed (first_taken b counts.extra es counts.missing counts.changed) None (IsShort b) (λ p. ⊥)
+    plan_as es counts.missing counts.extra counts.changed (first_taken b counts.extra es counts.missing counts.changed) None
+    (IsShort b) (λ p. ⊥)
     (takes b counts.extra es counts.missing counts.changed order (are_short b es (omega arith)) most)
     (none_first b es counts.missing counts.extra counts.changed fits.0 fits.1 fits.2) (λ p l. absurd l)
 planned es counts order (Some q) fits =
     let b = suc (get_or q 0 0 + heads es) in
-    plan_as es counts.missing counts.extra counts.changed (Some q) (Some q) (λ p. path_cmp p q ≡ Less) (λ p. ⊥)
+    plan_as es counts.missing counts.extra counts.changed (Some q) (Some q) (IsLow q) (λ p. ⊥)
     (planned_at b q (is_short b q (omega arith)) counts es order (are_short b es (omega arith)) fits) refl (λ p l. absurd l)

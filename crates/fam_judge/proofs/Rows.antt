@@ -1,5 +1,5 @@
 -- A tree's entries and a listing's beside each other, in order of their paths, and what a check counts of them.
-use Rattle.std.proofs.Common.{◌≡◌, ◌≤◌, ℕ, suc, ◌+◌, Bool, true, false, cond, List, [], ◌∷◌, ◌++◌, length, Option, Some, None, refl, ap, sym, subst, ◌∙◌, append_assoc, arith}
+use Rattle.std.proofs.Common.{◌≡◌, ℕ, Bool, true, false, cond, List, [], ◌∷◌, ◌++◌, length, Option, Some, None, refl, ap, sym, subst, ◌∙◌, append_assoc}
 use Rattle.std.specs.Prelude.{⊤, is_some, not}
 use Rattle.std.specs.FinMap as finmap
 use Rattle.std.specs.List.{AllByRecursion, cons_option, filter, filter_map}
@@ -140,11 +140,13 @@ changed_side : IsSide changed_of
 changed_side (Changed old new) is = is.0
 changed_side other is = tt
 
-kept_above : (p path : List ℕ) (o : Option Entry) (es : List Entry) → HasPath path o → path_cmp p path ≡ Less → AllAbove p es → AllAbove p (cons_option o es)
+kept_above : (p path : List ℕ) (o : Option Entry) (es : List Entry) → HasPath path o → path_cmp p path ≡ Less → AllAbove p es
+    → AllAbove p (cons_option o es)
 kept_above p path None es own less above = above
 kept_above p path (Some e) es own less above = (ap (path_cmp p) own ∙ less, above)
 
-kept_order : (path : List ℕ) (o : Option Entry) (es : List Entry) → HasPath path o → AllAbove path es → InOrder es → InOrder (cons_option o es)
+kept_order : (path : List ℕ) (o : Option Entry) (es : List Entry) → HasPath path o → AllAbove path es → InOrder es
+    → InOrder (cons_option o es)
 kept_order path None es own above order = order
 kept_order path (Some e) es own above order = (subst (λ (p : List ℕ). AllAbove p es) (sym own) above, order)
 
@@ -153,14 +155,16 @@ kept_at path None es own above = at_above path es above
 kept_at path (Some e) es own above = at_here path e es own
 
 -- at a path behind
-later_at : (q path : List ℕ) (o : Option Entry) (es : List Entry) → HasPath path o → path_cmp path q ≡ Less → at (cons_option o es) q ≡ at es q
+later_at : (q path : List ℕ) (o : Option Entry) (es : List Entry) → HasPath path o → path_cmp path q ≡ Less
+    → at (cons_option o es) q ≡ at es q
 later_at q path None es own less = refl
 later_at q path (Some e) es own less = at_other q e es (ap (λ (p : List ℕ). path_cmp p q) own ∙ less)
 
 module _ (f : Row → Option Entry) (on : IsSide f) where
   side_above : (p : List ℕ) (rows : List Row) → AreRows rows → AreBehind p rows → AllAbove p (filter_map f rows)
   side_above p [] are behind = tt
-  side_above p (r ∷ rows) are behind = kept_above p (row_path r) (f r) (filter_map f rows) (on r are.0) behind.0 (side_above p rows are.2 behind.1)
+  side_above p (r ∷ rows) are behind =
+      kept_above p (row_path r) (f r) (filter_map f rows) (on r are.0) behind.0 (side_above p rows are.2 behind.1)
 
   side_order : (rows : List Row) → AreRows rows → InOrder (filter_map f rows)
   side_order [] are = tt
@@ -195,10 +199,14 @@ abbrev passed : (Entry → Bool) → Option Entry → Option Entry
 passed test None = None
 passed test (Some e) = cond (test e) (Some e) None
 
-kept_filter : (test : Entry → Bool) (o : Option Entry) (es : List Entry) → filter test (cons_option o es) ≡ cons_option (passed test o) (filter test es)
+kept_filter : (test : Entry → Bool) (o : Option Entry) (es : List Entry)
+    → filter test (cons_option o es) ≡ cons_option (passed test o) (filter test es)
 kept_filter test None es = refl
 kept_filter test (Some e) es =
-    elim (test e) as (λ b. cond b (e ∷ filter test es) (filter test es) ≡ cons_option (cond b (Some e) None) (filter test es)) [ true ↦ refl | false ↦ refl ]
+    elim (test e) as (λ b. cond b (e ∷ filter test es) (filter test es) ≡ cons_option (cond b (Some e) None) (filter test es)) [
+      | true ↦ refl
+      | false ↦ refl
+    ]
 
 module _ (test : Entry → Bool) (f g : Row → Option Entry) where
   side_filter : (rows : List Row) → AllByRecursion (λ r. passed test (f r) ≡ g r) rows → filter test (filter_map f rows) ≡ filter_map g rows
@@ -208,7 +216,8 @@ module _ (test : Entry → Bool) (f g : Row → Option Entry) where
       ∙ ap (cons_option (g r)) (side_filter rows each.1)
 
 -- from what holds of each row to what follows from it
-each_row : (P Q : Row → Type 0) → ((r : Row) → IsRow r → P r → Q r) → (rows : List Row) → AreRows rows → AllByRecursion P rows → AllByRecursion Q rows
+each_row : (P Q : Row → Type 0) → ((r : Row) → IsRow r → P r → Q r)
+    → (rows : List Row) → AreRows rows → AllByRecursion P rows → AllByRecursion Q rows
 each_row P Q so [] are each = tt
 each_row P Q so (r ∷ rows) are each = (so r are.0 each.0, each_row P Q so rows are.2 each.1)
 
@@ -216,7 +225,8 @@ module _ (listing : List Entry) where
   is_missing : (r : Row) → IsRow r → at listing (row_path r) ≡ new_of r → passed (is_lacked (replay listing)) (old_of r) ≡ missing_of r
   is_missing r is found = by r (replayed_at listing (row_path r) ∙ ap is_some found)
     where
-      by : (r : Row) → is_some (finmap.get (replay listing) (row_path r)) ≡ is_some (new_of r) → passed (is_lacked (replay listing)) (old_of r) ≡ missing_of r
+      by : (r : Row) → is_some (finmap.get (replay listing) (row_path r)) ≡ is_some (new_of r)
+          → passed (is_lacked (replay listing)) (old_of r) ≡ missing_of r
       by (Same old new) has = ap (λ (b : Bool). cond (not b) (Some old) None) has
       by (Missing old) has = ap (λ (b : Bool). cond (not b) (Some old) None) has
       by (Extra new) has = refl
@@ -238,10 +248,12 @@ module _ (tree : Tree) where
   changed_as new path o own has = ap (λ (p : Option Entry). cond (is_other p new) (Some new) None) (ap (finmap.get tree) own ∙ has)
 
   is_changed_row : (r : Row) → IsRow r → finmap.get tree (row_path r) ≡ old_of r → passed (is_changed tree) (new_of r) ≡ changed_of r
-  is_changed_row (Same old new) is has = changed_as new old.path (Some old) is.0 has ∙ ap (λ (b : Bool). cond (not b) (Some new) None) is.1
+  is_changed_row (Same old new) is has =
+      changed_as new old.path (Some old) is.0 has ∙ ap (λ (b : Bool). cond (not b) (Some new) None) is.1
   is_changed_row (Missing old) is has = refl
   is_changed_row (Extra new) is has = changed_as new new.path None refl has
-  is_changed_row (Changed old new) is has = changed_as new old.path (Some old) is.0 has ∙ ap (λ (b : Bool). cond (not b) (Some new) None) is.1
+  is_changed_row (Changed old new) is has =
+      changed_as new old.path (Some old) is.0 has ∙ ap (λ (b : Bool). cond (not b) (Some new) None) is.1
 
 -- The first path.
 
@@ -268,7 +280,8 @@ first_least (Missing old ∷ rows) are =
     let c = filter_map changed_of rows in
     least_of old [] (m ++ x ++ c) tt
     (joined_above old.path (m ++ x) c
-    (joined_above old.path m x (missing_above old.path rows are.2 are.1) (extra_above old.path rows are.2 are.1)) (changed_above old.path rows are.2 are.1))
+    (joined_above old.path m x (missing_above old.path rows are.2 are.1) (extra_above old.path rows are.2 are.1))
+    (changed_above old.path rows are.2 are.1))
 first_least (Extra new ∷ rows) are =
     let m = filter_map missing_of rows in
     let x = filter_map extra_of rows in
@@ -281,7 +294,8 @@ first_least (Changed old new ∷ rows) are =
     let x = filter_map extra_of rows in
     let behind = subst (λ (p : List ℕ). AreBehind p rows) (sym are.0.0) are.1 in
     least_of new (m ++ x) (filter_map changed_of rows)
-    (joined_above new.path m x (missing_above new.path rows are.2 behind) (extra_above new.path rows are.2 behind)) (changed_above new.path rows are.2 behind)
+    (joined_above new.path m x (missing_above new.path rows are.2 behind) (extra_above new.path rows are.2 behind))
+    (changed_above new.path rows are.2 behind)
     ∙ ap Some are.0.0
 
 -- A check.
@@ -290,7 +304,8 @@ first_least (Changed old new ∷ rows) are =
 pub same_checked : (a b : Checked) → a.missing ≡ b.missing → a.extra ≡ b.extra → a.changed ≡ b.changed → a.first ≡ b.first → a ≡ b
 same_checked a b m x c f = λ i. record { missing = m i; extra = x i; changed = c i; first = f i }
 
-module _ (tree : Tree) (keyed : IsKeyed tree) (rows : List Row) (are : AreRows rows) (olds : finmap.values tree ≡ filter_map old_of rows) where
+module _ (tree : Tree) (keyed : IsKeyed tree) (rows : List Row) (are : AreRows rows)
+    (olds : finmap.values tree ≡ filter_map old_of rows) where
   -- at each path the tree has what the row says
   held : AllByRecursion (λ r. finmap.get tree (row_path r) ≡ old_of r) rows
   held =

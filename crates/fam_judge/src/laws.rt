@@ -145,8 +145,8 @@ pub fn what_fits_is_allowed()
         → Fits (past_of start (untold_notes before)) note → IsAllowedForSome start before note }
 {}
 
-/// What a check may answer of a listing that isn't told (`CheckFits`) is a matter of numbers (`CountsFit`): what it may answer fits
-/// them (`counted`), and for numbers that fit there is a listing of as many entries (`listed`).
+/// What a check may answer of a listing of which the number of its entries is told (`CheckFits`) is decided by numbers of the tree
+/// (`CountsFit`): what it may answer fits these (`counted`), and for what fits there is such a listing (`listed`).
 pub fn a_check_is_counted()
     ensures counted { (entries told : List Entry) (counts : Checked) → CheckFits (replay entries) (Check told) counts
         → CountsFit (replay entries) (length told) counts }

@@ -3,14 +3,16 @@
 //! `specs/Shows.antt` says what a history may leave out, `specs/Alike.antt` which journals are the same but for bytes,
 //! `specs/Formed.antt` what the form of the tables is, and `specs/Explained.antt` which histories are explained.
 //! `specs/Asks.antt` says which events ask for sound commands, `specs/GivesWay.antt` over which lines a start may be moved up,
-//! and an answer down. `specs/Untold.antt` has notes without what isn't told, and `specs/Fitting.antt` says what fits these. `specs/Counting.antt` has the numbers of a check.
+//! and an answer down. `specs/Untold.antt` has notes without what isn't told, and `specs/Fitting.antt` says what fits these, of a
+//! check by the numbers of `specs/Counting.antt`.
 #![tactic(auto)]
 
 mod laws;
 
 pub use laws::{
-    a_check_is_counted, a_run_is_explained, a_script_is_explained, a_start_moves_up, a_task_is_formed,
-    an_answer_moves_down, answers_stand_at_their_places, commands_that_begin_are_sound,
-    first_lines_are_explained, the_same_but_for_bytes, what_fits_is_allowed, what_follows_is_formed,
-    what_is_allowed_fits, what_is_legal_is_explained, where_no_line_is_left_out,
+    a_check_is_counted, a_run_is_explained, a_script_is_explained, a_start_moves_up,
+    a_task_is_formed, an_answer_moves_down, answers_stand_at_their_places,
+    commands_that_begin_are_sound, first_lines_are_explained, the_same_but_for_bytes,
+    what_fits_is_allowed, what_follows_is_formed, what_is_allowed_fits, what_is_legal_is_explained,
+    where_no_line_is_left_out,
 };
