@@ -20,7 +20,7 @@ use Rattle.fam_journal.specs.declared.event.Event.TheVariants as event
 use Rattle.fam_journal.specs.Events.{BytesSay, ListingIs, Ready, Sourced, WithinSays, copy_limit}
 use Rattle.fam_journal.specs.Notes.{Note, Start}
 use Rattle.fam_judge.specs.Asks.{AskSoundCommands, AsksSoundCommand, HasListedAsk}
-use Rattle.fam_judge.specs.Formed.{AreSoundNotes, IsSoundCommand, IsSoundNote}
+use Rattle.fam_judge.specs.Formed.{AreListedNotes, AreSoundNotes, IsListedCommand, IsListedNote, IsSoundCommand, IsSoundNote}
 use Rattle.fam_judge.proofs.Operating.{AllStartAs, StartsAs}
 use Rattle.fam_judge.proofs.Running.{AllStart, AskStarts, EventStarts}
 
@@ -65,60 +65,77 @@ ready_is c own after copied e = cc
 
 -- Commands.
 
-cp_sound : (path : _) (attr : _) (stripe : _) (bytes : List ℕ) → IsSoundAttr attr → IsCommand (cmd.Cp path attr stripe bytes) → IsSoundCommand (cmd.Cp path attr stripe bytes)
-cp_sound path attr stripe bytes mode fits = record { limits = mode; fits = fits; listed = λ entries e. absurd cc }
+-- a command is sound, and its listing has entries such as lines have
+pub record IsGoodCommand (c : Cmd) : Type 0 where
+  pub sound : IsSoundCommand c
+  pub listed : IsListedCommand c
 
-verify_sound : (path : List ℕ) (bytes : List ℕ) → IsCommand (cmd.Verify path (content.Bytes bytes)) → IsSoundCommand (cmd.Verify path (content.Bytes bytes))
-verify_sound path bytes fits = record { limits = tt; fits = fits; listed = λ entries e. absurd cc }
+cp_good : (path : _) (attr : _) (stripe : _) (bytes : List ℕ) → IsSoundAttr attr → IsCommand (cmd.Cp path attr stripe bytes) → IsGoodCommand (cmd.Cp path attr stripe bytes)
+cp_good path attr stripe bytes mode fits = record { sound = record { limits = mode; fits = fits }; listed = λ entries e. absurd cc }
+
+verify_good : (path : List ℕ) (bytes : List ℕ) → IsCommand (cmd.Verify path (content.Bytes bytes)) → IsGoodCommand (cmd.Verify path (content.Bytes bytes))
+verify_good path bytes fits = record { sound = record { limits = tt; fits = fits }; listed = λ entries e. absurd cc }
 
 -- the entries that a check has
 same_entries : (own entries : List Entry) → cmd.Check own ≡ cmd.Check entries → own ≡ entries
 same_entries own entries e = cc
 
-check_sound : (own : List Entry) → IsGoodListing own → IsCommand (cmd.Check own) → IsSoundCommand (cmd.Check own)
-check_sound own good fits = record { limits = good.0; fits = fits; listed = λ entries e. subst (All IsListed) (same_entries own entries e) good.1 }
+check_good : (own : List Entry) → IsGoodListing own → IsCommand (cmd.Check own) → IsGoodCommand (cmd.Check own)
+check_good own good fits = record {
+  sound = record { limits = good.0; fits = fits };
+  listed = λ entries e. subst (All IsListed) (same_entries own entries e) good.1;
+}
 
 -- as another one that it is
-sound_as : (own c : Cmd) → own ≡ c → (IsCommand own → IsSoundCommand own) → IsCommand c → IsSoundCommand c
-sound_as own c is sound fits = subst IsSoundCommand is (sound (subst IsCommand (sym is) fits))
+good_as : (own c : Cmd) → own ≡ c → (IsCommand own → IsGoodCommand own) → IsCommand c → IsGoodCommand c
+good_as own c is good fits = subst IsGoodCommand is (good (subst IsCommand (sym is) fits))
 
-listing_sound : (c : Cmd) (after : ℕ) → IsCommand c → (bytes : List ℕ) (copied : ℕ) → ListingIs bytes copied (Ready c after) → IsSoundCommand c
-listing_sound c after fits bytes copied (inl x) =
-    sound_as (cmd.Check x.0) c (ready_is c (cmd.Check x.0) after copied x.2) (check_sound x.0 (good_text (text_lines bytes) x.0 x.1)) fits
-listing_sound c after fits bytes copied (inr x) = absurd (let e = x.2 in cc)
+listing_good : (c : Cmd) (after : ℕ) → IsCommand c → (bytes : List ℕ) (copied : ℕ) → ListingIs bytes copied (Ready c after) → IsGoodCommand c
+listing_good c after fits bytes copied (inl x) =
+    good_as (cmd.Check x.0) c (ready_is c (cmd.Check x.0) after copied x.2) (check_good x.0 (good_text (text_lines bytes) x.0 x.1)) fits
+listing_good c after fits bytes copied (inr x) = absurd (let e = x.2 in cc)
 
 -- of an ask
-ask_sound : (what : Ask) → IsSoundAsk what → HasListedAsk what → AskStarts IsSoundCommand what
-ask_sound (ask.Plain own) limits listed files copied after c says fits =
-    sound_as own c (ready_is c own after copied says) (λ fits. record { limits = limits; fits = fits; listed = listed }) fits
-ask_sound (ask.Cp source path attr stripe) mode listed files copied after c says fits =
-    bytes_ready c after (IsSoundCommand c) source (finmap.get files source) copied _
-    (λ bytes copied says. sound_as (cmd.Cp path attr stripe bytes) c (ready_is c (cmd.Cp path attr stripe bytes) after copied says)
-    (cp_sound path attr stripe bytes mode) fits) says
-ask_sound (ask.VerifySource path source) limits listed files copied after c says fits =
-    bytes_ready c after (IsSoundCommand c) source (finmap.get files source) copied _
-    (λ bytes copied says. sound_as (cmd.Verify path (content.Bytes bytes)) c (ready_is c (cmd.Verify path (content.Bytes bytes)) after copied says)
-    (verify_sound path bytes) fits) says
-ask_sound (ask.Check source) limits listed files copied after c says fits =
-    bytes_ready c after (IsSoundCommand c) source (finmap.get files source) copied ListingIs (listing_sound c after fits) says
+ask_good : (what : Ask) → IsSoundAsk what → HasListedAsk what → AskStarts IsGoodCommand what
+ask_good (ask.Plain own) limits listed files copied after c says fits =
+    good_as own c (ready_is c own after copied says) (λ fits. record { sound = record { limits = limits; fits = fits }; listed = listed }) fits
+ask_good (ask.Cp source path attr stripe) mode listed files copied after c says fits =
+    bytes_ready c after (IsGoodCommand c) source (finmap.get files source) copied _
+    (λ bytes copied says. good_as (cmd.Cp path attr stripe bytes) c (ready_is c (cmd.Cp path attr stripe bytes) after copied says)
+    (cp_good path attr stripe bytes mode) fits) says
+ask_good (ask.VerifySource path source) limits listed files copied after c says fits =
+    bytes_ready c after (IsGoodCommand c) source (finmap.get files source) copied _
+    (λ bytes copied says. good_as (cmd.Verify path (content.Bytes bytes)) c (ready_is c (cmd.Verify path (content.Bytes bytes)) after copied says)
+    (verify_good path bytes) fits) says
+ask_good (ask.Check source) limits listed files copied after c says fits =
+    bytes_ready c after (IsGoodCommand c) source (finmap.get files source) copied ListingIs (listing_good c after fits) says
 
-event_sound : (e : Event) → AsksSoundCommand e → EventStarts IsSoundCommand e
-event_sound (event.Begin name what) sound = ask_sound what sound.0 sound.1
-event_sound (event.Run name what) sound = ask_sound what sound.0 sound.1
-event_sound other sound = tt
+event_good : (e : Event) → AsksSoundCommand e → EventStarts IsGoodCommand e
+event_good (event.Begin name what) sound = ask_good what sound.0 sound.1
+event_good (event.Run name what) sound = ask_good what sound.0 sound.1
+event_good other sound = tt
 
 -- of events
-pub asks_sound : (events : List Event) → AskSoundCommands events → AllStart IsSoundCommand events
-asks_sound [] sound = tt
-asks_sound (e ∷ events) sound = (event_sound e sound.0, asks_sound events sound.1)
+pub asks_good : (events : List Event) → AskSoundCommands events → AllStart IsGoodCommand events
+asks_good [] sound = tt
+asks_good (e ∷ events) sound = (event_good e sound.0, asks_good events sound.1)
 
 -- Notes.
 
-note_sound : (note : Note) → StartsAs IsSoundCommand note → IsSoundNote note
-note_sound (Start h c) sound = sound
-note_sound other sound = tt
+note_sound : (note : Note) → StartsAs IsGoodCommand note → IsSoundNote note
+note_sound (Start h c) good = good.sound
+note_sound other good = tt
 
--- commands that begin as sound ones make sound notes
-pub notes_sound : (notes : List Note) → AllStartAs IsSoundCommand notes → AreSoundNotes notes
-notes_sound [] sound = tt
-notes_sound (note ∷ notes) sound = (note_sound note sound.0, notes_sound notes sound.1)
+-- commands that begin so are sound in notes
+pub notes_sound : (notes : List Note) → AllStartAs IsGoodCommand notes → AreSoundNotes notes
+notes_sound [] good = tt
+notes_sound (note ∷ notes) good = (note_sound note good.0, notes_sound notes good.1)
+
+note_listed : (note : Note) → StartsAs IsGoodCommand note → IsListedNote note
+note_listed (Start h c) good = good.listed
+note_listed other good = tt
+
+-- and so are their listings
+pub notes_listed : (notes : List Note) → AllStartAs IsGoodCommand notes → AreListedNotes notes
+notes_listed [] good = tt
+notes_listed (note ∷ notes) good = (note_listed note good.0, notes_listed notes good.1)

@@ -1,6 +1,6 @@
 -- Bytes of sources and a listing that are chosen in notes: these tell the same then.
 use Rattle.std.proofs.Common.{◌≡◌, ◌<◌, ◌≤◌, ◌⊎◌, inl, inr, ℕ, Bool, true, false, List, [], ◌∷◌, length, map, get_or, refl, ap, ap₂, sym, ◌∙◌, subst, arith}
-use Rattle.std.specs.Prelude.{⊤, All, ◌==◌, if◌then◌else◌, slice_index}
+use Rattle.std.specs.Prelude.{⊤, ◌==◌, if◌then◌else◌, slice_index}
 use Rattle.std.specs.List.{range_with_len}
 use Rattle.std.specs.List.Sorted.{IsStrictlySortedBy}
 use Rattle.std.proofs.lemmas.Bool.{cases_lt}
@@ -16,7 +16,6 @@ use Rattle.fam_rules.specs.Asks.{File}
 use Rattle.fam_rules.specs.Content.{HoldsBytes, content_byte}
 use Rattle.fam_rules.specs.Decide.{wish_of}
 use Rattle.fam_rules.specs.Solo.{content_of}
-use Rattle.fam_tree.specs.Listings.{IsListed}
 use Rattle.fam_history.specs.declared.command.ToldCommand.TheVariants as told
 use Rattle.fam_history.specs.Told.{told_of_command}
 use Rattle.fam_journal.specs.Notes.{Note, Start}
@@ -37,12 +36,7 @@ pub record Choice : Type 0 where
 
 none_listed : IsSoundCommand (cmd.Check [])
 unfolding IsStrictlySortedBy
-none_listed = record {
-  limits = tt;
-  fits = record { wish = λ w e. absurd (cc); content = tt };
-  listed = λ entries e. let none : [] ≡ entries = cc in
-      subst (λ (l : List Entry). All IsListed l) none (λ k x below. absurd (omega (arith, below)));
-}
+none_listed = record { limits = tt; fits = record { wish = λ w e. absurd (cc); content = tt } }
 
 -- where nothing is to choose
 pub any : Choice
@@ -127,12 +121,11 @@ sound_chosen ch (cmd.Cp path attr stripe bytes) sound = record {
         (ap (λ (n : ℕ). wish_of (cmd.Creat path n attr stripe content.Zero)) (sym (length-map-range_with_len ch.source 0 (length bytes))) ∙ e);
     content = chosen_below ch.source bytes ch.bytes;
   };
-  listed = λ entries e. absurd (cc);
 }
 sound_chosen ch (cmd.Verify path content.Zero) sound = sound
 sound_chosen ch (cmd.Verify path (content.Seed seed)) sound = sound
 sound_chosen ch (cmd.Verify path (content.Bytes bytes)) sound =
-    record { limits = tt; fits = record { wish = λ w e. absurd (cc); content = tt }; listed = λ entries e. absurd (cc) }
+    record { limits = tt; fits = record { wish = λ w e. absurd (cc); content = tt } }
 sound_chosen ch (cmd.Check listing) sound = sound_listing ch.listing listing (length listing == length ch.listing) ch.sound sound
 sound_chosen ch c sound = sound
 

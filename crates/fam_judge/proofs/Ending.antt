@@ -18,8 +18,8 @@ use Rattle.fam_journal.specs.Notes.{Note}
 use Rattle.fam_journal.specs.Shapes.{AreShaped, HostShape, SomeShape, UnfinishedShape, shapes_behind}
 use Rattle.fam_judge.specs.Asks.{AskSoundCommands}
 use Rattle.fam_judge.specs.Explained.{IsExplained}
-use Rattle.fam_judge.specs.Formed.{AreFormed, AreSoundNotes, HavePlaces, IsSoundCommand}
-use Rattle.fam_judge.proofs.Beginning.{asks_sound, notes_sound}
+use Rattle.fam_judge.specs.Formed.{AreFormed, AreListedNotes, AreSoundNotes, HavePlaces}
+use Rattle.fam_judge.proofs.Beginning.{IsGoodCommand, asks_good, notes_listed, notes_sound}
 use Rattle.fam_judge.proofs.Cutting.{cut_formed}
 use Rattle.fam_judge.proofs.Explaining.{legal_explained}
 use Rattle.fam_judge.proofs.Following.{event_formed, follows_formed, formed_both, operations_formed, placed_parts, sound_parts, started}
@@ -102,12 +102,16 @@ module _ (start : Image) (files : Files) (events : List Event) (journal : List N
   shaped : AreShaped (length start) (first_session start).machines []
   shaped = first_shaped files events start journal last
 
-  fit : AreFit IsSoundCommand [] journal
-  fit = ends_fit IsSoundCommand (length start) files events (asks_sound events asks) (first_session start) [] shaped journal last ending done
+  fit : AreFit IsGoodCommand [] journal
+  fit = ends_fit IsGoodCommand (length start) files events (asks_good events asks) (first_session start) [] shaped journal last ending done
 
   -- its commands are sound
   pub run_sound : AreSoundNotes journal
   run_sound = notes_sound journal fit.1
+
+  -- and so are their listings
+  pub run_listed : AreListedNotes journal
+  run_listed = notes_listed journal fit.1
 
   -- it is legal and formed, and so explains itself
   pub run_explained : AreSound events → IsImage start → IsExplained start journal

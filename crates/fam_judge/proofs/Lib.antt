@@ -52,3 +52,9 @@ pub mod OverLate
 pub mod Goodness
 pub mod Completing
 pub mod Choices
+pub mod Finding
+pub mod Least
+pub mod Rows
+pub mod Merging
+pub mod Planning
+pub mod Counting

@@ -25,12 +25,10 @@ use Rattle.fam_journal.specs.Shapes.{Begun, CommandStage, HasMet, HostShape, Mar
 
 -- Commands.
 
--- a command's mode, count and listing are within their limits; its path, numbers and bytes fit; and the entries of its listing
--- are such as a source's lines have
+-- a command's mode, count and listing are within their limits, and its path, numbers and bytes fit
 pub record IsSoundCommand (cmd : Cmd) : Type 0 where
   pub limits : IsSoundCmd cmd
   pub fits : IsCommand cmd
-  pub listed : (entries : List Entry) → cmd ≡ Check entries → All IsListed entries
 
 -- so it is of a command that begins
 abbrev pub IsSoundNote : Note → Type 0
@@ -51,6 +49,30 @@ IsSoundNote (Refused name why) = ⊤
 abbrev pub AreSoundNotes : List Note → Type 0
 AreSoundNotes [] = ⊤
 AreSoundNotes (note ∷ notes) = IsSoundNote note × AreSoundNotes notes
+
+-- the entries of a command's listing are such as a source's lines have
+abbrev pub IsListedCommand : Cmd → Type 0
+IsListedCommand cmd = (entries : List Entry) → cmd ≡ Check entries → All IsListed entries
+
+-- so they are of a command that begins
+abbrev pub IsListedNote : Note → Type 0
+IsListedNote (Host name uuid) = ⊤
+IsListedNote (Made h p) = ⊤
+IsListedNote (Cut h k) = ⊤
+IsListedNote (Start h cmd) = IsListedCommand cmd
+IsListedNote (Mark h) = ⊤
+IsListedNote (Found h n) = ⊤
+IsListedNote (Writes h seq entry) = ⊤
+IsListedNote (Answered h answer) = ⊤
+IsListedNote (Stop h) = ⊤
+IsListedNote (Halt h) = ⊤
+IsListedNote (Umount h) = ⊤
+IsListedNote (Refused name why) = ⊤
+
+-- so of each of these notes
+abbrev pub AreListedNotes : List Note → Type 0
+AreListedNotes [] = ⊤
+AreListedNotes (note ∷ notes) = IsListedNote note × AreListedNotes notes
 
 -- Where the tables of operations give an answer, as far as the shape of a command's notes leaves that open.
 

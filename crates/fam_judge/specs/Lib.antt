@@ -6,6 +6,7 @@ pub mod Explained
 pub mod GivesWay
 pub mod Untold
 pub mod Fitting
-pub mod Possible
+pub mod Counting
 pub mod Standing
+pub mod Possible
 pub mod ToldHosts

@@ -1,6 +1,6 @@
 -- Which note may stand next, as a table over the note alone: by the host's own command, or by what is seen of the hosts, but of no
 -- event. It holds where some event adds a note that tells the same.
-use Rattle.std.specs.Prelude.{ℕ, ⊤, ◌≡◌, ◌≢◌, ◌⊎◌, ◌+◌, ◌-◌, ◌*◌, ◌^◌, ◌<◌, ◌≤◌, ◌&&◌, ◌||◌, IsTrue, Bool, true, false, All, List, [], ◌∷◌, length, map, slice_get, is_some, Option, Some, None}
+use Rattle.std.specs.Prelude.{ℕ, ⊤, ◌≡◌, ◌≢◌, ◌⊎◌, ◌+◌, ◌-◌, ◌*◌, ◌^◌, ◌<◌, ◌≤◌, ◌&&◌, ◌||◌, IsTrue, Bool, true, false, List, [], ◌∷◌, length, map, slice_get, is_some, Option, Some, None}
 use Rattle.std.specs.List.{list_any}
 use Rattle.fam_base.specs.Commands.{IsListing, read_limit}
 use Rattle.fam_base.specs.declared.cmd.Cmd.{Cmd}
@@ -21,7 +21,6 @@ use Rattle.fam_machine.specs.Mkfs.{is_geometry}
 use Rattle.fam_rules.specs.Content.{HoldsBytes}
 use Rattle.fam_rules.specs.DecideLaws.{IsAttr, IsStripeOfWords}
 use Rattle.fam_rules.specs.Place.{line_bytes}
-use Rattle.fam_tree.specs.Listings.{IsListed}
 use Rattle.fam_journal.specs.declared.refusal.Refusal.{Refusal}
 use Rattle.fam_journal.specs.declared.refusal.Refusal.TheVariants as why
 use Rattle.fam_journal.specs.Calls.{host_limit}
@@ -119,14 +118,9 @@ is_need bytes = list_any (leaves_log bytes) units
 
 -- Commands, by what is told of them.
 
--- a listing as a source has it
-pub record IsSourceListing (listing : List Entry) : Type 0 where
-  pub sorted : IsListing listing
-  pub listed : All IsListed listing
-
 -- a listing may have so many entries: it may have any number below 2 ^ 64
 abbrev pub MayList : ℕ → Type 0
-MayList count = (listing : List Entry) × IsSourceListing listing × (length listing ≡ count)
+MayList count = (listing : List Entry) × IsListing listing × (length listing ≡ count)
 
 -- path, numbers and bytes of a command are within their limits
 abbrev pub IsSoundPlain : Cmd → Type 0
@@ -137,7 +131,7 @@ IsSoundPlain (Creat path size attr stripe fill) = IsTrue (is_path path) × (size
 IsSoundPlain (Cp path attr stripe bytes) = IsTrue (is_path path) × (length bytes < 2 ^ 64) × IsAttr attr × IsStripeOfWords stripe × HoldsBytes (content.Bytes bytes)
 IsSoundPlain (Verify path against) = ⊤
 IsSoundPlain (Read path offset count) = count ≤ read_limit
-IsSoundPlain (Check listing) = IsSourceListing listing
+IsSoundPlain (Check listing) = IsListing listing
 IsSoundPlain Fsck = ⊤
 
 -- some sound command tells this

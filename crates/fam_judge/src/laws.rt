@@ -2,9 +2,13 @@
 
 ghost use Rattle.std.specs.Prelude.{◌≡◌, ◌<◌, ◌^◌, ◌++◌, ℕ, [], ◌∷◌, false, List, Ok, Some, length, map, slice_get};
 ghost use Rattle.fam_base.specs.declared.cmd.Cmd.{Cmd};
+ghost use Rattle.fam_base.specs.declared.cmd.Cmd.TheVariants.{Check};
+ghost use Rattle.fam_base.specs.declared.entry.Entry.{Entry};
 ghost use Rattle.fam_base.specs.Image.{Image};
+ghost use Rattle.fam_format.specs.Tree.{replay};
 ghost use Rattle.fam_grammar.specs.Scripts.{script_events};
 ghost use Rattle.fam_media.specs.Files.{Files};
+ghost use Rattle.fam_rules.specs.declared.answers.Checked.{Checked};
 ghost use Rattle.fam_journal.specs.declared.event.Event.{Event};
 ghost use Rattle.fam_journal.specs.Ends.{Ending, EventsDone};
 ghost use Rattle.fam_journal.specs.Events.{Session, first_session};
@@ -20,13 +24,14 @@ ghost use Rattle.fam_journal.specs.Shapes.{AreShaped, HostShape, TaskNote, TaskS
 ghost use Rattle.fam_judge.specs.Alike.{AreAlikeNotes, AreWhollyTold, told_note};
 ghost use Rattle.fam_judge.specs.Asks.{AskSoundCommands};
 ghost use Rattle.fam_judge.specs.Explained.{IsAllowedForSome, IsExplained, IsExplainedBy, AreAllowedForSome};
-ghost use Rattle.fam_judge.specs.Fitting.{Fits};
-ghost use Rattle.fam_judge.specs.Formed.{AreFormed, HavePlaces, AreSoundNotes, IsFormedNote, HasPlace};
+ghost use Rattle.fam_judge.specs.Fitting.{Fits, CheckFits};
+ghost use Rattle.fam_judge.specs.Formed.{AreFormed, HavePlaces, AreSoundNotes, IsFormedNote, HasPlace, AreListedNotes};
 ghost use Rattle.fam_judge.specs.GivesWay.{GiveWay};
-ghost use Rattle.fam_judge.specs.Untold.{untold_notes};
+ghost use Rattle.fam_judge.specs.Untold.{untold_notes, untold_cmd};
 ghost use Rattle.fam_judge.specs.Shows.{ShowsJournal};
 ghost use Rattle.fam_judge.specs.Standing.{AreDistinct, AreStanding, IsFormedAs, MayList, MayStand, faces, is_own};
 ghost use Rattle.fam_judge.specs.ToldHosts.{told_behind, told_hosts};
+ghost use Rattle.fam_judge.specs.Counting.{CountsFit};
 
 /// A legal journal whose notes have the form of the tables (`AreFormed`) is explained as it stands.
 pub fn what_is_legal_is_explained()
@@ -83,11 +88,13 @@ pub fn answers_stand_at_their_places()
         → AreShaped lines state hosts → Does call state notes left → HavePlaces hosts notes }
 {}
 
-/// Each command that begins in a run is sound, where what stands in its events' asks is within the limits
-/// (`AskSoundCommands`): whatever bytes their sources hold.
+/// Each command that begins in a run is sound (`sound`), and the entries of its listing are such as a source's lines have
+/// (`listed`), where what stands in its events' asks is within the limits (`AskSoundCommands`): whatever bytes their sources hold.
 pub fn commands_that_begin_are_sound()
-    ensures { (files : Files) (events : List Event) (image : Image) (journal : List Note) (last : Session) (ending : Ending)
+    ensures sound { (files : Files) (events : List Event) (image : Image) (journal : List Note) (last : Session) (ending : Ending)
         → AskSoundCommands events → EventsDone ending files events (first_session image) journal last → AreSoundNotes journal }
+    ensures listed { (files : Files) (events : List Event) (image : Image) (journal : List Note) (last : Session) (ending : Ending)
+        → AskSoundCommands events → EventsDone ending files events (first_session image) journal last → AreListedNotes journal }
 {}
 
 /// From an image of at most 1 TiB the journal of a run is explained as it stands, where the events are within their limits
@@ -186,4 +193,13 @@ pub fn what_stands_explains()
 /// A listing may have any number of entries below 2 ^ 64. So what is told of a check is always told of a sound one.
 pub fn a_listing_may_have_any_length()
     ensures { (count : ℕ) → count < 2 ^ 64 → MayList count }
+{}
+
+/// What a check may answer of a listing of which the number of its entries is told (`CheckFits`) is decided by numbers of the tree
+/// (`CountsFit`): what it may answer fits these (`counted`), and for what fits there is such a listing (`listed`).
+pub fn a_check_is_counted()
+    ensures counted { (entries told : List Entry) (counts : Checked) → CheckFits (replay entries) (Check told) counts
+        → CountsFit (replay entries) (length told) counts }
+    ensures listed { (entries told : List Entry) (counts : Checked) → untold_cmd (Check told) ≡ Check told
+        → CountsFit (replay entries) (length told) counts → CheckFits (replay entries) (Check told) counts }
 {}

@@ -15,7 +15,8 @@ use Rattle.fam_base.specs.PathOrder.{path_cmp}
 use Rattle.fam_base.specs.Paths.{has_no_nul, is_name, is_path, is_slash, names}
 use Rattle.fam_base.proofs.PathLemmas.{path_of_parts}
 use Rattle.fam_tree.specs.Listings.{IsListed}
-use Rattle.fam_judge.specs.Standing.{IsSourceListing, MayList}
+use Rattle.fam_base.specs.Commands.{IsListing}
+use Rattle.fam_judge.specs.Standing.{MayList}
 
 -- Words.
 
@@ -166,11 +167,8 @@ paths_same : (ws : List (List ℕ)) → map (λ (e : Entry). e.path) (map direct
 paths_same [] = refl
 paths_same (w ∷ ws) = ap (λ (l : List (List ℕ)). w ∷ l) (paths_same ws)
 
-list_of : (ws : List (List ℕ)) → InOrder ws → AllByRecursion (λ w. is_path w ≡ true) ws → IsSourceListing (map directory ws)
-list_of ws order paths = record {
-  sorted = subst InOrder (sym (paths_same ws)) order;
-  listed = All-from_recursion IsListed (map directory ws) (all_map (λ w. is_path w ≡ true) IsListed directory directory_listed ws paths);
-}
+list_of : (ws : List (List ℕ)) → InOrder ws → AllByRecursion (λ w. is_path w ≡ true) ws → IsListing (map directory ws)
+list_of ws order paths = subst InOrder (sym (paths_same ws)) order
 
 -- so many of them
 take_words : (n count : ℕ) → 3 ≤ n → n ≤ 512 → count ≤ 2 ^ n → MayList count

@@ -42,7 +42,7 @@ sound_plain (Creat path size attr stripe fill) is = let w = is.fits.wish _ refl 
 sound_plain (Cp path attr stripe bytes) is = let w = is.fits.wish _ refl in (w.path, w.size, w.attr, w.stripe, is.fits.content)
 sound_plain (Verify path against) is = tt
 sound_plain (Read path offset count) is = is.limits
-sound_plain (Check listing) is = record { sorted = is.limits; listed = is.listed listing refl }
+sound_plain (Check listing) is = is.limits
 sound_plain Fsck is = tt
 
 -- so what is told of it is
@@ -64,15 +64,14 @@ one_wish c own is sound w e = subst IsSoundWish (same_Some own w (sym is ∙ e))
 
 -- a command within the limits of the table is sound
 plain_sound : (c : Cmd) → IsSoundPlain c → IsSoundCommand c
-plain_sound Logplay is = record { limits = tt; fits = record { wish = no_wish Logplay refl; content = tt }; listed = λ entries e. absurd cc }
-plain_sound Mount is = record { limits = tt; fits = record { wish = no_wish Mount refl; content = tt }; listed = λ entries e. absurd cc }
+plain_sound Logplay is = record { limits = tt; fits = record { wish = no_wish Logplay refl; content = tt } }
+plain_sound Mount is = record { limits = tt; fits = record { wish = no_wish Mount refl; content = tt } }
 plain_sound (Mkdir path attr) is = record {
   limits = is.1.mode;
   fits = record {
     wish = one_wish (Mkdir path attr) _ refl (record { path = is.0; size = lit< tt; bare = λ e. refl; attr = is.1; stripe = tt });
     content = tt;
   };
-  listed = λ entries e. absurd cc;
 }
 plain_sound (Creat path size attr stripe fill) is = record {
   limits = is.2.mode;
@@ -80,7 +79,6 @@ plain_sound (Creat path size attr stripe fill) is = record {
     wish = one_wish (Creat path size attr stripe fill) _ refl (record { path = is.0; size = is.1; bare = λ e. absurd cc; attr = is.2; stripe = is.3 });
     content = is.4;
   };
-  listed = λ entries e. absurd cc;
 }
 plain_sound (Cp path attr stripe bytes) is = record {
   limits = is.2.mode;
@@ -88,16 +86,14 @@ plain_sound (Cp path attr stripe bytes) is = record {
     wish = one_wish (Cp path attr stripe bytes) _ refl (record { path = is.0; size = is.1; bare = λ e. absurd cc; attr = is.2; stripe = is.3 });
     content = is.4;
   };
-  listed = λ entries e. absurd cc;
 }
-plain_sound (Verify path against) is = record { limits = tt; fits = record { wish = no_wish (Verify path against) refl; content = tt }; listed = λ entries e. absurd cc }
-plain_sound (Read path offset count) is = record { limits = is; fits = record { wish = no_wish (Read path offset count) refl; content = tt }; listed = λ entries e. absurd cc }
+plain_sound (Verify path against) is = record { limits = tt; fits = record { wish = no_wish (Verify path against) refl; content = tt } }
+plain_sound (Read path offset count) is = record { limits = is; fits = record { wish = no_wish (Read path offset count) refl; content = tt } }
 plain_sound (Check listing) is = record {
-  limits = is.sorted;
+  limits = is;
   fits = record { wish = no_wish (Check listing) refl; content = tt };
-  listed = λ entries e. let same : listing ≡ entries = cc in subst (λ (l : List Entry). All IsListed l) same is.listed;
 }
-plain_sound Fsck is = record { limits = tt; fits = record { wish = no_wish Fsck refl; content = tt }; listed = λ entries e. absurd cc }
+plain_sound Fsck is = record { limits = tt; fits = record { wish = no_wish Fsck refl; content = tt } }
 
 -- Commands that tell the same.
 
