@@ -58,3 +58,5 @@ pub mod Rows
 pub mod Merging
 pub mod Planning
 pub mod Counting
+pub mod Realizing
+pub mod Realized
