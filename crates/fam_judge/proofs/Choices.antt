@@ -119,7 +119,7 @@ pub some_choice : (p : Progress) → (q : Progress) × Chosen p q
 some_choice p = by (begun_or p)
   where
     by : IsBegun p ⊎ (IsBegun p → ⊥) → (q : Progress) × Chosen p q
-    by (inl begun) = (floorless p, no_mark_came begun refl)
+    by (inl begun) = (at_mark p, mark_came begun refl)
     by (inr none) = (p, as_it_is none refl)
 
 -- and so may all
@@ -133,24 +133,74 @@ pub record Before (h : ℕ) (f : Progress → Progress) (ps qs : List Progress) 
   pub chosen : Pairs Chosen ps old
   pub is : changed_at h f old ≡ qs
 
--- where the change makes the same of what the host may stand for
+-- a change that makes the same of a host with its mark, and none that has just begun
 pub chosen_back : (h : ℕ) (f : Progress → Progress) (ps qs : List Progress) → ((p : Progress) → slice_get ps h ≡ Some p → IsBegun (f p) → ⊥)
-    → ((p q : Progress) → slice_get ps h ≡ Some p → Chosen p q → f q ≡ f p) → Pairs Chosen (changed_at h f ps) qs → Before h f ps qs
+    → ((p : Progress) → slice_get ps h ≡ Some p → IsBegun p → f (at_mark p) ≡ f p) → Pairs Chosen (changed_at h f ps) qs → Before h f ps qs
 chosen_back h f [] [] none same pairs = record { old = []; chosen = tt; is = refl }
 chosen_back h f [] (q ∷ qs) none same pairs = absurd pairs
 chosen_back zero f (p ∷ ps) [] none same pairs = absurd pairs
 chosen_back (suc h) f (p ∷ ps) [] none same pairs = absurd pairs
-chosen_back zero f (p ∷ ps) (q ∷ qs) none same pairs =
-    let one = some_choice p in
-    record { old = one.0 ∷ qs; chosen = (one.1, pairs.1); is = ap (λ (r : Progress). r ∷ qs) (same p one.0 refl one.1 ∙ sym (by pairs.0)) }
+chosen_back zero f (p ∷ ps) (q ∷ qs) none same pairs = by (begun_or p)
   where
-    by : Chosen (f p) q → q ≡ f p
-    by (as_it_is none_begun e) = e
-    by (no_mark_came begun e) = absurd (none p refl begun)
-    by (mark_came begun e) = absurd (none p refl begun)
+    last : Chosen (f p) q → q ≡ f p
+    last (as_it_is none_begun e) = e
+    last (no_mark_came begun e) = absurd (none p refl begun)
+    last (mark_came begun e) = absurd (none p refl begun)
+
+    by : IsBegun p ⊎ (IsBegun p → ⊥) → Before zero f (p ∷ ps) (q ∷ qs)
+    by (inl begun) = record { old = at_mark p ∷ qs; chosen = (mark_came begun refl, pairs.1); is = ap (λ (r : Progress). r ∷ qs) (same p refl begun ∙ sym (last pairs.0)) }
+    by (inr none_begun) = record { old = p ∷ qs; chosen = (as_it_is none_begun refl, pairs.1); is = ap (λ (r : Progress). r ∷ qs) (sym (last pairs.0)) }
 chosen_back (suc h) f (p ∷ ps) (q ∷ qs) none same pairs =
-    let more = chosen_back h f ps qs (λ r is. none r is) (λ r s is. same r s is) pairs.1 in
+    let more = chosen_back h f ps qs (λ r is. none r is) (λ r is. same r is) pairs.1 in
     record { old = q ∷ more.old; chosen = (pairs.0, more.chosen); is = ap (λ (l : List Progress). q ∷ l) more.is }
+
+-- one more host, that hasn't begun
+pub record Last (ps : List Progress) (p : Progress) (qs : List Progress) : Type 0 where
+  pub front : List Progress
+  pub chosen : Pairs Chosen ps front
+  pub is : front ++ p ∷ [] ≡ qs
+
+pub chosen_last : (ps : List Progress) (p : Progress) (qs : List Progress) → (IsBegun p → ⊥) → Pairs Chosen (ps ++ p ∷ []) qs → Last ps p qs
+chosen_last [] p [] none pairs = absurd pairs
+chosen_last [] p (q ∷ []) none pairs = record { front = []; chosen = tt; is = ap (λ (r : Progress). r ∷ []) (sym (by pairs.0)) }
+  where
+    by : Chosen p q → q ≡ p
+    by (as_it_is none_begun e) = e
+    by (no_mark_came begun e) = absurd (none begun)
+    by (mark_came begun e) = absurd (none begun)
+chosen_last [] p (q ∷ r ∷ qs) none pairs = absurd pairs.1
+chosen_last (a ∷ ps) p [] none pairs = absurd pairs
+chosen_last (a ∷ ps) p (q ∷ qs) none pairs =
+    let more = chosen_last ps p qs none pairs.1 in
+    record { front = q ∷ more.front; chosen = (pairs.0, more.chosen); is = ap (λ (l : List Progress). q ∷ l) more.is }
+
+-- a host whose command begins: by whether its mark came right then
+pub record Begins (h : ℕ) (begin mark : Progress → Progress) (ps qs : List Progress) : Type 0 where
+  pub old : List Progress
+  pub chosen : Pairs Chosen ps old
+  pub is : (changed_at h begin old ≡ qs) ⊎ (changed_at h mark (changed_at h begin old) ≡ qs)
+
+pub chosen_begins : (h : ℕ) (begin mark f : Progress → Progress) (ps qs : List Progress) → ((p : Progress) → slice_get ps h ≡ Some p → IsBegun p → ⊥) → ((p : Progress) → IsBegun (f p))
+    → ((p : Progress) → floorless (f p) ≡ begin p) → ((p : Progress) → at_mark (f p) ≡ mark (begin p)) → Pairs Chosen (changed_at h f ps) qs → Begins h begin mark ps qs
+chosen_begins h begin mark f [] [] idle begun floor came pairs = record { old = []; chosen = tt; is = inl refl }
+chosen_begins h begin mark f [] (q ∷ qs) idle begun floor came pairs = absurd pairs
+chosen_begins zero begin mark f (p ∷ ps) [] idle begun floor came pairs = absurd pairs
+chosen_begins (suc h) begin mark f (p ∷ ps) [] idle begun floor came pairs = absurd pairs
+chosen_begins zero begin mark f (p ∷ ps) (q ∷ qs) idle begun floor came pairs = by pairs.0
+  where
+    by : Chosen (f p) q → Begins zero begin mark (p ∷ ps) (q ∷ qs)
+    by (as_it_is none e) = absurd (none (begun p))
+    by (no_mark_came is e) = record { old = p ∷ qs; chosen = (as_it_is (idle p refl) refl, pairs.1); is = inl (ap (λ (r : Progress). r ∷ qs) (sym (floor p) ∙ sym e)) }
+    by (mark_came is e) = record { old = p ∷ qs; chosen = (as_it_is (idle p refl) refl, pairs.1); is = inr (ap (λ (r : Progress). r ∷ qs) (sym (came p) ∙ sym e)) }
+chosen_begins (suc h) begin mark f (p ∷ ps) (q ∷ qs) idle begun floor came pairs = by (chosen_begins h begin mark f ps qs (λ r is. idle r is) begun floor came pairs.1)
+  where
+    by : Begins h begin mark ps qs → Begins (suc h) begin mark (p ∷ ps) (q ∷ qs)
+    by more = record { old = q ∷ more.old; chosen = (pairs.0, more.chosen); is = joined more.is }
+      where
+        joined : (changed_at h begin more.old ≡ qs) ⊎ (changed_at h mark (changed_at h begin more.old) ≡ qs)
+            → (q ∷ changed_at h begin more.old ≡ q ∷ qs) ⊎ (q ∷ changed_at h mark (changed_at h begin more.old) ≡ q ∷ qs)
+        joined (inl e) = inl (ap (λ (l : List Progress). q ∷ l) e)
+        joined (inr e) = inr (ap (λ (l : List Progress). q ∷ l) e)
 
 -- Faces.
 

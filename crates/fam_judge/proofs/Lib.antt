@@ -60,3 +60,5 @@ pub mod Planning
 pub mod Counting
 pub mod Realizing
 pub mod Realized
+pub mod RealLines
+pub mod Judging

@@ -45,7 +45,7 @@ untold_more : (notes : List Note) (y : Note) → untold_notes notes ≡ notes �
 untold_more notes y all one = Rattle.std.proofs.lemmas.List.map-append untold_note notes (y ∷ []) ∙ ap₂ (λ (a : List Note) (b : Note). a ++ b ∷ []) all one
 
 -- a note that the lines leave out
-hidden_more : (start : Image) (lines : List Note) (c : Possible) (y : Note) → ComesTo start lines c → IsTrue (is_inner y) → untold_note y ≡ y → MayStand (length start) (shapes_in c) y → Fits (past_in start c) y
+pub hidden_more : (start : Image) (lines : List Note) (c : Possible) (y : Note) → ComesTo start lines c → IsTrue (is_inner y) → untold_note y ≡ y → MayStand (length start) (shapes_in c) y → Fits (past_in start c) y
     → ComesTo start lines (after start c y)
 hidden_more start lines c y come inner told may fits = record {
   journal = come.journal ++ y ∷ [];

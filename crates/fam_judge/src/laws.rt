@@ -27,7 +27,8 @@ ghost use Rattle.fam_judge.specs.Explained.{IsAllowedForSome, IsExplained, IsExp
 ghost use Rattle.fam_judge.specs.Fitting.{Fits, CheckFits};
 ghost use Rattle.fam_judge.specs.Formed.{AreFormed, HavePlaces, AreSoundNotes, IsFormedNote, HasPlace, AreListedNotes};
 ghost use Rattle.fam_judge.specs.GivesWay.{GiveWay};
-ghost use Rattle.fam_judge.specs.Untold.{untold_notes, untold_cmd};
+ghost use Rattle.fam_judge.specs.Possible.{IsPossible, Possible};
+ghost use Rattle.fam_judge.specs.Untold.{untold_cmd, untold_notes};
 ghost use Rattle.fam_judge.specs.Shows.{ShowsJournal};
 ghost use Rattle.fam_judge.specs.Standing.{AreDistinct, AreStanding, IsFormedAs, MayList, MayStand, faces, is_own};
 ghost use Rattle.fam_judge.specs.ToldHosts.{told_behind, told_hosts};
@@ -202,4 +203,14 @@ pub fn a_check_is_counted()
         → CountsFit (replay entries) (length told) counts }
     ensures listed { (entries told : List Entry) (counts : Checked) → untold_cmd (Check told) ≡ Check told
         → CountsFit (replay entries) (length told) counts → CheckFits (replay entries) (Check told) counts }
+{}
+
+/// A history is explained exactly where some state of its hosts is possible behind its lines (`IsPossible`): where one is
+/// explained some state is (`possible`), and where some state is the history is explained (`explained`). Of what a history
+/// doesn't tell a state holds nothing.
+pub fn some_state_is_possible()
+    ensures possible { (start : Image) (history : List Note) → IsExplained start history
+        → (x : Possible) × IsPossible start (untold_notes history) x }
+    ensures explained { (start : Image) (history : List Note) (x : Possible) → IsPossible start (untold_notes history) x
+        → IsExplained start history }
 {}
