@@ -1,0 +1,12 @@
+//! The lines of a recorded history with hosts by their numbers, and which of them may stand next by what is seen of the hosts.
+//!
+//! `specs/Lines.antt` says which note a line is, and `specs/Hosts.antt` what is seen of the hosts.
+#![tactic(auto)]
+
+mod answer;
+mod host;
+mod line;
+
+pub use answer::HostAnswer;
+pub use host::SeenHost;
+pub use line::Line;
