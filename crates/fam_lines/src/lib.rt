@@ -4,9 +4,14 @@
 #![tactic(auto)]
 
 mod answer;
+mod commands;
 mod host;
 mod line;
+mod making;
+mod refused;
+mod stands;
 
 pub use answer::HostAnswer;
 pub use host::SeenHost;
 pub use line::Line;
+

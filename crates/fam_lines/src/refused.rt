@@ -1,0 +1,1 @@
+//! Which refusals may stand next.

@@ -1,0 +1,1 @@
+//! Which lines may stand next.
