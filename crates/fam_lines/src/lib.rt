@@ -9,9 +9,10 @@ mod host;
 mod line;
 mod making;
 mod refused;
-mod stands;
+mod standing;
 
 pub use answer::HostAnswer;
 pub use host::SeenHost;
 pub use line::Line;
 
+pub use standing::stands;

@@ -5,7 +5,8 @@ ghost use Rattle.fam_format.specs.Layout.{least_lines};
 ghost use Rattle.fam_journal.specs.Calls.{host_limit};
 ghost use Rattle.fam_journal.specs.declared.refusal.Refusal.TheVariants as why;
 ghost use Rattle.fam_rules.specs.Place.{line_bytes};
-ghost use Rattle.fam_judge.specs.Standing.{AtNamed, HasRoom, IsDeclared, IsNotBefore, MayAsk, MayMake, MayRefuse, engaged_in, number_in};
+ghost use Rattle.fam_judge.specs.Standing.{AtNamed, HasRoom, IsDeclared, IsNotBefore, MayAsk, MayMake, MayRefuse, engaged_in, is_need, number_in};
+ghost use Rattle.fam_machine.specs.Mkfs as mkfs;
 ghost use Rattle.fam_lines.specs.Hosts.{faces_of};
 
 use crate::host::{SeenHost, engaged_in, named, number_in};
@@ -110,4 +111,120 @@ fn may_ask(lines: u64, hosts: &[SeenHost], name: &HostName) -> bool
     ensures { IsTrue result ↔ MayAsk lines (faces_of hosts.now) name.now }
 {
     lines >= LEAST_LINES && is_running(name, hosts, false)
+}
+
+/// Whether this host has the name or the UUID of one that is to be declared.
+fn may_be_same(hosts: &[SeenHost], name: &HostName, host: u32) -> bool
+    ensures { IsTrue result ↔ ((host < length (faces_of hosts.now)) × IsNotBefore host (number_in name.now (faces_of hosts.now))) }
+{
+    is_number(hosts, host) && is_not_before(host, name, hosts)
+}
+
+/// Whether as many hosts are declared as may be, and none of this name.
+fn are_too_many(hosts: &[SeenHost], name: &HostName) -> bool
+    ensures { IsTrue result ↔ ((number_in name.now (faces_of hosts.now) ≡ None) × (host_limit ≤ length (faces_of hosts.now))) }
+{
+    is_new(name, hosts) && is_full(hosts)
+}
+
+/// Whether unit and log are those of no file system.
+fn is_bad_geometry(hosts: &[SeenHost], name: &HostName, unit: u64, log: u64) -> bool
+    ensures { IsTrue result ↔ (IsDeclared name.now (faces_of hosts.now) × (mkfs.is_geometry unit log ≡ false)) }
+{
+    is_declared(name, hosts) && !is_geometry(unit, log)
+}
+
+/// Whether some file system needs so many bytes, and the media has so many, which are fewer.
+fn are_few_bytes(lines: u64, need: u64, have: u64) -> bool
+    ensures { IsTrue result ↔ (IsTrue (is_need need) × (have ≡ line_bytes * lines) × (have < need)) }
+{
+    is_need(need) && has_bytes(lines, have) && have < need
+}
+
+/// Whether the media is too small for a file system.
+fn is_too_small(lines: u64, hosts: &[SeenHost], name: &HostName, need: u64, have: u64) -> bool
+    ensures { IsTrue result ↔ MayRefuse lines (faces_of hosts.now) name.now (why.TooSmall need have) }
+{
+    is_declared(name, hosts) && are_few_bytes(lines, need, have)
+}
+
+/// Whether the media has so many lines, which are too few for a gate.
+fn is_small(lines: u64, hosts: &[SeenHost], name: &HostName, count: u64) -> bool
+    ensures { IsTrue result ↔ MayRefuse lines (faces_of hosts.now) name.now (why.ImageSmall count) }
+{
+    is_declared(name, hosts) && count == lines && lines < LEAST_LINES
+}
+
+/// Whether a file system may be asked for, where this is the first host that is busy.
+fn stands_in_the_way(lines: u64, hosts: &[SeenHost], name: &HostName, at: u32) -> bool
+    ensures { IsTrue result ↔ (IsDeclared name.now (faces_of hosts.now) × HasRoom lines × (engaged_in (faces_of hosts.now) ≡ Some at)) }
+{
+    is_declared(name, hosts) && has_room(lines) && is_engaged(hosts, at)
+}
+
+/// Whether this host is busy.
+fn may_be_busy(lines: u64, hosts: &[SeenHost], name: &HostName, at: u32) -> bool
+    ensures { IsTrue result ↔ MayRefuse lines (faces_of hosts.now) name.now (why.Busy (record { 0 = at })) }
+{
+    is_busy(name, hosts, at) || stands_in_the_way(lines, hosts, name, at)
+}
+
+/// Whether this host, which isn't the maker, may hold a line that memory lacks.
+fn may_be_dirty(lines: u64, hosts: &[SeenHost], name: &HostName, at: u32) -> bool
+    ensures { IsTrue result ↔ MayRefuse lines (faces_of hosts.now) name.now (why.Dirty (record { 0 = at })) }
+{
+    may_make(lines, hosts) && is_number(hosts, at) && is_other(name, hosts, at)
+}
+
+/// Whether a superblock may stand there.
+fn may_have_super(lines: u64, hosts: &[SeenHost], name: &HostName) -> bool
+    ensures { IsTrue result ↔ (MayMake lines (faces_of hosts.now) × IsDeclared name.now (faces_of hosts.now)) }
+{
+    may_make(lines, hosts) && is_declared(name, hosts)
+}
+
+/// Whether a mount may be asked for of a host that keeps something.
+fn is_mounted(lines: u64, hosts: &[SeenHost], name: &HostName) -> bool
+    ensures { IsTrue result ↔ MayRefuse lines (faces_of hosts.now) name.now why.Mounted }
+{
+    lines >= LEAST_LINES && is_resting(name, hosts, true)
+}
+
+/// Whether the media has so many lines, and this is none of them.
+fn is_no_line(lines: u64, hosts: &[SeenHost], name: &HostName, line: u64, count: u64) -> bool
+    ensures { IsTrue result ↔ MayRefuse lines (faces_of hosts.now) name.now (why.NoLine line count) }
+{
+    is_declared(name, hosts) && count == lines && lines <= line
+}
+
+/// Whether the media may have failed at this line.
+fn is_fault(lines: u64, hosts: &[SeenHost], name: &HostName, line: u64) -> bool
+    ensures { IsTrue result ↔ (IsDeclared name.now (faces_of hosts.now) × (line < lines)) }
+{
+    is_declared(name, hosts) && line < lines
+}
+
+/// Whether a call for the host of this name may be refused for this cause.
+pub(crate) fn may_refuse(lines: u64, hosts: &[SeenHost], name: &HostName, cause: &Refusal) -> bool
+    ensures { IsTrue result ↔ MayRefuse lines (faces_of hosts.now) name.now cause.now }
+{
+    match cause {
+        Refusal::NoHost => is_new(name, hosts),
+        Refusal::SameHost(host) => may_be_same(hosts, name, host.0),
+        Refusal::TooManyHosts => are_too_many(hosts, name),
+        Refusal::BadGeometry { unit, log } => is_bad_geometry(hosts, name, *unit, *log),
+        Refusal::TooSmall { need, have } => is_too_small(lines, hosts, name, *need, *have),
+        Refusal::ImageSmall(count) => is_small(lines, hosts, name, *count),
+        Refusal::Busy(host) => may_be_busy(lines, hosts, name, host.0),
+        Refusal::Dirty(host) => may_be_dirty(lines, hosts, name, host.0),
+        Refusal::HasSuper(_) => may_have_super(lines, hosts, name),
+        Refusal::Idle => is_running(name, hosts, false),
+        Refusal::Mounted => is_mounted(lines, hosts, name),
+        Refusal::NotMounted => is_resting(name, hosts, false),
+        Refusal::NoLine { line, lines: count } => is_no_line(lines, hosts, name, *line, *count),
+        Refusal::NoFile(_) => may_ask(lines, hosts, name),
+        Refusal::CopyLimit(_) => may_ask(lines, hosts, name),
+        Refusal::BadListing(_) => may_ask(lines, hosts, name),
+        Refusal::MediaFault(line) => is_fault(lines, hosts, name, line.0),
+    }
 }

@@ -1,1 +1,0 @@
-//! Which lines may stand next.
