@@ -5,6 +5,7 @@
 
 mod answer;
 mod commands;
+mod further;
 mod host;
 mod line;
 mod making;
