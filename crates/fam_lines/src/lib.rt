@@ -8,6 +8,7 @@ mod commands;
 mod further;
 mod host;
 mod line;
+mod lines;
 mod making;
 mod refused;
 mod standing;
