@@ -1,0 +1,124 @@
+-- What follows the first line of a note, and which note a line with what follows it is.
+use Rattle.std.specs.Prelude.{ℕ, ⊤, ◌≡◌, Bool, true, false, List, [], Option, Some, None, is_some, slice_get, not}
+use Rattle.std.specs.FinMap as finmap
+use Rattle.fam_base.specs.declared.entry.Entry.{Entry}
+use Rattle.fam_base.specs.declared.entry.Params.{Params}
+use Rattle.fam_format.specs.Layout.{slots_of}
+use Rattle.fam_format.specs.Tree.{Tree, replay}
+use Rattle.fam_rules.specs.declared.answers.Checked.{Checked}
+use Rattle.fam_rules.specs.declared.answers.Report.{Report}
+use Rattle.fam_rules.specs.Reply as reply
+use Rattle.fam_rules.specs.Reply.{Reply}
+use Rattle.fam_journal.specs.Notes.{Answer, Replied, MediaFault, Note, Host, Made, Cut, Start, Mark, Found, Writes, Answered, Stop, Halt, Umount, Refused}
+use Rattle.fam_history.specs.Answers.{none_differs}
+use Rattle.fam_history.specs.declared.note.ToldLine.{ToldLine}
+use Rattle.fam_history.specs.ToldNotes.{line_told}
+use Rattle.fam_judge.specs.Standing.{OfFace}
+use Rattle.fam_lines.specs.Hosts.{faces_of, names_of}
+use Rattle.fam_lines.specs.declared.host.SeenHost.{SeenHost}
+
+-- the further lines, as what they tell: entries, or a report
+pub record Further : Type 0 where
+  pub entries : List Entry
+  pub report : Option Report
+
+-- no line follows
+abbrev pub nothing : Further
+nothing = record { entries = []; report = None }
+
+-- what follows the first line of a reply
+abbrev pub behind_reply : Reply → Further
+behind_reply (reply.Appended seq) = nothing
+behind_reply (reply.NotAppended why) = nothing
+behind_reply (reply.Played m tree) = record { entries = finmap.values tree; report = None }
+behind_reply (reply.Mounted m) = nothing
+behind_reply (reply.Same m) = nothing
+behind_reply (reply.Differs m offset found wanted) = nothing
+behind_reply (reply.Length m size wanted) = nothing
+behind_reply (reply.Bytes m bytes) = nothing
+behind_reply (reply.NotFound m) = nothing
+behind_reply (reply.IsDirectory m) = nothing
+behind_reply (reply.Checks m checked) = nothing
+behind_reply (reply.Reports report) = record { entries = []; report = Some report }
+behind_reply (reply.NoSuperblock fault) = nothing
+behind_reply (reply.BadHeader fault) = nothing
+behind_reply (reply.BadSlot seq why) = nothing
+
+-- so of an answer
+abbrev pub behind_answer : Answer → Further
+behind_answer (Replied given) = behind_reply given
+behind_answer (MediaFault at) = nothing
+
+-- so of a note
+abbrev pub behind_note : Note → Further
+behind_note (Host name uuid) = nothing
+behind_note (Made h p) = nothing
+behind_note (Cut h k) = nothing
+behind_note (Start h cmd) = nothing
+behind_note (Mark h) = nothing
+behind_note (Found h n) = nothing
+behind_note (Writes h seq entry) = nothing
+behind_note (Answered h answer) = behind_answer answer
+behind_note (Stop h) = nothing
+behind_note (Halt h) = nothing
+behind_note (Umount h) = nothing
+behind_note (Refused name cause) = nothing
+
+-- of hosts of these names the note's first line tells this, and so much follows it
+pub record IsNoteOf (names : List (List ℕ)) (told : ToldLine) (further : Further) (note : Note) : Type 0 where
+  pub first : line_told names note ≡ told
+  pub behind : behind_note note ≡ further
+
+-- What no text tells, of notes that stand and fit.
+
+-- a tree is of entries
+pub record IsTreeOfEntries (tree : Tree) : Type 0 where
+  pub entries : List Entry
+  pub is : tree ≡ replay entries
+
+-- a first path is named just where some path differs
+abbrev pub NamesFirst : Checked → Type 0
+NamesFirst c = is_some c.first ≡ not (none_differs c.missing c.extra c.changed)
+
+-- of a reply
+abbrev pub IsWholeReply : Reply → Type 0
+IsWholeReply (reply.Appended seq) = ⊤
+IsWholeReply (reply.NotAppended why) = ⊤
+IsWholeReply (reply.Played m tree) = IsTreeOfEntries tree
+IsWholeReply (reply.Mounted m) = ⊤
+IsWholeReply (reply.Same m) = ⊤
+IsWholeReply (reply.Differs m offset found wanted) = ⊤
+IsWholeReply (reply.Length m size wanted) = ⊤
+IsWholeReply (reply.Bytes m bytes) = ⊤
+IsWholeReply (reply.NotFound m) = ⊤
+IsWholeReply (reply.IsDirectory m) = ⊤
+IsWholeReply (reply.Checks m checked) = NamesFirst checked
+IsWholeReply (reply.Reports report) = ⊤
+IsWholeReply (reply.NoSuperblock fault) = ⊤
+IsWholeReply (reply.BadHeader fault) = ⊤
+IsWholeReply (reply.BadSlot seq why) = ⊤
+
+-- of an answer
+abbrev pub IsWholeAnswer : Answer → Type 0
+IsWholeAnswer (Replied given) = IsWholeReply given
+IsWholeAnswer (MediaFault at) = ⊤
+
+-- the slots follow from format and log, and the master is the host of this UUID
+pub record IsWholeMade (me : List ℕ) (p : Params) : Type 0 where
+  pub slots : p.slots ≡ slots_of p.format p.log_length
+  pub master : p.master ≡ me
+
+-- of a note: what its text doesn't tell is what it is of each note that stands and fits
+abbrev pub IsWholeNote : List SeenHost → Note → Type 0
+IsWholeNote hosts (Host name uuid) = ⊤
+IsWholeNote hosts (Made h p) = OfFace (slice_get (faces_of hosts) h) (λ f. IsWholeMade f.uuid p)
+IsWholeNote hosts (Cut h k) = ⊤
+IsWholeNote hosts (Start h cmd) = ⊤
+IsWholeNote hosts (Mark h) = ⊤
+IsWholeNote hosts (Found h n) = ⊤
+IsWholeNote hosts (Writes h seq entry) = ⊤
+IsWholeNote hosts (Answered h answer) = IsWholeAnswer answer
+IsWholeNote hosts (Stop h) = ⊤
+IsWholeNote hosts (Halt h) = ⊤
+IsWholeNote hosts (Umount h) = ⊤
+IsWholeNote hosts (Refused name cause) = ⊤

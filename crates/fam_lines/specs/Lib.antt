@@ -1,0 +1,4 @@
+pub mod Behind
+pub mod Hosts
+pub mod Lines
+pub mod Resolved

@@ -1,0 +1,205 @@
+-- The line with numbers in place of names, case by case. `specs/Behind.antt` says what it has to be.
+use Rattle.std.specs.Prelude.{ℕ, ◌≡◌, ◌&&◌, Bool, true, false, List, [], ◌∷◌, Option, Some, None, Vec, if◌then◌else◌, is_none, not, option_map, slice_get}
+use Rattle.std.specs.Global.{Global}
+use Rattle.std.specs.Ordering.{is_lt}
+use Rattle.fam_base.specs.declared.cmd.Cmd.{Cmd}
+use Rattle.fam_base.specs.declared.cmd.Cmd.TheVariants as cmd
+use Rattle.fam_base.specs.declared.cmd.Content.{Content}
+use Rattle.fam_base.specs.declared.cmd.Content.TheVariants as content
+use Rattle.fam_base.specs.declared.entry.Entry.{Entry}
+use Rattle.fam_base.specs.declared.entry.Params.{Params}
+use Rattle.fam_base.specs.PathOrder.{path_cmp, path_eq}
+use Rattle.fam_format.specs.Layout.{slots_of}
+use Rattle.fam_rules.specs.declared.answers.Checked.{Checked}
+use Rattle.fam_rules.specs.declared.answers.Report.{Report}
+use Rattle.fam_journal.specs.declared.refusal.Refusal.{Refusal}
+use Rattle.fam_journal.specs.declared.refusal.Refusal.TheVariants as why
+use Rattle.fam_outcomes.specs.Texts.{is_sound_report}
+use Rattle.fam_history.specs.Answers.{none_differs}
+use Rattle.fam_history.specs.declared.answer.ToldAnswer.{ToldAnswer}
+use Rattle.fam_history.specs.declared.answer.ToldAnswer.TheVariants as answer
+use Rattle.fam_history.specs.declared.command.ToldCommand.{ToldCommand}
+use Rattle.fam_history.specs.declared.command.ToldCommand.TheVariants as command
+use Rattle.fam_history.specs.declared.note.LineNote.{LineNote}
+use Rattle.fam_history.specs.declared.note.LineNote.TheVariants as told
+use Rattle.fam_history.specs.declared.note.ToldLine.{ToldLine}
+use Rattle.fam_history.specs.declared.note.ToldParams.{ToldParams}
+use Rattle.fam_history.specs.declared.refusal.ToldRefusal.{ToldRefusal}
+use Rattle.fam_history.specs.declared.refusal.ToldRefusal.TheVariants as refusal
+use Rattle.fam_judge.specs.Standing.{number_in}
+use Rattle.fam_lines.specs.declared.answer.HostAnswer.{HostAnswer}
+use Rattle.fam_lines.specs.declared.answer.HostAnswer.TheVariants as given
+use Rattle.fam_lines.specs.declared.host.SeenHost.{SeenHost}
+use Rattle.fam_lines.specs.declared.line.Line.{Line}
+use Rattle.fam_lines.specs.declared.line.Line.TheVariants as line
+use Rattle.fam_lines.specs.Hosts.{faces_of}
+
+-- Further lines.
+
+-- there are no entries
+abbrev pub is_empty : List Entry → Bool
+is_empty [] = true
+is_empty (e ∷ es) = false
+
+-- nothing follows the first line
+abbrev pub is_bare : List Entry → Option Report → Bool
+is_bare entries report = is_empty entries && is_none report
+
+-- a path stands behind another one, if any
+abbrev pub is_behind : Option (List ℕ) → List ℕ → Bool
+is_behind None path = true
+is_behind (Some before) path = is_lt (path_cmp before path)
+
+-- the paths rise behind another one, if any
+abbrev pub rise_behind : Option (List ℕ) → List Entry → Bool
+rise_behind before [] = true
+rise_behind before (e ∷ es) = is_behind before e.path && rise_behind (Some e.path) es
+
+-- Answers.
+
+-- an answer that is one line
+abbrev pub alone : List Entry → Option Report → HostAnswer → Option HostAnswer
+alone entries report x = if is_bare entries report then Some x else None
+
+-- the entries of a tree follow
+abbrev pub played : ℕ → Vec Entry Global → Option Report → Option HostAnswer
+played m entries report = if is_none report && rise_behind None entries.items then Some (given.Played m entries) else None
+
+-- a report is sound as its first line says
+abbrev pub agrees : Bool → Report → Bool
+agrees true report = is_sound_report report
+agrees false report = not (is_sound_report report)
+
+-- the report follows
+abbrev pub reported : Bool → List Entry → Option Report → Option HostAnswer
+reported sound entries None = None
+reported sound entries (Some report) = if is_empty entries && agrees sound report then Some (given.Reports report) else None
+
+-- a path in print: `-` is none where no path differs, and a path where one does
+abbrev pub is_printed_first : Bool → Option (List ℕ) → Bool
+is_printed_first true None = true
+is_printed_first true (Some path) = not (path_eq path (45 ∷ []))
+is_printed_first false None = false
+is_printed_first false (Some path) = true
+
+-- so of how a tree differs
+abbrev pub is_printed_checked : Checked → Bool
+is_printed_checked c = is_printed_first (none_differs c.missing c.extra c.changed) c.first
+
+-- how a tree differs
+abbrev pub compared : ℕ → Checked → List Entry → Option Report → Option HostAnswer
+compared m c entries report = if is_printed_checked c then alone entries report (given.Checks m c) else None
+
+-- an answer by its first line and what follows
+abbrev pub answer_with : ToldAnswer → Vec Entry Global → Option Report → Option HostAnswer
+answer_with (answer.Ok seq) entries report = alone entries.items report (given.Appended seq)
+answer_with (answer.NotAppended why) entries report = alone entries.items report (given.NotAppended why)
+answer_with (answer.Played m) entries report = played m entries report
+answer_with (answer.Mounted m) entries report = alone entries.items report (given.Mounted m)
+answer_with (answer.Same m) entries report = alone entries.items report (given.Same m)
+answer_with (answer.Differs m offset found wanted) entries report = alone entries.items report (given.Differs m offset found wanted)
+answer_with (answer.Length m size wanted) entries report = alone entries.items report (given.Length m size wanted)
+answer_with (answer.Bytes m bytes) entries report = alone entries.items report (given.Bytes m bytes)
+answer_with (answer.NotFound m) entries report = alone entries.items report (given.NotFound m)
+answer_with (answer.IsDirectory m) entries report = alone entries.items report (given.IsDirectory m)
+answer_with (answer.Checked m c) entries report = compared m c entries.items report
+answer_with (answer.Report sound) entries report = reported sound entries.items report
+answer_with (answer.NoSuperblock fault) entries report = alone entries.items report (given.NoSuperblock fault)
+answer_with (answer.BadHeader fault) entries report = alone entries.items report (given.BadHeader fault)
+answer_with (answer.BadSlot seq why) entries report = alone entries.items report (given.BadSlot seq why)
+answer_with (answer.MediaFault at) entries report = alone entries.items report (given.MediaFault at)
+
+-- Commands, parameters, refusals.
+
+-- no bytes of a source
+abbrev pub is_told_content : Content → Bool
+is_told_content content.Zero = true
+is_told_content (content.Seed seed) = true
+is_told_content (content.Bytes bytes) = false
+
+-- a command that is told as a whole
+abbrev pub is_told_cmd : Cmd → Bool
+is_told_cmd cmd.Logplay = true
+is_told_cmd cmd.Mount = true
+is_told_cmd (cmd.Mkdir path attr) = true
+is_told_cmd (cmd.Creat path size attr stripe fill) = true
+is_told_cmd (cmd.Cp path attr stripe bytes) = false
+is_told_cmd (cmd.Verify path against) = is_told_content against
+is_told_cmd (cmd.Read path offset count) = true
+is_told_cmd (cmd.Check listing) = false
+is_told_cmd cmd.Fsck = true
+
+-- some command is told so
+abbrev pub is_told : ToldCommand → Bool
+is_told (command.Plain cmd) = is_told_cmd cmd
+is_told (command.Cp path size attr stripe) = true
+is_told (command.VerifySource path count) = true
+is_told (command.Check count) = true
+
+-- the parameters of a file system that the host of this UUID made
+abbrev pub whole_params : List ℕ → ToldParams → Params
+whole_params me p =
+    record { format = p.format; log_length = p.log_length; slots = slots_of p.format p.log_length; unit = p.unit; device = p.device; fs = p.fs; master = me }
+
+-- the number of the host of a name
+abbrev pub number_of : List SeenHost → List ℕ → Option ℕ
+number_of hosts name = number_in name (faces_of hosts)
+
+-- a refusal
+abbrev pub cause_of : List SeenHost → ToldRefusal → Option Refusal
+cause_of hosts refusal.NoHost = Some why.NoHost
+cause_of hosts (refusal.SameHost name) = option_map (λ h. why.SameHost (record { 0 = h })) (number_of hosts name)
+cause_of hosts refusal.TooManyHosts = Some why.TooManyHosts
+cause_of hosts (refusal.BadGeometry unit log) = Some (why.BadGeometry unit log)
+cause_of hosts (refusal.TooSmall need have) = Some (why.TooSmall need have)
+cause_of hosts (refusal.ImageSmall lines) = Some (why.ImageSmall lines)
+cause_of hosts (refusal.Busy name) = option_map (λ h. why.Busy (record { 0 = h })) (number_of hosts name)
+cause_of hosts (refusal.Dirty name) = option_map (λ h. why.Dirty (record { 0 = h })) (number_of hosts name)
+cause_of hosts (refusal.HasSuper uuid) = Some (why.HasSuper uuid)
+cause_of hosts refusal.Idle = Some why.Idle
+cause_of hosts refusal.Mounted = Some why.Mounted
+cause_of hosts refusal.NotMounted = Some why.NotMounted
+cause_of hosts (refusal.NoLine at lines) = Some (why.NoLine at lines)
+cause_of hosts (refusal.NoFile name) = Some (why.NoFile name)
+cause_of hosts (refusal.CopyLimit sum) = Some (why.CopyLimit sum)
+cause_of hosts (refusal.BadListing at) = Some (why.BadListing at)
+cause_of hosts (refusal.MediaFault at) = Some (why.MediaFault (record { 0 = at }))
+
+-- Lines.
+
+-- host `at` made a file system
+abbrev pub made_line : List SeenHost → Option ℕ → ToldParams → Option Line
+made_line hosts None p = None
+made_line hosts (Some h) p = option_map (λ host. line.Made h (whole_params host.uuid p)) (slice_get hosts h)
+
+-- it begins a command
+abbrev pub start_line : Option ℕ → ToldCommand → Option Line
+start_line at cmd = if is_told cmd then option_map (λ h. line.Start h cmd) at else None
+
+-- it was answered
+abbrev pub answered_line : Option ℕ → Option HostAnswer → Option Line
+answered_line None answer = None
+answered_line (Some h) answer = option_map (line.Answered h) answer
+
+-- a line that nothing follows
+abbrev pub lone : List Entry → Option Report → Option Line → Option Line
+lone entries report x = if is_bare entries report then x else None
+
+-- a line of the host of a name, whose number is `at`, by what is told and what follows
+abbrev pub line_with : List SeenHost → Option ℕ → List ℕ → LineNote → Vec Entry Global → Option Report → Option Line
+line_with hosts at name (told.Host uuid) entries report = lone entries.items report (Some (line.Host name uuid))
+line_with hosts at name (told.Made p) entries report = lone entries.items report (made_line hosts at p)
+line_with hosts at name (told.Cut k) entries report = lone entries.items report (option_map (λ h. line.Cut h k) at)
+line_with hosts at name (told.Start cmd) entries report = lone entries.items report (start_line at cmd)
+line_with hosts at name told.Mark entries report = lone entries.items report (option_map line.Mark at)
+line_with hosts at name (told.Found n) entries report = lone entries.items report (option_map (λ h. line.Found h n) at)
+line_with hosts at name (told.Writes seq entry) entries report = lone entries.items report (option_map (λ h. line.Writes h seq entry) at)
+line_with hosts at name (told.Answered answer) entries report = answered_line at (answer_with answer entries report)
+line_with hosts at name told.Stop entries report = lone entries.items report (option_map line.Stop at)
+line_with hosts at name told.Halt entries report = lone entries.items report (option_map line.Halt at)
+line_with hosts at name told.Umount entries report = lone entries.items report (option_map line.Umount at)
+line_with hosts at name (told.Refused why) entries report = lone entries.items report (option_map (line.Refused name) (cause_of hosts why))
+
+-- so of a line
+abbrev pub resolved : List SeenHost → ToldLine → Vec Entry Global → Option Report → Option Line
+resolved hosts told entries report = line_with hosts (number_of hosts told.name) told.name told.note entries report

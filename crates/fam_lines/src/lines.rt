@@ -1,0 +1,234 @@
+//! Lines with numbers in place of names.
+
+ghost use Rattle.std.specs.Prelude.{◌≡◌, ◌≤◌, length, option_map};
+ghost use Rattle.fam_journal.specs.Calls.{host_limit};
+ghost use Rattle.fam_lines.specs.Resolved.{answered_line, cause_of, is_told, is_told_cmd, is_told_content, line_with, lone, made_line, number_of, resolved, start_line, whole_params};
+ghost use Rattle.fam_lines.specs.declared.line.Line.TheVariants as line;
+
+use crate::answer::HostAnswer;
+use crate::further::{answer_with, is_bare};
+use crate::host::{SeenHost, number_in};
+use crate::line::Line;
+use fam_base::{Cmd, Content, Entry, HostName, LineNo, Params};
+use fam_format::shape_of;
+use fam_history::{LineNote, ToldCommand, ToldLine, ToldParams, ToldRefusal};
+use fam_journal::{HostId, Refusal};
+use fam_rules::Report;
+use uuid::Uuid;
+
+/// Whether a content has no bytes of a source.
+fn is_told_content(content: &Content) -> bool
+    ensures { result ≡ is_told_content content.now }
+{
+    match content {
+        Content::Zero => true,
+        Content::Seed(_) => true,
+        Content::Bytes(_) => false,
+    }
+}
+
+/// Whether a command is told as a whole.
+fn is_told_cmd(cmd: &Cmd) -> bool
+    ensures { result ≡ is_told_cmd cmd.now }
+{
+    match cmd {
+        Cmd::Cp { .. } => false,
+        Cmd::Verify { against, .. } => is_told_content(against),
+        Cmd::Check { .. } => false,
+        Cmd::Logplay => true,
+        Cmd::Mount => true,
+        Cmd::Mkdir { .. } => true,
+        Cmd::Creat { .. } => true,
+        Cmd::Read { .. } => true,
+        Cmd::Fsck => true,
+    }
+}
+
+/// Whether some command is told so.
+fn is_told(cmd: &ToldCommand) -> bool
+    ensures { result ≡ is_told cmd.now }
+{
+    match cmd {
+        ToldCommand::Plain(cmd) => is_told_cmd(cmd),
+        ToldCommand::Cp { .. } => true,
+        ToldCommand::VerifySource { .. } => true,
+        ToldCommand::Check { .. } => true,
+    }
+}
+
+/// The parameters of a file system that the host of this UUID made.
+fn whole_params(me: Uuid, p: &ToldParams) -> Params
+    ensures { result ≡ whole_params me p.now }
+{
+    Params {
+        format: p.format,
+        log_length: p.log_length,
+        slots: (p.log_length / shape_of(p.format).bytes).saturating_sub(1),
+        unit: p.unit,
+        device: p.device,
+        fs: p.fs,
+        master: me,
+    }
+}
+
+/// The number of the host of a name, which is small.
+fn number_of(hosts: &[SeenHost], name: &HostName) -> Option<HostId>
+    requires few { length hosts.now ≤ host_limit }
+    ensures { result ≡ option_map (λ h. record { 0 = h }) (number_of hosts.now name.now) }
+{
+    match number_in(name, hosts) {
+        Some(at) => Some(HostId(at as u32)),
+        None => None,
+    }
+}
+
+/// A refusal.
+fn cause_of(hosts: &[SeenHost], why: ToldRefusal) -> Option<Refusal>
+    requires few { length hosts.now ≤ host_limit }
+    ensures { result ≡ cause_of hosts.now why }
+{
+    match why {
+        ToldRefusal::NoHost => Some(Refusal::NoHost),
+        ToldRefusal::SameHost(name) => Some(Refusal::SameHost(number_of(hosts, &name)?)),
+        ToldRefusal::TooManyHosts => Some(Refusal::TooManyHosts),
+        ToldRefusal::BadGeometry { unit, log } => Some(Refusal::BadGeometry { unit, log }),
+        ToldRefusal::TooSmall { need, have } => Some(Refusal::TooSmall { need, have }),
+        ToldRefusal::ImageSmall(lines) => Some(Refusal::ImageSmall(lines)),
+        ToldRefusal::Busy(name) => Some(Refusal::Busy(number_of(hosts, &name)?)),
+        ToldRefusal::Dirty(name) => Some(Refusal::Dirty(number_of(hosts, &name)?)),
+        ToldRefusal::HasSuper(uuid) => Some(Refusal::HasSuper(uuid)),
+        ToldRefusal::Idle => Some(Refusal::Idle),
+        ToldRefusal::Mounted => Some(Refusal::Mounted),
+        ToldRefusal::NotMounted => Some(Refusal::NotMounted),
+        ToldRefusal::NoLine { line, lines } => Some(Refusal::NoLine { line, lines }),
+        ToldRefusal::NoFile(name) => Some(Refusal::NoFile(name)),
+        ToldRefusal::CopyLimit(sum) => Some(Refusal::CopyLimit(sum)),
+        ToldRefusal::BadListing(at) => Some(Refusal::BadListing(at)),
+        ToldRefusal::MediaFault(at) => Some(Refusal::MediaFault(LineNo(at))),
+    }
+}
+
+/// A host made a file system.
+fn made(hosts: &[SeenHost], at: Option<usize>, p: &ToldParams) -> Option<Line>
+    ensures { result ≡ made_line hosts.now at p.now }
+{
+    let Some(at) = at else {
+        return None;
+    };
+    match hosts.get(at) {
+        Some(host) => Some(Line::Made(at, whole_params(host.uuid, p))),
+        None => None,
+    }
+}
+
+/// It halted in making one.
+fn cut(at: Option<usize>, k: u64) -> Option<Line>
+    ensures { result ≡ option_map (λ h. line.Cut h k) at }
+{
+    Some(Line::Cut(at?, k))
+}
+
+/// It begins a command.
+fn start(at: Option<usize>, cmd: ToldCommand) -> Option<Line>
+    ensures { result ≡ start_line at cmd }
+{
+    if !is_told(&cmd) {
+        return None;
+    }
+    Some(Line::Start(at?, cmd))
+}
+
+/// Its task dropped the gate's line.
+fn mark(at: Option<usize>) -> Option<Line>
+    ensures { result ≡ option_map line.Mark at }
+{
+    Some(Line::Mark(at?))
+}
+
+/// It has found so many entries.
+fn found(at: Option<usize>, n: u64) -> Option<Line>
+    ensures { result ≡ option_map (λ h. line.Found h n) at }
+{
+    Some(Line::Found(at?, n))
+}
+
+/// It goes on to append an entry.
+fn writes(at: Option<usize>, seq: u64, entry: Entry) -> Option<Line>
+    ensures { result ≡ option_map (λ h. line.Writes h seq entry) at }
+{
+    Some(Line::Writes {
+        host: at?,
+        seq,
+        entry,
+    })
+}
+
+/// It was answered.
+fn answered(at: Option<usize>, answer: Option<HostAnswer>) -> Option<Line>
+    ensures { result ≡ answered_line at answer }
+{
+    let Some(at) = at else {
+        return None;
+    };
+    Some(Line::Answered(at, answer?))
+}
+
+fn stop(at: Option<usize>) -> Option<Line>
+    ensures { result ≡ option_map line.Stop at }
+{
+    Some(Line::Stop(at?))
+}
+
+fn halt(at: Option<usize>) -> Option<Line>
+    ensures { result ≡ option_map line.Halt at }
+{
+    Some(Line::Halt(at?))
+}
+
+fn umount(at: Option<usize>) -> Option<Line>
+    ensures { result ≡ option_map line.Umount at }
+{
+    Some(Line::Umount(at?))
+}
+
+/// A call was refused.
+fn refused(name: HostName, cause: Option<Refusal>) -> Option<Line>
+    ensures { result ≡ option_map (line.Refused name) cause }
+{
+    Some(Line::Refused(name, cause?))
+}
+
+/// A line that nothing follows.
+fn lone(entries: &[Entry], report: &Option<Report>, line: Option<Line>) -> Option<Line>
+    ensures { result ≡ lone entries.now report.now line }
+{
+    if is_bare(entries, report) { line } else { None }
+}
+
+/// A line of the host of a name and number, by what is told and what follows.
+fn line_with(
+    hosts: &[SeenHost],
+    at: Option<usize>,
+    name: HostName,
+    note: LineNote,
+    entries: Vec<Entry>,
+    report: Option<Report>,
+) -> Option<Line>
+    requires few { length hosts.now ≤ host_limit }
+    ensures { result ≡ line_with hosts.now at name note entries report }
+{
+    match note {
+        LineNote::Host(uuid) => lone(&entries, &report, Some(Line::Host(name, uuid))),
+        LineNote::Made(p) => lone(&entries, &report, made(hosts, at, &p)),
+        LineNote::Cut(k) => lone(&entries, &report, cut(at, k)),
+        LineNote::Start(cmd) => lone(&entries, &report, start(at, cmd)),
+        LineNote::Mark => lone(&entries, &report, mark(at)),
+        LineNote::Found(n) => lone(&entries, &report, found(at, n)),
+        LineNote::Writes { seq, entry } => lone(&entries, &report, writes(at, seq, entry)),
+        LineNote::Answered(told) => answered(at, answer_with(told, entries, report)),
+        LineNote::Stop => lone(&entries, &report, stop(at)),
+        LineNote::Halt => lone(&entries, &report, halt(at)),
+        LineNote::Umount => lone(&entries, &report, umount(at)),
+        LineNote::Refused(why) => lone(&entries, &report, refused(name, cause_of(hosts, why))),
+    }
+}
