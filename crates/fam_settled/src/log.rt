@@ -1,11 +1,11 @@
 //! Settled entries in their order, and one that may follow them.
 
-ghost use Rattle.std.specs.Prelude.{◌≡◌, ◌+◌, ◌≤◌, ◌↔◌, IfOk, IsTrue, IsSome, OnErr, OnOk, length, [], None};
+ghost use Rattle.std.specs.Prelude.{◌≡◌, ◌+◌, ◌≤◌, ◌↔◌, ◌++◌, ◌∷◌, IfOk, IsTrue, IsSome, OnErr, OnOk, length, [], None};
 ghost use Rattle.fam_format.specs.Params.{SoundParams};
 ghost use Rattle.fam_journal.specs.Past.{acknowledges, finds, pends, shows, Sound};
 ghost use Rattle.fam_plan.specs.State.{MayBeAdded};
 ghost use Rattle.fam_settled.specs.Bytes.{file_of};
-ghost use Rattle.fam_settled.specs.Settled.{IsSettled, joined, plan_of, state_of};
+ghost use Rattle.fam_settled.specs.Settled.{history_of, IsSettled, joined, plan_of, state_of};
 
 use crate::bytes::{Bytes, Filed};
 use fam_base::{Entry, OutOfMemory, Params};
@@ -33,6 +33,41 @@ impl Model for Log {
     ghost view = { settled_in };
 
     ghost invariant = { IsLog };
+}
+
+/// An entry stands behind the others, and its bytes behind theirs.
+fn add_beside(plan: &mut Plan, list: &mut Vec<Bytes>, added: &Filed) -> Result<(), OutOfMemory>
+    requires { MayBeAdded plan.old added.now.entry }
+    ensures entries { OnOk result (plan.new.entries ≡ plan.old.entries ++ added.now.entry ∷ []) }
+    ensures bytes { OnOk result (list.new.items ≡ list.old.items ++ added.now.bytes ∷ []) }
+    ensures params { plan.new.params ≡ plan.old.params }
+    ensures plan_kept { OnErr result (plan.new ≡ plan.old) }
+    ensures bytes_kept { OnErr result (list.new.items ≡ list.old.items) }
+{
+    if list.reserve(1).is_err() || plan.add(&added.entry).is_err() {
+        return Err(OutOfMemory);
+    }
+    let _ = list.push(added.bytes);
+    Ok(())
+}
+
+/// The same of bytes that another log may have too: their list is copied first.
+fn add_shared(
+    plan: &mut Plan,
+    shared: &mut Rc<Vec<Bytes>>,
+    added: &Filed,
+) -> Result<(), OutOfMemory>
+    requires { MayBeAdded plan.old added.now.entry }
+    ensures entries { OnOk result (plan.new.entries ≡ plan.old.entries ++ added.now.entry ∷ []) }
+    ensures bytes { OnOk result (shared.new.value.items ≡ shared.old.value.items ++ added.now.bytes ∷ []) }
+    ensures params { plan.new.params ≡ plan.old.params }
+    ensures plan_kept { OnErr result (plan.new ≡ plan.old) }
+    ensures bytes_kept { OnErr result (shared.new.value.items ≡ shared.old.value.items) }
+{
+    match Rc::make_mut(shared) {
+        Ok(list) => add_beside(plan, list, added),
+        Err(_) => Err(OutOfMemory),
+    }
 }
 
 impl Log {
@@ -93,5 +128,77 @@ impl Log {
         ensures { IsSettled self.now }
     {
         self.plan.each_entry_joins();
+    }
+
+    /// An entry that may be added pends, with these bytes.
+    pub fn pend(&mut self, entry: &Entry, bytes: Bytes)
+        requires { MayBeAdded (plan_of self.old) entry.now }
+        ensures { state_of self.new ≡ pends (file_of entry.now bytes) (state_of self.old) }
+    {
+        self.pending = Some(Filed {
+            entry: *entry,
+            bytes,
+        });
+    }
+
+    /// An entry stands behind the others, with its bytes.
+    fn add(&mut self, added: &Filed) -> Result<(), OutOfMemory>
+        requires { MayBeAdded (plan_of self.old) added.now.entry }
+        ensures added { OnOk result (history_of self.new ≡ history_of self.old ++ file_of added.now.entry added.now.bytes ∷ []) }
+        ensures params { self.new.params ≡ self.old.params }
+        ensures none { OnOk result (self.new.pending ≡ None) }
+        ensures kept { OnErr result (self.new ≡ self.old) }
+    {
+        add_shared(&mut self.plan, &mut self.bytes, added)?;
+        self.pending = None;
+        Ok(())
+    }
+
+    /// The pending entry joins the history, where there is one.
+    fn join(&mut self) -> Result<(), OutOfMemory>
+        ensures joined { OnOk result (state_of self.new ≡ joined (state_of self.old)) }
+        ensures kept { OnErr result (self.new ≡ self.old) }
+    {
+        match self.pending {
+            Some(pending) => self.add(&pending),
+            None => Ok(()),
+        }
+    }
+
+    /// The first `m` entries were shown: the pending one joins the history where it is one of them.
+    pub fn shows(&mut self, m: u64) -> Result<(), OutOfMemory>
+        ensures shown { OnOk result (state_of self.new ≡ shows m (state_of self.old)) }
+        ensures kept { OnErr result (self.new ≡ self.old) }
+    {
+        if m > 0 && m - 1 == self.count() {
+            self.join()
+        } else {
+            Ok(())
+        }
+    }
+
+    /// A master found `n` entries: the pending one is dropped where it isn't one of them, and else joins the history.
+    pub fn finds(&mut self, n: u64) -> Result<(), OutOfMemory>
+        ensures found { OnOk result (state_of self.new ≡ finds n (state_of self.old)) }
+        ensures kept { OnErr result (self.new ≡ self.old) }
+    {
+        if n == self.count() {
+            self.pending = None;
+            Ok(())
+        } else {
+            self.shows(n)
+        }
+    }
+
+    /// Entry `seq` is acknowledged: the pending one joins the history where it is this one.
+    pub fn acknowledge(&mut self, seq: u64) -> Result<(), OutOfMemory>
+        ensures acknowledged { OnOk result (state_of self.new ≡ acknowledges seq (state_of self.old)) }
+        ensures kept { OnErr result (self.new ≡ self.old) }
+    {
+        if seq == self.count() {
+            self.join()
+        } else {
+            Ok(())
+        }
     }
 }
