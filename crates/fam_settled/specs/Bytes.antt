@@ -1,5 +1,6 @@
 -- The bytes of a file, by where they are from.
-use Rattle.std.specs.Prelude.{ℕ, ◌≡◌, ◌⊎◌, ◌<◌, List, replicate}
+use Rattle.std.specs.Prelude.{ℕ, ◌≡◌, ◌⊎◌, ◌+◌, ◌<◌, List, length, replicate, slice_index, Option, Some, None}
+use Rattle.fam_base.specs.declared.cmd.Content.{Content}
 use Rattle.fam_base.specs.declared.cmd.Content.TheVariants as content
 use Rattle.fam_base.specs.declared.entry.Entry.{Entry}
 use Rattle.fam_rules.specs.Asks.{File}
@@ -31,3 +32,14 @@ MayAgreeAt a b i = (byte_at a i ≡ byte_at b i) ⊎ (byte_at a i ≡ untold) �
 -- so it is below this offset
 abbrev pub MayAgreeTo : Bytes → Bytes → ℕ → Type 0
 MayAgreeTo a b end = (i : ℕ) → i < end → MayAgreeAt a b i
+
+-- these may be bytes from an offset on
+abbrev pub MayHave : Bytes → ℕ → List ℕ → Type 0
+MayHave b offset given =
+    (i : ℕ) → i < length given → (byte_at b (offset + i) ≡ slice_index given i) ⊎ (byte_at b (offset + i) ≡ untold)
+
+-- the content that they are, where they are told
+abbrev pub fill_of : Bytes → Option Content
+fill_of Zero = Some content.Zero
+fill_of (Seed seed) = Some (content.Seed seed)
+fill_of Untold = None

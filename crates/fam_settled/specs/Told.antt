@@ -58,3 +58,28 @@ IsNoCheck (Cp path attr stripe bytes) = ⊤
 IsNoCheck (Verify path against) = ⊤
 IsNoCheck (Read path offset count) = ⊤
 IsNoCheck Fsck = ⊤
+
+-- zeros or a seed: a creat has no bytes of a source
+abbrev pub IsToldFill : Content → Type 0
+IsToldFill content.Zero = ⊤
+IsToldFill (content.Seed seed) = ⊤
+IsToldFill (content.Bytes bytes) = ⊥
+
+-- so a creat is filled
+abbrev pub IsToldCreat : Cmd → Type 0
+IsToldCreat (Creat path size attr stripe fill) = IsToldFill fill
+IsToldCreat Logplay = ⊤
+IsToldCreat Mount = ⊤
+IsToldCreat (Mkdir path attr) = ⊤
+IsToldCreat (Cp path attr stripe bytes) = ⊤
+IsToldCreat (Verify path against) = ⊤
+IsToldCreat (Read path offset count) = ⊤
+IsToldCreat (Check listing) = ⊤
+IsToldCreat Fsck = ⊤
+
+-- so where it is told
+abbrev pub HasToldFill : ToldCommand → Type 0
+HasToldFill (told.Plain cmd) = IsToldCreat cmd
+HasToldFill (told.Cp path size attr stripe) = ⊤
+HasToldFill (told.VerifySource path count) = ⊤
+HasToldFill (told.Check count) = ⊤

@@ -5,8 +5,12 @@
 #![tactic(auto)]
 
 mod against;
+mod agree;
 mod bytes;
+mod contents;
 mod log;
+mod told;
 
 pub use bytes::{Bytes, Filed};
 pub use log::Log;
+pub use told::bytes_told;
