@@ -1,0 +1,5 @@
+pub mod Bytes
+pub mod Settled
+pub mod Logs
+pub mod Told
+pub mod Fits

@@ -1,0 +1,16 @@
+//! What a history has settled, and which answers fit it.
+//!
+//! A contract sees a `Log` as the record of `specs/Settled.antt`, which stands for a state of a journal. Which answers fit it
+//! is said by fam_judge, `specs/Fitting.antt`: a byte that isn't told may be any.
+#![tactic(auto)]
+
+mod against;
+mod agree;
+mod bytes;
+mod contents;
+mod log;
+mod told;
+
+pub use bytes::{Bytes, Filed};
+pub use log::Log;
+pub use told::bytes_told;
