@@ -1,0 +1,4 @@
+pub mod Lines
+pub mod Taken
+pub mod Records
+pub mod Histories
