@@ -112,6 +112,159 @@ impl<'a> Records<'a> {
         let (mut words, line) = self.expected()?;
         told_superblock(&mut words, line)
     }
+
+    /// What it says of the log.
+    fn log(&mut self) -> Result<LogState, LineFault>
+        requires room { HasRoom self.old }
+        ensures value { Gives (λ x. x) (lines_left self.new) result (one_line log_state_line (lines_left self.old)) }
+        ensures room { HasRoom self.new }
+    {
+        let (mut words, line) = self.expected()?;
+        told_log(&mut words, line)
+    }
+
+    /// How many files and directories it has.
+    fn files(&mut self) -> Result<(u64, u64), LineFault>
+        requires room { HasRoom self.old }
+        ensures value { Gives (λ x. x) (lines_left self.new) result (one_line files_line (lines_left self.old)) }
+        ensures room { HasRoom self.new }
+    {
+        let (mut words, line) = self.expected()?;
+        told_files(&mut words, line)
+    }
+
+    /// How many units it has that are used, and that are free.
+    fn units(&mut self) -> Result<(u64, u64), LineFault>
+        requires room { HasRoom self.old }
+        ensures value { Gives (λ x. x) (lines_left self.new) result (one_line units_line (lines_left self.old)) }
+        ensures room { HasRoom self.new }
+    {
+        let (mut words, line) = self.expected()?;
+        told_units(&mut words, line)
+    }
+
+    /// The numbers of two entries that overlap, if any do.
+    fn overlap(&mut self) -> Result<Option<(u64, u64)>, LineFault>
+        requires room { HasRoom self.old }
+        ensures value { Gives (λ x. x) (lines_left self.new) result (one_line overlap_line (lines_left self.old)) }
+        ensures room { HasRoom self.new }
+    {
+        let (mut words, line) = self.expected()?;
+        told_overlap(&mut words, line)
+    }
+
+    /// The number of the first bad entry, and why it is bad, if one is.
+    fn bad_entry(&mut self) -> Result<Option<(u64, Reason)>, LineFault>
+        requires room { HasRoom self.old }
+        ensures value { Gives (λ x. x) (lines_left self.new) result (one_line bad_entry_line (lines_left self.old)) }
+        ensures room { HasRoom self.new }
+    {
+        let (mut words, line) = self.expected()?;
+        told_bad_entry(&mut words, line)
+    }
+
+    /// How many slots past the gate hold entries.
+    fn past(&mut self) -> Result<u64, LineFault>
+        requires room { HasRoom self.old }
+        ensures value { Gives (λ x. x) (lines_left self.new) result (one_line past_line (lines_left self.old)) }
+        ensures room { HasRoom self.new }
+    {
+        let (mut words, line) = self.expected()?;
+        told_past(&mut words, line)
+    }
+
+    /// The seven other lines of a report.
+    #[tactic(auto, unfolding(crate::specs::Records::report_of))]
+    fn report(&mut self) -> Result<Report, LineFault>
+        requires room { HasRoom self.old }
+        ensures value { Gives (λ x. x) (lines_left self.new) result (report_of (lines_left self.old)) }
+        ensures room { HasRoom self.new }
+    {
+        let superblock = self.superblock()?;
+        let log = self.log()?;
+        let (files, directories) = self.files()?;
+        let (used, free) = self.units()?;
+        let overlap = self.overlap()?;
+        let bad = self.bad_entry()?;
+        let past = self.past()?;
+        Ok(Report {
+            superblock,
+            log,
+            files,
+            directories,
+            used,
+            free,
+            overlap,
+            bad,
+            past,
+        })
+    }
+
+    /// So many entries, one a line. None is taken ahead: a count may be larger than the text.
+    fn entries(&mut self, alloc: Global, count: u64) -> Result<Vec<Entry>, LineFault>
+        requires room { HasRoom self.old }
+        ensures value { Gives (λ entries. entries.items) (lines_left self.new) result (entries_of count (lines_left self.old)) }
+        ensures room { HasRoom self.new }
+    {
+        let mut entries = Vec::new(alloc);
+        let mut left = count;
+        while left > 0 {
+            let entry = self.entry()?;
+            if entries.push(entry).is_err() {
+                return Err(LineFault::OutOfMemory);
+            }
+            left -= 1;
+        }
+        Ok(entries)
+    }
+
+    /// The lines that follow a note's first one.
+    fn further(&mut self, alloc: Global, further: Further) -> Result<(Vec<Entry>, Option<Report>), LineFault>
+        requires room { HasRoom self.old }
+        ensures value { Gives (λ p. (p.0.items, p.1)) (lines_left self.new) result (further_lines further (lines_left self.old)) }
+        ensures room { HasRoom self.new }
+    {
+        match further {
+            Further::Nothing => Ok((Vec::new(alloc), None)),
+            Further::Entries(count) => {
+                let entries = self.entries(alloc, count)?;
+                Ok((entries, None))
+            }
+            Further::Report => {
+                let report = self.report()?;
+                Ok((Vec::new(alloc), Some(report)))
+            }
+        }
+    }
+
+    /// The note of whose first line this is told.
+    fn record(&mut self, alloc: Global, number: u64, told: ToldLine) -> Result<Option<Record>, LineFault>
+        requires room { HasRoom self.old }
+        ensures value { Gives seen_if (lines_left self.new) result (record_of number told (lines_left self.old)) }
+        ensures room { HasRoom self.new }
+    {
+        let (entries, report) = self.further(alloc, further_of(&told.note))?;
+        Ok(Some(Record {
+            line: number,
+            told,
+            entries,
+            report,
+        }))
+    }
+
+    /// The next note, from its lines.
+    #[tactic(auto, unfolding(crate::specs::Records::next_record))]
+    fn read(&mut self, alloc: Global) -> Result<Option<Record>, LineFault>
+        requires room { HasRoom self.old }
+        ensures value { Gives seen_if (lines_left self.new) result (next_record (lines_left self.old)) }
+        ensures room { HasRoom self.new }
+    {
+        let Some((mut words, line)) = self.next_line() else {
+            return Ok(None);
+        };
+        let told = told_history_line(alloc, &mut words, line)?;
+        self.record(alloc, line.number, told)
+    }
 }
 
 /// The lines that follow an answer's first one.
