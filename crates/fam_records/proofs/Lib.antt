@@ -1,1 +1,2 @@
 pub mod LinesLeft
+pub mod EntriesTaken

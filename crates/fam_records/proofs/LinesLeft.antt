@@ -17,9 +17,12 @@ is_some [] some = absurd some
 is_some (word ∷ words) some = some
 
 -- no line is left
+pub none_left : (bytes : List ℕ) → length bytes ≡ 0 → text_lines bytes ≡ []
+none_left [] none = no_lines
+none_left (byte ∷ bytes) none = absurd (omega (arith, none))
+
 pub no_line : (number : ℕ) (bytes : List ℕ) → length bytes ≡ 0 → next_from number (text_lines bytes) ≡ NoLine number
-no_line number [] none = ap (next_from number) no_lines
-no_line number (byte ∷ bytes) none = absurd (omega (arith, none))
+no_line number bytes none = ap (next_from number) (none_left bytes none)
 
 module _ (number : ℕ) (bytes line behind : List ℕ) (some : 0 < length bytes) (first : line ≡ front line_feed bytes) (rest : behind ≡ back line_feed bytes) where
   lines_are : text_lines bytes ≡ line ∷ text_lines behind

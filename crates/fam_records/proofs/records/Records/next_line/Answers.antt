@@ -3,7 +3,7 @@ use Rattle.fam_grammar.specs.declared.words.Line.{Line}
 use Rattle.fam_grammar.specs.Words.{Word}
 use Rattle.fam_records.specs.Histories.{lines_left}
 use Rattle.fam_records.specs.Lines.{ALine, Left}
-use Rattle.fam_records.proofs.LinesLeft.{no_line, passes, room_left, shorter, tells}
+use Rattle.fam_records.proofs.LinesLeft.{no_line, none_left, passes, room_left, shorter, tells}
 use Rattle.fam_records.proofs.records.Records.next_line.Goals as goal
 
 pub returns-in-Some-clause-value : goal.returns-in-Some-clause-value
@@ -40,4 +40,4 @@ loop-number-preserved c =
 pub returns-clause-value : goal.returns-clause-value
 returns-clause-value c =
     let none : length c.loop-number.self.rest.now ≡ 0 = search rules in
-    c.loop-number.invariant.same ∙ no_line c.loop-number.self.number c.loop-number.self.rest.now none
+    (c.loop-number.invariant.same ∙ no_line c.loop-number.self.number c.loop-number.self.rest.now none, none_left c.loop-number.self.rest.now none)
