@@ -16,7 +16,7 @@ use Rattle.fam_history.specs.ReportLines.{bad_entry_line, files_line, log_state_
 use Rattle.fam_records.specs.declared.record.Further.{Further}
 use Rattle.fam_records.specs.declared.record.Further.TheVariants as further
 use Rattle.fam_records.specs.declared.record.Record.{Record}
-use Rattle.fam_records.specs.Histories.{BeginsWith, History, history_by, history_left, history_up_to, left_behind, seen_if}
+use Rattle.fam_records.specs.Histories.{BeginsWith, History, history_by, history_left, history_up_to, left_behind, no_history, seen_if, with_record}
 use Rattle.fam_records.specs.Lines.{ALine, Left, NextLine, NoLine, is_passed, next_from, next_line, numbered_line}
 use Rattle.fam_records.specs.Records.{Recorded, entries_of, further_lines, further_of, next_record, record_by, record_of, report_of}
 use Rattle.fam_records.specs.Taken.{Bad, Gives, Taken, Takes, line_by, one_line, taken_as, then_takes}
@@ -112,8 +112,45 @@ next_fewer left = record_fewer (length left.lines) (next_line left) (one_of left
 
 -- Histories.
 
--- no line has no note
-none_next : (number : ℕ) → history_by (next_record (record { number = number; lines = [] })) (history_left (record { number = number; lines = [] }))
-    ≡ history_left (record { number = number; lines = [] })
+ended : (n number : ℕ) (lines : List (List ℕ)) → length lines ≡ 0 → history_up_to n (record { number = number; lines = lines }) ≡ no_history
 unfolding next_record
-none_next number = refl
+ended zero number [] none = refl
+ended (suc n) number [] none = refl
+ended n number (line ∷ lines) none = absurd (omega (arith, none))
+
+same_by : (n m count : ℕ) (said : Taken (Option Recorded)) → IsFewer count said
+    → ((rest : Left) → length rest.lines < count → history_up_to n rest ≡ history_up_to m rest)
+    → history_by said (history_up_to n (left_behind said)) ≡ history_by said (history_up_to m (left_behind said))
+same_by n m count (Takes None left) fewer same = refl
+same_by n m count (Takes (Some first) left) fewer same = ap (with_record first) (same left fewer)
+same_by n m count (Bad number column) fewer same = refl
+
+-- more notes than lines are none
+same_up_to : (n m : ℕ) (left : Left) → length left.lines ≤ n → length left.lines ≤ m → history_up_to n left ≡ history_up_to m left
+same_up_to zero m left few other =
+    ended zero left.number left.lines (omega (arith, few)) ∙ sym (ended m left.number left.lines (omega (arith, few)))
+same_up_to (suc n) zero left few other =
+    ended (suc n) left.number left.lines (omega (arith, other)) ∙ sym (ended zero left.number left.lines (omega (arith, other)))
+same_up_to (suc n) (suc m) left few other =
+    same_by n m (length left.lines) (next_record left) (next_fewer left)
+    (λ rest less. same_up_to n m rest (omega (arith, few, less)) (omega (arith, other, less)))
+
+left_by : (n count : ℕ) (said : Taken (Option Recorded)) → count ≤ suc n → IsFewer count said
+    → history_by said (history_up_to n (left_behind said)) ≡ history_by said (history_left (left_behind said))
+left_by n count (Takes None left) few fewer = refl
+left_by n count (Takes (Some first) left) few fewer =
+    ap (with_record first) (same_up_to n (length left.lines) left (omega (arith, few, fewer)) (omega arith))
+left_by n count (Bad number column) few fewer = refl
+
+next_left : (left : Left) → history_left left ≡ history_by (next_record left) (history_left (left_behind (next_record left)))
+next_left left =
+    same_up_to (length left.lines) (suc (length left.lines)) left (omega arith) (omega arith)
+    ∙ left_by (length left.lines) (length left.lines) (next_record left) (omega arith) (next_fewer left)
+
+-- what is left begins with the note that is read
+pub begins : (left behind : Left) (result : Result (Option Record) LineFault) → Gives seen_if behind result (next_record left)
+    → BeginsWith (history_left left) (history_left behind) result
+begins left behind (Ok None) says = next_left left ∙ ap (λ t. history_by t (history_left (left_behind t))) says
+begins left behind (Ok (Some first)) says = next_left left ∙ ap (λ t. history_by t (history_left (left_behind t))) says
+begins left behind (Err (BadLine number column)) says = next_left left ∙ ap (λ t. history_by t (history_left (left_behind t))) says
+begins left behind (Err OutOfMemory) says = tt

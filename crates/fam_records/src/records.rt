@@ -44,7 +44,7 @@ fn cut(bytes: &[u8]) -> (&[u8], &[u8])
 }
 
 impl<'a> Records<'a> {
-    /// The notes of a text.
+    /// All notes of a text.
     #[tactic(auto, unfolding(crate::specs::Histories::history_of))]
     pub fn new(bytes: &'a [u8]) -> Records<'a>
         ensures left { history_left (lines_left result) ≡ history_of bytes.now }
@@ -264,6 +264,16 @@ impl<'a> Records<'a> {
         };
         let told = told_history_line(alloc, &mut words, line)?;
         self.record(alloc, line.number, told)
+    }
+
+    /// The next note: of a listing with its entries, and of a report with all of it; `None` where no note is left. `BadLine` names the
+    /// first bad line, counted from 1, and its column; where the text ends in a listing or a report, the line behind its last one.
+    pub fn next_record(&mut self, alloc: Global) -> Result<Option<Record>, LineFault>
+        requires room { HasRoom self.old }
+        ensures value { BeginsWith (history_left (lines_left self.old)) (history_left (lines_left self.new)) result }
+        ensures room { HasRoom self.new }
+    {
+        self.read(alloc)
     }
 }
 
