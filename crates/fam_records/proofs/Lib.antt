@@ -1,3 +1,5 @@
 pub mod LinesLeft
 pub mod EntriesTaken
 pub mod NextLeft
+pub mod Clean
+pub mod PrintedLines

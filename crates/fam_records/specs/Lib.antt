@@ -3,3 +3,4 @@ pub mod Taken
 pub mod Records
 pub mod Histories
 pub mod Read
+pub mod ToldRecords
