@@ -3,3 +3,4 @@ pub mod EntriesTaken
 pub mod NextLeft
 pub mod Clean
 pub mod PrintedLines
+pub mod CleanNotes
