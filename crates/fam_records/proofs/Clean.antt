@@ -56,7 +56,7 @@ number_clean (suc n) fits =
 digit_clean : (n : ℕ) → nat_le 32 (hex_digit n) ≡ true
 digit_clean n = grind (arith, nat_tests)
 
-byte_clean : (byte : ℕ) → is_clean (byte_text byte) ≡ true
+pub byte_clean : (byte : ℕ) → is_clean (byte_text byte) ≡ true
 byte_clean byte =
     more (hex_digit (byte / 16)) (hex_digit (byte % 16) ∷ []) (digit_clean (byte / 16)) (more (hex_digit (byte % 16)) [] (digit_clean (byte % 16)) refl)
 
