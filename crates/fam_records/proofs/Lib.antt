@@ -4,3 +4,4 @@ pub mod NextLeft
 pub mod Clean
 pub mod PrintedLines
 pub mod CleanNotes
+pub mod ReadRecords

@@ -142,7 +142,8 @@ left_by n count (Takes (Some first) left) few fewer =
     ap (with_record first) (same_up_to n (length left.lines) left (omega (arith, few, fewer)) (omega arith))
 left_by n count (Bad number column) few fewer = refl
 
-next_left : (left : Left) → history_left left ≡ history_by (next_record left) (history_left (left_behind (next_record left)))
+-- the next note, and the notes of the lines behind it
+pub next_left : (left : Left) → history_left left ≡ history_by (next_record left) (history_left (left_behind (next_record left)))
 next_left left =
     same_up_to (length left.lines) (suc (length left.lines)) left (omega arith) (omega arith)
     ∙ left_by (length left.lines) (length left.lines) (next_record left) (omega arith) (next_fewer left)

@@ -74,7 +74,7 @@ module _ (text : List ℕ) (is : IsPrinted text) where
       some [] = omega arith
       some (byte ∷ bytes) = omega arith
 
-  next_is : (number : ℕ) (lines : List (List ℕ)) → next_line (record { number = number; lines = text ∷ lines })
+  pub next_is : (number : ℕ) (lines : List (List ℕ)) → next_line (record { number = number; lines = text ∷ lines })
       ≡ ALine (record { number = number; end = length text + 1 }) (words_from 1 text) (record { number = number + 1; lines = lines })
   next_is number lines =
       ap (λ (l : List ℕ). cond (is_passed (words_from 1 l)) (next_line (record { number = number + 1; lines = lines }))
