@@ -5,3 +5,4 @@ pub mod Clean
 pub mod PrintedLines
 pub mod CleanNotes
 pub mod ReadRecords
+pub mod ReadLines
