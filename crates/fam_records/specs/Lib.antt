@@ -1,0 +1,6 @@
+pub mod Lines
+pub mod Taken
+pub mod Records
+pub mod Histories
+pub mod Read
+pub mod ToldRecords

@@ -1,0 +1,109 @@
+-- A note as a history tells it, of its lines: the first, and those of a listing or of a report.
+use Rattle.std.specs.Prelude.{ℕ, zero, suc, List, [], ◌∷◌, Option, Some, None}
+use Rattle.fam_base.specs.declared.entry.Entry.{Entry}
+use Rattle.fam_grammar.specs.declared.words.Line.{Line}
+use Rattle.fam_grammar.specs.Words.{Word}
+use Rattle.fam_rules.specs.declared.answers.Report.{Report}
+use Rattle.fam_history.specs.declared.answer.ToldAnswer.{ToldAnswer}
+use Rattle.fam_history.specs.declared.answer.ToldAnswer.TheVariants as given
+use Rattle.fam_history.specs.declared.note.LineNote.{LineNote}
+use Rattle.fam_history.specs.declared.note.LineNote.TheVariants as told
+use Rattle.fam_history.specs.declared.note.ToldLine.{ToldLine}
+use Rattle.fam_history.specs.ListedEntries.{listed_entry}
+use Rattle.fam_history.specs.Notes.{history_line}
+use Rattle.fam_history.specs.ReportLines.{bad_entry_line, files_line, log_state_line, overlap_line, past_line, superblock_line, units_line}
+use Rattle.fam_records.specs.declared.record.Further.{Further}
+use Rattle.fam_records.specs.declared.record.Further.TheVariants as further
+use Rattle.fam_records.specs.Lines.{ALine, Left, NextLine, NoLine, next_line}
+use Rattle.fam_records.specs.Taken.{Taken, Takes, one_line, taken_as, then_takes}
+
+-- a note: the number of its first line, what that line tells, the entries of its listing, and its report
+pub record Recorded : Type 0 where
+  pub line : ℕ
+  pub told : ToldLine
+  pub entries : List Entry
+  pub report : Option Report
+
+-- which lines follow an answer's first one
+abbrev pub further_of_answer : ToldAnswer → Further
+further_of_answer (given.Ok seq) = further.Nothing
+further_of_answer (given.NotAppended why) = further.Nothing
+further_of_answer (given.Played n) = further.Entries n
+further_of_answer (given.Mounted n) = further.Nothing
+further_of_answer (given.Same n) = further.Nothing
+further_of_answer (given.Differs n offset found wanted) = further.Nothing
+further_of_answer (given.Length n size wanted) = further.Nothing
+further_of_answer (given.Bytes n bytes) = further.Nothing
+further_of_answer (given.NotFound n) = further.Nothing
+further_of_answer (given.IsDirectory n) = further.Nothing
+further_of_answer (given.Checked n checked) = further.Nothing
+further_of_answer (given.Report sound) = further.Report
+further_of_answer (given.NoSuperblock fault) = further.Nothing
+further_of_answer (given.BadHeader fault) = further.Nothing
+further_of_answer (given.BadSlot seq why) = further.Nothing
+further_of_answer (given.MediaFault at) = further.Nothing
+
+-- which lines follow a note's first one
+abbrev pub further_of : LineNote → Further
+further_of (told.Host uuid) = further.Nothing
+further_of (told.Made params) = further.Nothing
+further_of (told.Cut k) = further.Nothing
+further_of (told.Start cmd) = further.Nothing
+further_of told.Mark = further.Nothing
+further_of (told.Found n) = further.Nothing
+further_of (told.Writes seq entry) = further.Nothing
+further_of (told.Answered answer) = further_of_answer answer
+further_of told.Stop = further.Nothing
+further_of told.Halt = further.Nothing
+further_of told.Umount = further.Nothing
+further_of (told.Refused why) = further.Nothing
+
+-- so many entries, one a line
+abbrev pub entries_of : ℕ → Left → Taken (List Entry)
+entries_of zero left = Takes [] left
+entries_of (suc n) left =
+    then_takes (one_line listed_entry left) (λ entry rest.
+    then_takes (entries_of n rest) (λ entries behind. Takes (entry ∷ entries) behind))
+
+-- the seven other lines of a report
+unfoldable pub report_of : Left → Taken Report
+report_of left =
+    then_takes (one_line superblock_line left) (λ superblock rest.
+    then_takes (one_line log_state_line rest) (λ log rest.
+    then_takes (one_line files_line rest) (λ files rest.
+    then_takes (one_line units_line rest) (λ units rest.
+    then_takes (one_line overlap_line rest) (λ overlap rest.
+    then_takes (one_line bad_entry_line rest) (λ bad rest.
+    then_takes (one_line past_line rest) (λ past behind.
+    Takes (record {
+      superblock = superblock;
+      log = log;
+      files = files.0;
+      directories = files.1;
+      used = units.0;
+      free = units.1;
+      overlap = overlap;
+      bad = bad;
+      past = past;
+    }) behind)))))))
+
+-- the lines that follow: a listing, a report, or none
+abbrev pub further_lines : Further → Left → Taken (List Entry × Option Report)
+further_lines further.Nothing left = Takes ([], None) left
+further_lines (further.Entries n) left = then_takes (entries_of n left) (λ entries behind. Takes (entries, None) behind)
+further_lines further.Report left = then_takes (report_of left) (λ report behind. Takes ([], Some report) behind)
+
+-- a note, of whose first line this is told
+abbrev pub record_of : ℕ → ToldLine → Left → Taken (Option Recorded)
+record_of number line left =
+    then_takes (further_lines (further_of line.note) left) (λ more behind.
+    Takes (Some (record { line = number; told = line; entries = more.0; report = more.1 })) behind)
+
+-- the note of a line; none where no line is left
+abbrev pub record_by : NextLine → Taken (Option Recorded)
+record_by (NoLine number) = Takes None (record { number = number; lines = [] })
+record_by (ALine line words left) = then_takes (taken_as line left (history_line line.end words)) (record_of line.number)
+
+-- the next note of the lines that are left
+unfoldable pub next_record : Left → Taken (Option Recorded)
+next_record left = record_by (next_line left)

@@ -1,0 +1,40 @@
+-- What is read of lines, one behind another.
+use Rattle.std.specs.Prelude.{ℕ, ◌≡◌, ⊤, List, Result, Ok, Err}
+use Rattle.fam_grammar.specs.declared.fault.LineFault.{LineFault}
+use Rattle.fam_grammar.specs.declared.fault.LineFault.TheVariants.{BadLine, OutOfMemory}
+use Rattle.fam_grammar.specs.declared.words.Line.{Line}
+use Rattle.fam_grammar.specs.Reading.{Reading, Reads, Misfit}
+use Rattle.fam_grammar.specs.Words.{Word}
+use Rattle.fam_records.specs.Lines.{ALine, Left, NextLine, NoLine, next_line}
+
+-- a value, and the lines behind it; or the number and column of a bad line
+pub data Taken (A : Type 0) : Type 0 where
+  Takes : (value : A) (left : Left) → Taken A
+  Bad : (number column : ℕ) → Taken A
+
+-- one thing behind another
+abbrev pub then_takes : {A B : Type 0} → Taken A → (A → Left → Taken B) → Taken B
+then_takes (Takes value left) next = next value left
+then_takes (Bad number column) next = Bad number column
+
+-- what the words of a line read as
+abbrev pub taken_as : {A : Type 0} → Line → Left → Reading A → Taken A
+taken_as line left (Reads value rest) = Takes value left
+taken_as line left (Misfit column) = Bad line.number column
+
+-- the next line as a grammar reads its words. Where none is left, the line behind the last one is bad in its first column: a
+-- listing or a report ends too early
+abbrev pub line_by : {A : Type 0} → (ℕ → List Word → Reading A) → NextLine → Taken A
+line_by grammar (NoLine number) = Bad number 1
+line_by grammar (ALine line words left) = taken_as line left (grammar line.end words)
+
+-- so of the lines that are left
+abbrev pub one_line : {A : Type 0} → (ℕ → List Word → Reading A) → Left → Taken A
+one_line grammar left = line_by grammar (next_line left)
+
+-- a call gives what is read, of which this is seen, and leaves the lines behind it; or it names the bad line. That no memory is
+-- left says nothing of the lines
+abbrev pub Gives : {A B : Type 0} → (A → B) → Left → Result A LineFault → Taken B → Type 0
+Gives view left (Ok value) said = said ≡ Takes (view value) left
+Gives view left (Err (BadLine number column)) said = said ≡ Bad number column
+Gives view left (Err OutOfMemory) said = ⊤

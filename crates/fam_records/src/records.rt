@@ -1,0 +1,299 @@
+//! The notes of a text, one behind another.
+
+ghost use Rattle.std.specs.Prelude.{◌≡◌, ◌<◌, IfOk, IfSome, length};
+ghost use Rattle.fam_tree.specs.Cuts.{back, front};
+ghost use Rattle.fam_tree.specs.Lines.{line_feed};
+ghost use Rattle.fam_grammar.specs.Cursor.{words_left, IsShort};
+ghost use Rattle.fam_history.specs.ListedEntries.{listed_entry};
+ghost use Rattle.fam_history.specs.ReportLines.{bad_entry_line, files_line, log_state_line, overlap_line, past_line, superblock_line, units_line};
+ghost use Rattle.fam_records.specs.Histories.{BeginsWith, HasRoom, history_left, history_of, lines_left, seen_if};
+ghost use Rattle.fam_records.specs.Read.{IsExpectedLine, IsNextLine};
+ghost use Rattle.fam_records.specs.Records.{entries_of, further_lines, further_of, further_of_answer, next_record, record_of, report_of};
+ghost use Rattle.fam_records.specs.Taken.{Gives, one_line};
+
+use crate::record::{Further, Record};
+use fam_base::Entry;
+use fam_format::Reason;
+use fam_grammar::{Line, LineFault, Words, words_of};
+use fam_history::{
+    LineNote, ToldAnswer, ToldLine, told_bad_entry, told_entry, told_files, told_history_line,
+    told_log, told_overlap, told_past, told_superblock, told_units,
+};
+use fam_rules::{LogState, Report, SuperState};
+use std::alloc::Global;
+
+/// What is left of a history.
+#[derive(Clone, Copy)]
+pub struct Records<'a> {
+    /// The number of the first line that is left.
+    number: u64,
+    rest: &'a [u8],
+}
+
+/// The first line of a text, and what stands behind its line feed.
+fn cut(bytes: &[u8]) -> (&[u8], &[u8])
+    ensures front { result.0.now ≡ front line_feed bytes.now }
+    ensures back { result.1.now ≡ back line_feed bytes.now }
+{
+    for (i, byte) in bytes.iter().enumerate() {
+        if *byte == b'\n' {
+            return (&bytes[..i], &bytes[i + 1..]);
+        }
+    }
+    (bytes, &[])
+}
+
+impl<'a> Records<'a> {
+    /// All notes of a text.
+    #[tactic(auto, unfolding(crate::specs::Histories::history_of))]
+    pub fn new(bytes: &'a [u8]) -> Records<'a>
+        ensures left { history_left (lines_left result) ≡ history_of bytes.now }
+        ensures room { HasRoom result }
+    {
+        Records {
+            number: 1,
+            rest: bytes,
+        }
+    }
+
+    /// The next line that is neither blank nor a comment.
+    fn next_line(&mut self) -> Option<(Words<'a>, Line)>
+        requires room { HasRoom self.old }
+        ensures value { IsNextLine (lines_left self.old) (lines_left self.new) result }
+        ensures short { IfSome result (λ found. IsShort found.0) }
+        ensures room { HasRoom self.new }
+    {
+        while !self.rest.is_empty() {
+            let number = self.number;
+            let (line, behind) = cut(self.rest);
+            *self = Records {
+                number: number + 1,
+                rest: behind,
+            };
+            if let Some(found) = words_of(line, number) {
+                return Some(found);
+            }
+        }
+        None
+    }
+
+    /// The next line, which has to be there.
+    fn expected(&mut self) -> Result<(Words<'a>, Line), LineFault>
+        requires room { HasRoom self.old }
+        ensures value { IsExpectedLine (lines_left self.old) (lines_left self.new) result }
+        ensures short { IfOk result (λ found. IsShort found.0) }
+        ensures room { HasRoom self.new }
+    {
+        match self.next_line() {
+            Some(found) => Ok(found),
+            None => Err(LineFault::BadLine {
+                line: self.number,
+                column: 1,
+            }),
+        }
+    }
+
+    /// An entry.
+    fn entry(&mut self) -> Result<Entry, LineFault>
+        requires room { HasRoom self.old }
+        ensures value { Gives (λ x. x) (lines_left self.new) result (one_line listed_entry (lines_left self.old)) }
+        ensures room { HasRoom self.new }
+    {
+        let (mut words, line) = self.expected()?;
+        told_entry(&mut words, line)
+    }
+
+    /// What a report says of the superblock.
+    fn superblock(&mut self) -> Result<SuperState, LineFault>
+        requires room { HasRoom self.old }
+        ensures value { Gives (λ x. x) (lines_left self.new) result (one_line superblock_line (lines_left self.old)) }
+        ensures room { HasRoom self.new }
+    {
+        let (mut words, line) = self.expected()?;
+        told_superblock(&mut words, line)
+    }
+
+    /// What it says of the log.
+    fn log(&mut self) -> Result<LogState, LineFault>
+        requires room { HasRoom self.old }
+        ensures value { Gives (λ x. x) (lines_left self.new) result (one_line log_state_line (lines_left self.old)) }
+        ensures room { HasRoom self.new }
+    {
+        let (mut words, line) = self.expected()?;
+        told_log(&mut words, line)
+    }
+
+    /// How many files and directories it has.
+    fn files(&mut self) -> Result<(u64, u64), LineFault>
+        requires room { HasRoom self.old }
+        ensures value { Gives (λ x. x) (lines_left self.new) result (one_line files_line (lines_left self.old)) }
+        ensures room { HasRoom self.new }
+    {
+        let (mut words, line) = self.expected()?;
+        told_files(&mut words, line)
+    }
+
+    /// How many units it has that are used, and that are free.
+    fn units(&mut self) -> Result<(u64, u64), LineFault>
+        requires room { HasRoom self.old }
+        ensures value { Gives (λ x. x) (lines_left self.new) result (one_line units_line (lines_left self.old)) }
+        ensures room { HasRoom self.new }
+    {
+        let (mut words, line) = self.expected()?;
+        told_units(&mut words, line)
+    }
+
+    /// The numbers of two entries that overlap, if any do.
+    fn overlap(&mut self) -> Result<Option<(u64, u64)>, LineFault>
+        requires room { HasRoom self.old }
+        ensures value { Gives (λ x. x) (lines_left self.new) result (one_line overlap_line (lines_left self.old)) }
+        ensures room { HasRoom self.new }
+    {
+        let (mut words, line) = self.expected()?;
+        told_overlap(&mut words, line)
+    }
+
+    /// The number of the first bad entry, and why it is bad, if one is.
+    fn bad_entry(&mut self) -> Result<Option<(u64, Reason)>, LineFault>
+        requires room { HasRoom self.old }
+        ensures value { Gives (λ x. x) (lines_left self.new) result (one_line bad_entry_line (lines_left self.old)) }
+        ensures room { HasRoom self.new }
+    {
+        let (mut words, line) = self.expected()?;
+        told_bad_entry(&mut words, line)
+    }
+
+    /// How many slots past the gate hold entries.
+    fn past(&mut self) -> Result<u64, LineFault>
+        requires room { HasRoom self.old }
+        ensures value { Gives (λ x. x) (lines_left self.new) result (one_line past_line (lines_left self.old)) }
+        ensures room { HasRoom self.new }
+    {
+        let (mut words, line) = self.expected()?;
+        told_past(&mut words, line)
+    }
+
+    /// The seven other lines of a report.
+    #[tactic(auto, unfolding(crate::specs::Records::report_of))]
+    fn report(&mut self) -> Result<Report, LineFault>
+        requires room { HasRoom self.old }
+        ensures value { Gives (λ x. x) (lines_left self.new) result (report_of (lines_left self.old)) }
+        ensures room { HasRoom self.new }
+    {
+        let superblock = self.superblock()?;
+        let log = self.log()?;
+        let (files, directories) = self.files()?;
+        let (used, free) = self.units()?;
+        let overlap = self.overlap()?;
+        let bad = self.bad_entry()?;
+        let past = self.past()?;
+        Ok(Report {
+            superblock,
+            log,
+            files,
+            directories,
+            used,
+            free,
+            overlap,
+            bad,
+            past,
+        })
+    }
+
+    /// So many entries, one a line. None is taken ahead: a count may be larger than the text.
+    fn entries(&mut self, alloc: Global, count: u64) -> Result<Vec<Entry>, LineFault>
+        requires room { HasRoom self.old }
+        ensures value { Gives (λ entries. entries.items) (lines_left self.new) result (entries_of count (lines_left self.old)) }
+        ensures room { HasRoom self.new }
+    {
+        let mut entries = Vec::new(alloc);
+        let mut left = count;
+        while left > 0 {
+            let entry = self.entry()?;
+            if entries.push(entry).is_err() {
+                return Err(LineFault::OutOfMemory);
+            }
+            left -= 1;
+        }
+        Ok(entries)
+    }
+
+    /// The lines that follow a note's first one.
+    fn further(&mut self, alloc: Global, further: Further) -> Result<(Vec<Entry>, Option<Report>), LineFault>
+        requires room { HasRoom self.old }
+        ensures value { Gives (λ p. (p.0.items, p.1)) (lines_left self.new) result (further_lines further (lines_left self.old)) }
+        ensures room { HasRoom self.new }
+    {
+        match further {
+            Further::Nothing => Ok((Vec::new(alloc), None)),
+            Further::Entries(count) => {
+                let entries = self.entries(alloc, count)?;
+                Ok((entries, None))
+            }
+            Further::Report => {
+                let report = self.report()?;
+                Ok((Vec::new(alloc), Some(report)))
+            }
+        }
+    }
+
+    /// The note of whose first line this is told.
+    fn record(&mut self, alloc: Global, number: u64, told: ToldLine) -> Result<Option<Record>, LineFault>
+        requires room { HasRoom self.old }
+        ensures value { Gives seen_if (lines_left self.new) result (record_of number told (lines_left self.old)) }
+        ensures room { HasRoom self.new }
+    {
+        let (entries, report) = self.further(alloc, further_of(&told.note))?;
+        Ok(Some(Record {
+            line: number,
+            told,
+            entries,
+            report,
+        }))
+    }
+
+    /// The next note, from its lines.
+    #[tactic(auto, unfolding(crate::specs::Records::next_record))]
+    fn read(&mut self, alloc: Global) -> Result<Option<Record>, LineFault>
+        requires room { HasRoom self.old }
+        ensures value { Gives seen_if (lines_left self.new) result (next_record (lines_left self.old)) }
+        ensures room { HasRoom self.new }
+    {
+        let Some((mut words, line)) = self.next_line() else {
+            return Ok(None);
+        };
+        let told = told_history_line(alloc, &mut words, line)?;
+        self.record(alloc, line.number, told)
+    }
+
+    /// The next note: of a listing with its entries, and of a report with all of it; `None` where no note is left. `BadLine` names the
+    /// first bad line, counted from 1, and its column; where the text ends in a listing or a report, the line behind its last one.
+    pub fn next_record(&mut self, alloc: Global) -> Result<Option<Record>, LineFault>
+        requires room { HasRoom self.old }
+        ensures value { BeginsWith (history_left (lines_left self.old)) (history_left (lines_left self.new)) result }
+        ensures room { HasRoom self.new }
+    {
+        self.read(alloc)
+    }
+}
+
+/// The lines that follow an answer's first one.
+fn further_of_answer(answer: &ToldAnswer) -> Further
+    ensures { result ≡ further_of_answer answer.now }
+{
+    match answer {
+        ToldAnswer::Played(entries) => Further::Entries(*entries),
+        ToldAnswer::Report(_) => Further::Report,
+        _ => Further::Nothing,
+    }
+}
+
+/// The lines that follow a note's first one.
+fn further_of(note: &LineNote) -> Further
+    ensures { result ≡ further_of note.now }
+{
+    match note {
+        LineNote::Answered(answer) => further_of_answer(answer),
+        _ => Further::Nothing,
+    }
+}
