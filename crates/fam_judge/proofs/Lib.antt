@@ -49,6 +49,7 @@ pub mod OverPlain
 pub mod OverLines
 pub mod OverHidden
 pub mod OverLate
+pub mod StayingFits
 pub mod Goodness
 pub mod Completing
 pub mod Choices
