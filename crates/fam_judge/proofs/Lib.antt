@@ -52,6 +52,7 @@ pub mod OverLate
 pub mod StayingFits
 pub mod Goodness
 pub mod Completing
+pub mod Staying
 pub mod Choices
 pub mod Finding
 pub mod Least
