@@ -11,7 +11,7 @@ use Rattle.fam_journal.specs.Legal.{FoundAllowed, WritesAllowed}
 use Rattle.fam_journal.specs.Members.{changed_at}
 use Rattle.fam_journal.specs.Notes.{Answer, Note, Host, Made, Cut, Start, Mark, Found, Writes, Answered, Stop, Halt, Umount, Refused}
 use Rattle.fam_journal.specs.Past.{HostPast, Sound, State, cmd_of, ended_state, finds, pends, settled_length, shows_count}
-use Rattle.fam_journal.specs.Shapes.{CommandStage, HostShape, Marked, Met, Named, OfRunning, Pairs, TaskNote, TaskShape, with_stage}
+use Rattle.fam_journal.specs.Shapes.{Begun, CommandStage, HostShape, Marked, Met, Named, OfRunning, Pairs, TaskNote, TaskShape, with_stage}
 use Rattle.fam_journal.proofs.Calls.Members.{changed_here, changed_other}
 use Rattle.fam_judge.specs.Fitting.{AnswerFits, Fits}
 use Rattle.fam_judge.specs.Formed.{AnswerPlace, HasPlace}
@@ -34,6 +34,43 @@ use Rattle.fam_judge.proofs.Sizes.{ended_is}
 use Rattle.fam_judge.proofs.Standing.Alike.{stands_seen}
 use Rattle.fam_judge.proofs.States.{counts_none, finds_none}
 use Rattle.fam_judge.proofs.StayingFits.{Behind, answer_first, behind, found_first, settled_is, settles_none}
+
+-- Floors.
+
+-- a floor of the second state that is raised
+abbrev raised : ℕ → Progress → Progress
+raised high q = record q { told = record q.told { floor = Some high } }
+
+module _ (s : State) (low high : ℕ) (up : low ≤ high) where
+  under_raised : (a b : Option ℕ) → b ≡ Some low → FloorUnder a b → FloorUnder a (Some high)
+  under_raised a b is under =
+      let less : under.0 ≤ under.1 = under.4 in
+      let one : under.1 ≡ low = same_Some under.1 low (sym under.3 ∙ is) in (under.0, high, under.2, refl, omega (arith, less, one, up))
+
+  stages_raised : (a b : CommandStage) (p q r : HostPast) → q.floor ≡ Some low → r.floor ≡ Some high → r.wrote ≡ q.wrote → StagesOver s a b p q → StagesOver s a b p r
+  stages_raised Begun Marked p q r is next wrote over = subst (FloorUnder p.floor) (sym next) (under_raised p.floor q.floor is over)
+  stages_raised Marked Marked p q r is next wrote over = subst (FloorUnder p.floor) (sym next) (under_raised p.floor q.floor is over)
+  stages_raised (Named k) (Named seq) p q r is next wrote over = (over.0, over.1 ∙ sym wrote)
+  stages_raised (Met m) (Met n) p q r is next wrote over = over
+  stages_raised a b p q r is next wrote over = over
+
+  tasks_raised : (a b : Option TaskShape) (p q : HostPast) → q.floor ≡ Some low → TasksOver s a b p q → TasksOver s a b p (record q { floor = Some high })
+  tasks_raised None None p q is over = tt
+  tasks_raised None (Some b) p q is over = absurd over
+  tasks_raised (Some a) None p q is over = absurd over
+  tasks_raised (Some a) (Some b) p q is over = (over.0, stages_raised a.stage b.stage p q (record q { floor = Some high }) is refl refl over.1)
+
+  -- a higher floor allows no more
+  host_raised : (p q : Progress) → q.told.floor ≡ Some low → HostOver s p q → HostOver s p (raised high q)
+  host_raised p q is over = record {
+    name = over.name;
+    uuid = over.uuid;
+    keeps = over.keeps;
+    own = over.own;
+    told_uuid = over.told_uuid;
+    told_cmd = over.told_cmd;
+    task = tasks_raised p.shape.task q.shape.task p.told q.told is over.task;
+  }
 
 -- What stays.
 
@@ -174,6 +211,37 @@ module _ (start : Image) (x c : Possible) (l : Late start x c) where
         let n = seen (Refused name cause) refl may tt in
         stays_at (Refused name cause) n.next n.leads (after start l.pre (Refused name cause)) n.over refl (runs_pre start x c l).is l.hosts l.state
 
+    -- a mark's floor is higher behind the entry than before it, where the entry is settled
+    marked_line : (j : ℕ) → j ≢ l.host → MayStand (length start) (shapes_in c) (Mark j) → Stays start x c l (Mark j)
+    marked_line j ne may =
+        let n = follows (Mark j) (other_runs start x c l j ne (λ me t. TaskNote j me t (Mark j)) may) tt in
+        let low = settled_length l.pre.state in
+        let high = settled_length c.state in
+        let g : Progress → Progress = λ p. record { told = record p.told { floor = Some high }; shape = with_stage Marked p.shape } in
+        let pre : Possible = record { state = l.pre.state; hosts = changed_at j (raised high) (after start l.pre (Mark j)).hosts } in
+        let is : pre.hosts ≡ changed_at j g l.pre.hosts = changed_twice j _ (raised high) l.pre.hosts in
+        stays_at (Mark j) n.next n.leads pre
+        (record {
+          state = n.over.state;
+          hosts = one_side n.next (after start l.pre (Mark j)) n.over j (raised high)
+              (λ p q at over. host_raised n.next.state low high higher p q (floor_is q (slice_get l.pre.hosts j) (sym (changed_here j _ l.pre.hosts) ∙ at)) over);
+        })
+        refl
+        (ap (λ (hosts : List Progress). slice_get hosts l.host) is ∙ changed_other j l.host g l.pre.hosts (λ e. ne (sym e)) ∙ (runs_pre start x c l).is)
+        (ap (changed_at j g) l.hosts ∙ changed_apart j l.host g (naming start x c l) l.pre.hosts ne ∙ ap (changed_at l.host (naming start x c l)) (sym is)) l.state
+      where
+        floor_is : (q : Progress) (o : Option Progress)
+            → option_map (λ (p : Progress). let m : Progress = record { told = record p.told { floor = Some (settled_length l.pre.state) }; shape = with_stage Marked p.shape } in m) o ≡ Some q
+            → q.told.floor ≡ Some (settled_length l.pre.state)
+        floor_is q None e = absurd cc
+        floor_is q (Some p) e = sym (ap (λ (z : Progress). z.told.floor) (same_Some _ q e))
+
+        higher : settled_length l.pre.state ≤ settled_length c.state
+        higher =
+            let a : settled_length l.pre.state ≡ length history = ap settled_length before in
+            let b : settled_length named_state ≡ length history = ap (λ (s : State). settled_length (pends file s)) before in
+            let d = over_settled named_state c.state l.state in omega (arith, a, b, d)
+
     found_line : (j n : ℕ) → j ≢ l.host → n ≢ l.seq + 1 → MayStand (length start) (shapes_in c) (Found j n) → FoundAllowed n c.state → Stays start x c l (Found j n)
     found_line j n ne other may found =
         let is = found_first (says start x c l).params history file c.state came n (λ e. other (e ∙ sym count_is)) found in
@@ -209,7 +277,7 @@ module _ (start : Image) (x c : Possible) (l : Late start x c) where
     late_stays (Made h p) where_ may fits = absurd (idle_not may.0)
     late_stays (Cut h k) where_ may fits = absurd (idle_not may.0.1)
     late_stays (Start j cmd) ne may fits = moves (Start j cmd) j _ ne refl refl refl l.state (seen (Start j cmd) refl may tt)
-    late_stays (Mark j) ne may fits = ?
+    late_stays (Mark j) ne may fits = marked_line j ne may
     late_stays (Found j n) other may fits = found_line j n other.0 other.1 may fits
     late_stays (Writes j seq e) where_ may fits = absurd (late_writes start x c l apart j seq e may fits (cases_eq j l.host))
     late_stays (Answered j answer) other may fits = answered_line j answer other.0 other.1 may fits
