@@ -49,8 +49,10 @@ pub mod OverPlain
 pub mod OverLines
 pub mod OverHidden
 pub mod OverLate
+pub mod StayingFits
 pub mod Goodness
 pub mod Completing
+pub mod Staying
 pub mod Choices
 pub mod Finding
 pub mod Least

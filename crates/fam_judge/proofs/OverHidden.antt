@@ -28,7 +28,7 @@ task_of c h P q t may is runs =
 
 module _ (x c : Possible) (d : Direct x c) (h : ℕ) where
   -- the second state changes alone
-  one_side : (k : Progress → Progress) → ((p q : Progress) → slice_get c.hosts h ≡ Some q → HostOver x.state p q → HostOver x.state p (k q)) → Pairs (HostOver x.state) x.hosts (changed_at h k c.hosts)
+  pub one_side : (k : Progress → Progress) → ((p q : Progress) → slice_get c.hosts h ≡ Some q → HostOver x.state p q → HostOver x.state p (k q)) → Pairs (HostOver x.state) x.hosts (changed_at h k c.hosts)
   one_side k mine =
       subst (λ (xs : List Progress). Pairs (HostOver x.state) xs (changed_at h k c.hosts)) (changed_same h (λ p. p) x.hosts (λ p is. refl))
       (once_pairs x c d h x.state (λ p. p) k (no_later x.state) (λ p q is other over. mine p q other over))

@@ -44,19 +44,24 @@ named_begun : (m : ℕ) → Named m ≡ Begun → ⊥
 named_begun m e = cc
 
 module _ (start : Image) (x c : Possible) (l : Late start x c) where
-  abbrev naming : Progress → Progress
+  -- what becomes of it
+  abbrev pub naming : Progress → Progress
   naming p = record { told = record p.told { wrote = Some (record { seq = l.seq; entry = l.entry }) }; shape = with_stage (Named l.seq) p.shape }
 
-  runs_pre : Running l.pre l.host (λ me t. TaskNote l.host me t (Writes l.host l.seq l.entry))
+  -- its command before
+  pub runs_pre : Running l.pre l.host (λ me t. TaskNote l.host me t (Writes l.host l.seq l.entry))
   runs_pre = running_at l.pre l.host _ l.may
 
-  there : slice_get c.hosts l.host ≡ Some (naming runs_pre.host)
+  -- where it stands behind that
+  pub there : slice_get c.hosts l.host ≡ Some (naming runs_pre.host)
   there = ap (λ (xs : List Progress). slice_get xs l.host) l.hosts ∙ changed_is l.host naming l.pre.hosts runs_pre.host runs_pre.is
 
-  task_there : (naming runs_pre.host).shape.task ≡ Some (record runs_pre.task { stage = Named l.seq })
+  -- its command behind that
+  pub task_there : (naming runs_pre.host).shape.task ≡ Some (record runs_pre.task { stage = Named l.seq })
   task_there = ap (option_map (λ (t : TaskShape). record t { stage = Named l.seq })) runs_pre.runs
 
-  says : WriteSays l.seq l.entry runs_pre.host.told l.pre.state
+  -- what the entry tells of the state before
+  pub says : WriteSays l.seq l.entry runs_pre.host.told l.pre.state
   says = write_says l.seq l.entry runs_pre.host.told l.pre.state (told_at start l.pre l.host (λ host. WritesAllowed l.seq l.entry host l.pre.state) runs_pre.host runs_pre.is l.fits)
 
   -- it has no other stage
@@ -66,7 +71,8 @@ module _ (start : Image) (x c : Possible) (l : Late start x c) where
   -- Another host.
 
   module _ (j : ℕ) (ne : j ≢ l.host) where
-    at_other : slice_get c.hosts j ≡ slice_get l.pre.hosts j
+    -- it is as it was
+    pub at_other : slice_get c.hosts j ≡ slice_get l.pre.hosts j
     at_other = ap (λ (xs : List Progress). slice_get xs j) l.hosts ∙ changed_other l.host j naming l.pre.hosts ne
 
     -- what may stand behind the second state may stand before the entry was named
@@ -102,7 +108,8 @@ module _ (start : Image) (x c : Possible) (l : Late start x c) where
       state = subst (λ (s : State). StateOver s d.state) (pends_same f) over;
     }
 
-    own_at : (i : ℕ) (q : Progress) → slice_get l.pre.hosts i ≡ Some q → q.told.uuid ≡ q.shape.uuid
+    -- a host's UUID, by what is known of it
+    pub own_at : (i : ℕ) (q : Progress) → slice_get l.pre.hosts i ≡ Some q → q.told.uuid ≡ q.shape.uuid
     own_at i q is = let p = paired (HostOver x.state) x.hosts l.pre.hosts i q l.direct.hosts is in sym p.2.told_uuid ∙ p.2.own ∙ p.2.uuid
 
     -- it isn't the master, so it names no entry
@@ -152,7 +159,8 @@ module _ (start : Image) (x c : Possible) where
       (record { state = l.direct.state; hosts = hidden_found x l.pre l.direct j n (other_runs start x c l j ne (λ me t. TaskNote j me t (Found j n)) may) })
       refl (over_hidden n _ c.state l.state found)
 
-  late_writes : (l : Late start x c) → IsApart c → (j seq : ℕ) (e : Entry) → OfRunning (slice_get (shapes_in c) j) (λ me t. TaskNote j me t (Writes j seq e)) → Fits (past_in start c) (Writes j seq e)
+  -- no entry is named behind it
+  pub late_writes : (l : Late start x c) → IsApart c → (j seq : ℕ) (e : Entry) → OfRunning (slice_get (shapes_in c) j) (λ me t. TaskNote j me t (Writes j seq e)) → Fits (past_in start c) (Writes j seq e)
       → (j ≡ l.host) ⊎ (j ≢ l.host) → ⊥
   late_writes l apart j seq e may fits (inl same) =
       named_met l.seq seq (stage_is start x c l (λ s. s ≡ Met seq) (subst (λ (k : ℕ). OfRunning (slice_get (shapes_in c) k) (λ me t. t.stage ≡ Met seq)) same (met_it c j may)))

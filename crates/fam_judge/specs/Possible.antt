@@ -1,15 +1,16 @@
 -- Which states hosts may be in behind the lines of a history, whatever notes it leaves out. A mark that is left out stands best right
 -- behind its command's start, where the least is settled; what a command that appends found and writes stands best where a later line
 -- tells of it.
-use Rattle.std.specs.Prelude.{ℕ, ⊤, ◌≡◌, ◌⊎◌, false, List, [], ◌∷◌, ◌++◌, map, length, slice_get, Option, Some, None}
+use Rattle.std.specs.Prelude.{ℕ, ⊤, ◌≡◌, ◌≢◌, ◌⊎◌, ◌+◌, false, List, [], ◌∷◌, ◌++◌, map, length, slice_get, Option, Some, None}
 use Rattle.fam_base.specs.declared.cmd.Cmd.{Cmd}
 use Rattle.fam_base.specs.declared.entry.Entry.{Entry}
 use Rattle.fam_base.specs.Image.{Image}
 use Rattle.fam_commands.specs.Appends.{HasWish}
+use Rattle.fam_commands.specs.ReplyClasses.{Appending, Declining, Faulty, ReplyClass, Reporting, Showing, reply_class}
 use Rattle.fam_journal.specs.Legal.{FoundAllowed, OfHost, WritesAllowed}
 use Rattle.fam_journal.specs.Members.{changed_at}
 use Rattle.fam_journal.specs.Notes.{Answer, Replied, MediaFault, Note, Host, Made, Cut, Start, Mark, Found, Writes, Answered, Stop, Halt, Umount, Refused}
-use Rattle.fam_journal.specs.Past.{HostPast, Past, State, Bad, Sound, first_state, new_host, settled_length, state_after}
+use Rattle.fam_journal.specs.Past.{HostPast, Past, State, Bad, Sound, first_state, new_host, reported_count, settled_length, state_after}
 use Rattle.fam_journal.specs.Shapes.{Begun, CommandStage, HostShape, IsHead, Marked, Met, Named, OfRunning, TaskNote, TaskShape, keeps_behind, with_stage}
 use Rattle.fam_judge.specs.Fitting.{Fits}
 use Rattle.fam_judge.specs.Standing.{MayStand}
@@ -185,3 +186,33 @@ LeadsTo start x (line ∷ lines) y = (mid : Possible) × Leads start x line mid 
 -- a state in which hosts may be behind these lines
 abbrev pub IsPossible : Image → List Note → Possible → Type 0
 IsPossible start lines x = LeadsTo start (first_possible start) lines x
+
+-- Lines behind an entry that was named.
+
+-- up to how many entries a reply settles, by its class: one that appended settles its own
+abbrev pub settled_in : ReplyClass → Option ℕ
+settled_in (Appending seq) = Some (seq + 1)
+settled_in (Declining why) = None
+settled_in (Showing m) = Some m
+settled_in (Reporting report) = reported_count report.log
+settled_in Faulty = None
+
+-- so of an answer
+abbrev pub settled_by : Answer → Option ℕ
+settled_by (Replied given) = settled_in (reply_class given)
+settled_by (MediaFault line) = None
+
+-- a line that tells nothing of entry seq, which host k has named: where it ends k's command, or shows or counts the entry, it tells of it
+abbrev pub Elsewhere : ℕ → ℕ → Note → Type 0
+Elsewhere k seq (Host name uuid) = ⊤
+Elsewhere k seq (Made h p) = ⊤
+Elsewhere k seq (Cut h n) = ⊤
+Elsewhere k seq (Start h cmd) = h ≢ k
+Elsewhere k seq (Mark h) = h ≢ k
+Elsewhere k seq (Found h n) = (h ≢ k) × (n ≢ seq + 1)
+Elsewhere k seq (Writes h n e) = ⊤
+Elsewhere k seq (Answered h answer) = (h ≢ k) × (settled_by answer ≢ Some (seq + 1))
+Elsewhere k seq (Stop h) = h ≢ k
+Elsewhere k seq (Halt h) = h ≢ k
+Elsewhere k seq (Umount h) = ⊤
+Elsewhere k seq (Refused name cause) = ⊤
