@@ -1,0 +1,12 @@
+//! The states in which hosts may be behind the lines of a history.
+//!
+//! `specs/Candidates.antt` says which state of fam_judge (`Possible`) a candidate is.
+#![tactic(auto)]
+
+mod candidate;
+mod given;
+mod hosts;
+
+pub use candidate::{Candidate, Settled, Stage, Track, Wrote};
+pub use given::{Damage, GivenImage};
+pub use hosts::Hosts;
