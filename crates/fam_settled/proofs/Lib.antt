@@ -1,3 +1,4 @@
 pub mod Files
 pub mod Choices
 pub mod Fills
+pub mod Sources

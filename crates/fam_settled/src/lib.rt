@@ -10,6 +10,7 @@ mod bytes;
 mod contents;
 mod log;
 mod told;
+mod verified;
 
 pub use bytes::{Bytes, Filed};
 pub use log::Log;
