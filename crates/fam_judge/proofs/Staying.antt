@@ -1,21 +1,21 @@
 -- A line that tells nothing of an entry that was named follows a state that hasn't named it yet: it needn't name it there.
-use Rattle.std.proofs.Common.{◌≡◌, ◌≢◌, ◌⊎◌, ◌+◌, ◌≤◌, ◌<◌, inl, inr, ℕ, Bool, true, false, List, [], ◌∷◌, ◌++◌, length, map, Option, Some, None, refl, ap, sym, ◌∙◌, subst, arith}
-use Rattle.std.specs.Prelude.{⊤, is_some, option_map, slice_get}
+use Rattle.std.proofs.Common.{◌≡◌, ◌≢◌, ◌⊎◌, ◌+◌, ◌≤◌, inl, inr, ℕ, Bool, true, false, List, [], ◌∷◌, ◌++◌, length, map, Option, Some, None, refl, ap, sym, ◌∙◌, subst, arith}
+use Rattle.std.specs.Prelude.{is_some, option_map, slice_get}
 use Rattle.std.proofs.lemmas.Bool.{cases_eq}
 use Rattle.std.proofs.lemmas.Option.{same_Some, slice_get-map, slice_get_within}
-use Rattle.fam_base.specs.declared.entry.Entry.{Entry}
+use Rattle.fam_base.specs.declared.cmd.Cmd.{Cmd}
 use Rattle.fam_base.specs.Image.{Image}
-use Rattle.fam_commands.specs.Appends.{HasWish}
 use Rattle.fam_rules.specs.Asks.{File}
+use Rattle.fam_journal.specs.declared.refusal.Refusal.{Refusal}
 use Rattle.fam_journal.specs.Legal.{FoundAllowed, WritesAllowed}
 use Rattle.fam_journal.specs.Members.{changed_at}
 use Rattle.fam_journal.specs.Notes.{Answer, Note, Host, Made, Cut, Start, Mark, Found, Writes, Answered, Stop, Halt, Umount, Refused}
 use Rattle.fam_journal.specs.Past.{HostPast, Sound, State, cmd_of, ended_state, finds, pends, settled_length, shows_count}
-use Rattle.fam_journal.specs.Shapes.{Begun, CommandStage, HostShape, Marked, Met, Named, OfRunning, Pairs, TaskNote, TaskShape, with_stage}
+use Rattle.fam_journal.specs.Shapes.{Begun, CommandStage, HostShape, Marked, Met, Named, TaskNote, TaskShape, with_stage}
 use Rattle.fam_journal.proofs.Calls.Members.{changed_here, changed_other}
 use Rattle.fam_judge.specs.Fitting.{AnswerFits, Fits}
-use Rattle.fam_judge.specs.Formed.{AnswerPlace, HasPlace}
-use Rattle.fam_judge.specs.Possible.{Elsewhere, Possible, Progress, Steps, after, new_progress, past_in, progress_after, settled_by, shapes_in}
+use Rattle.fam_judge.specs.Formed.{AnswerPlace}
+use Rattle.fam_judge.specs.Possible.{Elsewhere, Possible, Progress, Steps, after, new_progress, past_in, settled_by, shapes_in}
 use Rattle.fam_judge.specs.Standing.{Face, MayStand, OfFace, engaged_in, face, faces, is_own}
 use Rattle.fam_judge.proofs.Completing.{over_apart}
 use Rattle.fam_judge.proofs.Folding.{shape_in}
@@ -29,7 +29,7 @@ use Rattle.fam_judge.proofs.OverLines.{MetWish, line_follows}
 use Rattle.fam_judge.proofs.OverOwn.{FollowsIn}
 use Rattle.fam_judge.proofs.OverPlain.{all_idle}
 use Rattle.fam_judge.proofs.OverWrites.{cmd_at, named_file}
-use Rattle.fam_judge.proofs.Places.{Running, changed_is, changed_twice, of_told, running_at, runs_at, told_at}
+use Rattle.fam_judge.proofs.Places.{Running, changed_twice, of_told, running_at, runs_at, told_at}
 use Rattle.fam_judge.proofs.Sizes.{ended_is}
 use Rattle.fam_judge.proofs.Standing.Alike.{stands_seen}
 use Rattle.fam_judge.proofs.States.{counts_none, finds_none}
@@ -47,7 +47,8 @@ module _ (s : State) (low high : ℕ) (up : low ≤ high) where
       let less : under.0 ≤ under.1 = under.4 in
       let one : under.1 ≡ low = same_Some under.1 low (sym under.3 ∙ is) in (under.0, high, under.2, refl, omega (arith, less, one, up))
 
-  stages_raised : (a b : CommandStage) (p q r : HostPast) → q.floor ≡ Some low → r.floor ≡ Some high → r.wrote ≡ q.wrote → StagesOver s a b p q → StagesOver s a b p r
+  stages_raised : (a b : CommandStage) (p q r : HostPast) → q.floor ≡ Some low → r.floor ≡ Some high → r.wrote ≡ q.wrote
+      → StagesOver s a b p q → StagesOver s a b p r
   stages_raised Begun Marked p q r is next wrote over = subst (FloorUnder p.floor) (sym next) (under_raised p.floor q.floor is over)
   stages_raised Marked Marked p q r is next wrote over = subst (FloorUnder p.floor) (sym next) (under_raised p.floor q.floor is over)
   stages_raised (Named k) (Named seq) p q r is next wrote over = (over.0, over.1 ∙ sym wrote)
@@ -89,7 +90,8 @@ module _ (start : Image) (x c : Possible) (l : Late start x c) where
   named_state = (after start l.pre (Writes l.host l.seq l.entry)).state
 
   -- its host stands where it stood, and may name it still
-  stays_at : (y : Note) (next : Possible) → Steps start x y next → (pre : Possible) → Direct next pre → pre.state ≡ l.pre.state → slice_get pre.hosts l.host ≡ Some (runs_pre start x c l).host
+  stays_at : (y : Note) (next : Possible) → Steps start x y next → (pre : Possible) → Direct next pre → pre.state ≡ l.pre.state
+      → slice_get pre.hosts l.host ≡ Some (runs_pre start x c l).host
       → (after start c y).hosts ≡ changed_at l.host (naming start x c l) pre.hosts → StateOver named_state (after start c y).state → Stays start x c l y
   stays_at y next leads pre first state is hosts over = record {
     next = next;
@@ -117,7 +119,7 @@ module _ (start : Image) (x c : Possible) (l : Late start x c) where
 
       pends_same : named_state ≡ (after start pre (Writes l.host l.seq l.entry)).state
       pends_same =
-          ap (λ (cmd : Option Rattle.fam_base.specs.declared.cmd.Cmd.Cmd). pends (named_file cmd l.entry) l.pre.state) (cmd_at start l.pre l.host r.host r.is ∙ sym (cmd_at start pre l.host r.host is))
+          ap (λ (cmd : Option Cmd). pends (named_file cmd l.entry) l.pre.state) (cmd_at start l.pre l.host r.host r.is ∙ sym (cmd_at start pre l.host r.host is))
           ∙ ap (pends (named_file (cmd_of (slice_get (past_in start pre).hosts l.host)) l.entry)) (sym state)
 
   -- What is before the entry.
@@ -175,8 +177,8 @@ module _ (start : Image) (x c : Possible) (l : Late start x c) where
     wish_pre : MetWish l.pre
     wish_pre h p t n is runs met = elim (cases_eq h l.host) [
       | inl e ↦
-          let shape = (task_of l.pre l.host (λ me t. TaskNote l.host me t (Writes l.host l.seq l.entry)) p t l.may (subst (λ (k : ℕ). slice_get l.pre.hosts k ≡ Some p) e is) runs).1 in
-          (shape.0, shape.1)
+          let here : slice_get l.pre.hosts l.host ≡ Some p = subst (λ (k : ℕ). slice_get l.pre.hosts k ≡ Some p) e is in
+          let shape = (task_of l.pre l.host (λ me t. TaskNote l.host me t (Writes l.host l.seq l.entry)) p t l.may here runs).1 in (shape.0, shape.1)
       | inr ne ↦ wishes h p (at_other start x c l h ne ∙ is) t n runs met
     ]
 
@@ -188,12 +190,14 @@ module _ (start : Image) (x c : Possible) (l : Late start x c) where
     seen y own may fits = follows y (stands_seen (length start) (shapes_in c) (shapes_in l.pre) y faces_pre own may) fits
 
     -- another host changes
-    moves : (y : Note) (j : ℕ) (f : Progress → Progress) → j ≢ l.host → (after start l.pre y).hosts ≡ changed_at j f l.pre.hosts → (after start c y).hosts ≡ changed_at j f c.hosts
-        → (after start l.pre y).state ≡ l.pre.state → StateOver named_state (after start c y).state → FollowsIn start x l.pre y → Stays start x c l y
+    moves : (y : Note) (j : ℕ) (f : Progress → Progress) → j ≢ l.host → (after start l.pre y).hosts ≡ changed_at j f l.pre.hosts
+        → (after start c y).hosts ≡ changed_at j f c.hosts → (after start l.pre y).state ≡ l.pre.state
+        → StateOver named_state (after start c y).state → FollowsIn start x l.pre y → Stays start x c l y
     moves y j f ne first second state over n =
         stays_at y n.next n.leads (after start l.pre y) n.over state
         (ap (λ (hosts : List Progress). slice_get hosts l.host) first ∙ changed_other j l.host f l.pre.hosts (λ e. ne (sym e)) ∙ (runs_pre start x c l).is)
-        (second ∙ ap (changed_at j f) l.hosts ∙ changed_apart j l.host f (naming start x c l) l.pre.hosts ne ∙ ap (changed_at l.host (naming start x c l)) (sym first)) over
+        (second ∙ ap (changed_at j f) l.hosts ∙ changed_apart j l.host f (naming start x c l) l.pre.hosts ne
+        ∙ ap (changed_at l.host (naming start x c l)) (sym first)) over
 
     -- Lines.
 
@@ -206,7 +210,7 @@ module _ (start : Image) (x c : Possible) (l : Late start x c) where
         (front_member l.host l.pre.hosts new within ∙ (runs_pre start x c l).is)
         (ap (λ (hosts : List Progress). hosts ++ new ∷ []) l.hosts ∙ sym (changed_append l.host (naming start x c l) l.pre.hosts new within)) l.state
 
-    refused : (name : List ℕ) (cause : Rattle.fam_journal.specs.declared.refusal.Refusal.Refusal) → MayStand (length start) (shapes_in c) (Refused name cause) → Stays start x c l (Refused name cause)
+    refused : (name : List ℕ) (cause : Refusal) → MayStand (length start) (shapes_in c) (Refused name cause) → Stays start x c l (Refused name cause)
     refused name cause may =
         let n = seen (Refused name cause) refl may tt in
         stays_at (Refused name cause) n.next n.leads (after start l.pre (Refused name cause)) n.over refl (runs_pre start x c l).is l.hosts l.state
@@ -224,17 +228,20 @@ module _ (start : Image) (x c : Possible) (l : Late start x c) where
         (record {
           state = n.over.state;
           hosts = one_side n.next (after start l.pre (Mark j)) n.over j (raised high)
-              (λ p q at over. host_raised n.next.state low high higher p q (floor_is q (slice_get l.pre.hosts j) (sym (changed_here j _ l.pre.hosts) ∙ at)) over);
+              (λ p q at over. let was = floor_is q (slice_get l.pre.hosts j) (sym (changed_here j _ l.pre.hosts) ∙ at) in
+              host_raised n.next.state low high higher p q was over);
         })
         refl
         (ap (λ (hosts : List Progress). slice_get hosts l.host) is ∙ changed_other j l.host g l.pre.hosts (λ e. ne (sym e)) ∙ (runs_pre start x c l).is)
-        (ap (changed_at j g) l.hosts ∙ changed_apart j l.host g (naming start x c l) l.pre.hosts ne ∙ ap (changed_at l.host (naming start x c l)) (sym is)) l.state
+        (ap (changed_at j g) l.hosts ∙ changed_apart j l.host g (naming start x c l) l.pre.hosts ne ∙ ap (changed_at l.host (naming start x c l)) (sym is))
+        l.state
       where
-        floor_is : (q : Progress) (o : Option Progress)
-            → option_map (λ (p : Progress). let m : Progress = record { told = record p.told { floor = Some (settled_length l.pre.state) }; shape = with_stage Marked p.shape } in m) o ≡ Some q
-            → q.told.floor ≡ Some (settled_length l.pre.state)
+        marking : Progress → Progress
+        marking p = record { told = record p.told { floor = Some (settled_length l.pre.state) }; shape = with_stage Marked p.shape }
+
+        floor_is : (q : Progress) (o : Option Progress) → option_map marking o ≡ Some q → q.told.floor ≡ Some (settled_length l.pre.state)
         floor_is q None e = absurd cc
-        floor_is q (Some p) e = sym (ap (λ (z : Progress). z.told.floor) (same_Some _ q e))
+        floor_is q (Some p) e = sym (ap (λ (z : Progress). z.told.floor) (same_Some (marking p) q e))
 
         higher : settled_length l.pre.state ≤ settled_length c.state
         higher =
@@ -248,23 +255,27 @@ module _ (start : Image) (x c : Possible) (l : Late start x c) where
         moves (Found j n) j _ ne refl refl
         (ap (finds n) before ∙ finds_none n (says start x c l).params history ∙ sym before)
         (over_hidden n named_state c.state l.state found)
-        (follows (Found j n) (other_runs start x c l j ne (λ me t. TaskNote j me t (Found j n)) may) (subst (FoundAllowed n) (sym before) is))
+        (follows (Found j n) (other_runs start x c l j ne (λ me t. TaskNote j me t (Found j n)) may)
+        (subst (FoundAllowed n) (sym before) is))
 
-    answered_line : (j : ℕ) (answer : Answer) → j ≢ l.host → settled_by answer ≢ Some (l.seq + 1) → MayStand (length start) (shapes_in c) (Answered j answer) → Fits (past_in start c) (Answered j answer)
-        → Stays start x c l (Answered j answer)
+    answered_line : (j : ℕ) (answer : Answer) → j ≢ l.host → settled_by answer ≢ Some (l.seq + 1) → MayStand (length start) (shapes_in c) (Answered j answer)
+        → Fits (past_in start c) (Answered j answer) → Stays start x c l (Answered j answer)
     answered_line j answer ne other may fits =
         let p = (says start x c l).params in
         let q = running_at c j (λ me t. TaskNote j me t (Answered j answer)) may.0 in
         let more : settled_by answer ≢ Some (length history + 1) = (λ e. other (e ∙ ap Some (sym count_is))) in
-        let fit = answer_first p history file q.host.told (not_master apart j ne q.host q.is) c.state came answer more (told_at start c j (λ host. AnswerFits answer host c.state) q.host q.is fits) in
+        let fit : AnswerFits answer q.host.told c.state = told_at start c j (λ host. AnswerFits answer host c.state) q.host q.is fits in
+        let first = answer_first p history file q.host.told (not_master apart j ne q.host q.is) c.state came answer more fit in
         let none : (s : State) → shows_count (settled_by answer) s ≡ s → ended_state answer s ≡ s =
             (λ s e. ended_is answer s ∙ ap (λ (o : Option ℕ). shows_count o s) (sym (settled_is answer)) ∙ e) in
         moves (Answered j answer) j _ ne refl refl
         (none l.pre.state (ap (shows_count (settled_by answer)) before ∙ counts_none (settled_by answer) p history ∙ sym before))
         (subst (StateOver named_state) (sym (none c.state (settles_none p history file c.state came (settled_by answer) more))) l.state)
         (follows (Answered j answer)
-        (other_runs start x c l j ne (λ me t. TaskNote j me t (Answered j answer)) may.0, other_runs start x c l j ne (λ me t. AnswerPlace t.cmd t.stage answer) may.1)
-        (of_told start l.pre j (λ host. AnswerFits answer host l.pre.state) q.host (sym (at_other start x c l j ne) ∙ q.is) (subst (λ (s : State). AnswerFits answer q.host.told s) (sym before) fit)))
+        (other_runs start x c l j ne (λ me t. TaskNote j me t (Answered j answer)) may.0,
+        other_runs start x c l j ne (λ me t. AnswerPlace t.cmd t.stage answer) may.1)
+        (of_told start l.pre j (λ host. AnswerFits answer host l.pre.state) q.host (sym (at_other start x c l j ne) ∙ q.is)
+        (subst (λ (s : State). AnswerFits answer q.host.told s) (sym before) first)))
 
     umount_line : (j : ℕ) → (j ≡ l.host) ⊎ (j ≢ l.host) → MayStand (length start) (shapes_in c) (Umount j) → Stays start x c l (Umount j)
     umount_line j (inl e) may =
@@ -273,15 +284,15 @@ module _ (start : Image) (x c : Possible) (l : Late start x c) where
 
     -- a line that tells nothing of an entry that was named: x follows it without naming the entry
     pub late_stays : (y : Note) → Elsewhere l.host l.seq y → MayStand (length start) (shapes_in c) y → Fits (past_in start c) y → Stays start x c l y
-    late_stays (Host name uuid) where_ may fits = declares name uuid may
-    late_stays (Made h p) where_ may fits = absurd (idle_not may.0)
-    late_stays (Cut h k) where_ may fits = absurd (idle_not may.0.1)
+    late_stays (Host name uuid) other may fits = declares name uuid may
+    late_stays (Made h p) other may fits = absurd (idle_not may.0)
+    late_stays (Cut h k) other may fits = absurd (idle_not may.0.1)
     late_stays (Start j cmd) ne may fits = moves (Start j cmd) j _ ne refl refl refl l.state (seen (Start j cmd) refl may tt)
     late_stays (Mark j) ne may fits = marked_line j ne may
     late_stays (Found j n) other may fits = found_line j n other.0 other.1 may fits
-    late_stays (Writes j seq e) where_ may fits = absurd (late_writes start x c l apart j seq e may fits (cases_eq j l.host))
+    late_stays (Writes j seq e) other may fits = absurd (late_writes start x c l apart j seq e may fits (cases_eq j l.host))
     late_stays (Answered j answer) other may fits = answered_line j answer other.0 other.1 may fits
     late_stays (Stop j) ne may fits = moves (Stop j) j _ ne refl refl refl l.state (seen (Stop j) refl may tt)
     late_stays (Halt j) ne may fits = moves (Halt j) j _ ne refl refl refl l.state (seen (Halt j) refl may tt)
-    late_stays (Umount j) where_ may fits = umount_line j (cases_eq j l.host) may
-    late_stays (Refused name cause) where_ may fits = refused name cause may
+    late_stays (Umount j) other may fits = umount_line j (cases_eq j l.host) may
+    late_stays (Refused name cause) other may fits = refused name cause may

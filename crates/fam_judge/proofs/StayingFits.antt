@@ -1,9 +1,8 @@
 -- What tells nothing of an entry that was named fits behind it as before it: nothing pends before it.
 use Rattle.std.proofs.Common.{◌≡◌, ◌≢◌, ◌+◌, ◌≤◌, inl, inr, ℕ, List, [], ◌∷◌, ◌++◌, length, Option, Some, None, refl, ap, sym, ◌∙◌, subst, arith}
-use Rattle.std.specs.Prelude.{⊤, Err, take}
+use Rattle.std.specs.Prelude.{Err}
 use Rattle.std.proofs.lemmas.Bool.Decides.{nat_tests}
 use Rattle.std.proofs.lemmas.List.{take-append-le}
-use Rattle.std.proofs.lemmas.Option.{same_Some}
 use Rattle.fam_base.specs.declared.entry.Params.{Params}
 use Rattle.fam_commands.specs.ReplyClasses.{Appending, Declining, Faulty, ReplyClass, Reporting, Showing, reply_class}
 use Rattle.fam_rules.specs.declared.answers.Refused.{Refused as Cause}
@@ -15,7 +14,7 @@ use Rattle.fam_rules.specs.Reply.{Reply}
 use Rattle.fam_rules.specs.ReportLaws.{IsSoundReport}
 use Rattle.fam_journal.specs.Legal.{AppendedAllowed, CauseAllowed, DamageAllowed, DecideAllowed, FoundAllowed, IsAcknowledged, IsReportOf, ReportAllowed}
 use Rattle.fam_journal.specs.Notes.{Answer, Replied, MediaFault}
-use Rattle.fam_journal.specs.Past.{BadHeader, BadSlot, Damage, HostPast, NoSuperblock, Sound, State, acknowledges, shows, shows_count}
+use Rattle.fam_journal.specs.Past.{BadHeader, BadSlot, Damage, HostPast, NoSuperblock, Sound, State, acknowledges, reported_count, shows, shows_count}
 use Rattle.fam_judge.specs.Fitting.{AnswerFits, AskFits, IsFitting, QuestionFits, ReplyFits}
 use Rattle.fam_judge.specs.Possible.{settled_by, settled_in}
 use Rattle.fam_judge.proofs.Over.{StateOver, dropped, joined, same}
@@ -89,14 +88,15 @@ module _ (p : Params) (history : List File) (f : File) where
           fits = subst (λ (l : List File). AskFits l is.cmd given) (take-append-le m history (f ∷ []) low) is.fits;
         }
 
-    asked_first : (t : State) → Behind t → (m : ℕ) (given : Reply) → Some m ≢ Some (length history + 1) → QuestionFits m given host t → IsFitting host m history given
+    asked_first : (t : State) → Behind t → (m : ℕ) (given : Reply) → Some m ≢ Some (length history + 1) → QuestionFits m given host t
+        → IsFitting host m history given
     asked_first t (waits e) m given ne is = asked m given (λ same. ne (ap Some same)) (subst (QuestionFits m given host) e is)
     asked_first t (has_joined e) m given ne is = asked m given (λ same. ne (ap Some same)) (subst (QuestionFits m given host) e is)
     asked_first t (was_dropped e) m given ne is = subst (QuestionFits m given host) e is
 
     -- Reports.
 
-    reports : (r : Report) → Rattle.fam_journal.specs.Past.reported_count r.log ≢ Some (length history + 1) → IsReportOf p host (history ++ f ∷ []) r → IsReportOf p host history r
+    reports : (r : Report) → reported_count r.log ≢ Some (length history + 1) → IsReportOf p host (history ++ f ∷ []) r → IsReportOf p host history r
     reports r ne is =
         let low = fewer is.m (λ same. ne (reported_is p host (history ++ f ∷ []) r is ∙ ap Some same)) is.bounds.high in
         record {
@@ -105,14 +105,15 @@ module _ (p : Params) (history : List File) (f : File) where
           is = subst (λ (l : List File). IsSoundReport p (entries_of l) r) (take-append-le is.m history (f ∷ []) low) is.is;
         }
 
-    report_first : (t : State) → Behind t → (r : Report) → Rattle.fam_journal.specs.Past.reported_count r.log ≢ Some (length history + 1) → ReportAllowed r host t → IsReportOf p host history r
+    report_first : (t : State) → Behind t → (r : Report) → reported_count r.log ≢ Some (length history + 1) → ReportAllowed r host t → IsReportOf p host history r
     report_first t (waits e) r ne is = reports r ne (subst (ReportAllowed r host) e is)
     report_first t (has_joined e) r ne is = reports r ne (subst (ReportAllowed r host) e is)
     report_first t (was_dropped e) r ne is = subst (ReportAllowed r host) e is
 
     -- Appends.
 
-    appended_first : (t : State) → Behind t → (seq : ℕ) → Some (seq + 1) ≢ Some (length history + 1) → AppendedAllowed seq host (acknowledges seq t) → AppendedAllowed seq host (acknowledges seq (Sound p history None))
+    appended_first : (t : State) → Behind t → (seq : ℕ) → Some (seq + 1) ≢ Some (length history + 1) → AppendedAllowed seq host (acknowledges seq t)
+        → AppendedAllowed seq host (acknowledges seq (Sound p history None))
     appended_first t at seq ne is =
         subst (AppendedAllowed seq host) (sym (acknowledged seq (Sound p history None) ∙ counts_none (Some (seq + 1)) p history))
         (by at (subst (AppendedAllowed seq host) (acknowledged seq t ∙ settles_none t at (Some (seq + 1)) ne) is))
@@ -158,7 +159,8 @@ module _ (p : Params) (history : List File) (f : File) where
 
       -- Replies.
 
-      reply_first : (t : State) → Behind t → (given : Reply) → settled_by (Replied given) ≢ Some (length history + 1) → ReplyFits given host t → ReplyFits given host (Sound p history None)
+      reply_first : (t : State) → Behind t → (given : Reply) → settled_by (Replied given) ≢ Some (length history + 1) → ReplyFits given host t
+          → ReplyFits given host (Sound p history None)
       reply_first t at (reply.Appended seq) ne is = appended_first t at seq ne is
       reply_first t at (reply.NotAppended why) ne is = cause_first t at why is
       reply_first t at (reply.Reports r) ne is = report_first t at r ne is
@@ -168,6 +170,7 @@ module _ (p : Params) (history : List File) (f : File) where
       reply_first t at given ne is = asked_first t at _ given ne is
 
       -- an answer of another host that tells nothing of the entry fits before it was named
-      pub answer_first : (t : State) → Behind t → (answer : Answer) → settled_by answer ≢ Some (length history + 1) → AnswerFits answer host t → AnswerFits answer host (Sound p history None)
+      pub answer_first : (t : State) → Behind t → (answer : Answer) → settled_by answer ≢ Some (length history + 1) → AnswerFits answer host t
+          → AnswerFits answer host (Sound p history None)
       answer_first t at (MediaFault line) ne is = tt
       answer_first t at (Replied given) ne is = reply_first t at given ne is
