@@ -1,1 +1,4 @@
-
+pub mod Behind
+pub mod Numbers
+pub mod Resolving
+pub mod Trees

@@ -22,15 +22,19 @@ pub record Further : Type 0 where
   pub entries : List Entry
   pub report : Option Report
 
+-- these entries and this report
+abbrev pub further : List Entry → Option Report → Further
+further entries report = record { entries = entries; report = report }
+
 -- no line follows
 abbrev pub nothing : Further
-nothing = record { entries = []; report = None }
+nothing = further [] None
 
 -- what follows the first line of a reply
 abbrev pub behind_reply : Reply → Further
 behind_reply (reply.Appended seq) = nothing
 behind_reply (reply.NotAppended why) = nothing
-behind_reply (reply.Played m tree) = record { entries = finmap.values tree; report = None }
+behind_reply (reply.Played m tree) = further (finmap.values tree) None
 behind_reply (reply.Mounted m) = nothing
 behind_reply (reply.Same m) = nothing
 behind_reply (reply.Differs m offset found wanted) = nothing
@@ -39,7 +43,7 @@ behind_reply (reply.Bytes m bytes) = nothing
 behind_reply (reply.NotFound m) = nothing
 behind_reply (reply.IsDirectory m) = nothing
 behind_reply (reply.Checks m checked) = nothing
-behind_reply (reply.Reports report) = record { entries = []; report = Some report }
+behind_reply (reply.Reports report) = further [] (Some report)
 behind_reply (reply.NoSuperblock fault) = nothing
 behind_reply (reply.BadHeader fault) = nothing
 behind_reply (reply.BadSlot seq why) = nothing

@@ -8,7 +8,7 @@ use Rattle.fam_base.specs.declared.cmd.Content.{Content}
 use Rattle.fam_base.specs.declared.cmd.Content.TheVariants as content
 use Rattle.fam_base.specs.declared.entry.Entry.{Entry}
 use Rattle.fam_base.specs.declared.entry.Params.{Params}
-use Rattle.fam_base.specs.PathOrder.{path_cmp, path_eq}
+use Rattle.fam_base.specs.PathOrder.{path_cmp}
 use Rattle.fam_format.specs.Layout.{slots_of}
 use Rattle.fam_rules.specs.declared.answers.Checked.{Checked}
 use Rattle.fam_rules.specs.declared.answers.Report.{Report}
@@ -75,20 +75,20 @@ abbrev pub reported : Bool → List Entry → Option Report → Option HostAnswe
 reported sound entries None = None
 reported sound entries (Some report) = if is_empty entries && agrees sound report then Some (given.Reports report) else None
 
--- a path in print: `-` is none where no path differs, and a path where one does
-abbrev pub is_printed_first : Bool → Option (List ℕ) → Bool
-is_printed_first true None = true
-is_printed_first true (Some path) = not (path_eq path (45 ∷ []))
-is_printed_first false None = false
-is_printed_first false (Some path) = true
+-- a first path is named just where some path differs
+abbrev pub names_first : Bool → Option (List ℕ) → Bool
+names_first true None = true
+names_first true (Some path) = false
+names_first false None = false
+names_first false (Some path) = true
 
 -- so of how a tree differs
-abbrev pub is_printed_checked : Checked → Bool
-is_printed_checked c = is_printed_first (none_differs c.missing c.extra c.changed) c.first
+abbrev pub is_whole_checked : Checked → Bool
+is_whole_checked c = names_first (none_differs c.missing c.extra c.changed) c.first
 
 -- how a tree differs
 abbrev pub compared : ℕ → Checked → List Entry → Option Report → Option HostAnswer
-compared m c entries report = if is_printed_checked c then alone entries report (given.Checks m c) else None
+compared m c entries report = if is_whole_checked c then alone entries report (given.Checks m c) else None
 
 -- an answer by its first line and what follows
 abbrev pub answer_with : ToldAnswer → Vec Entry Global → Option Report → Option HostAnswer

@@ -3,7 +3,7 @@
 ghost use Rattle.std.specs.Prelude.{◌≡◌, None};
 ghost use Rattle.fam_outcomes.specs.Texts.{is_sound_log, is_sound_report, is_sound_super};
 ghost use Rattle.fam_history.specs.Answers.{none_differs};
-ghost use Rattle.fam_lines.specs.Resolved.{agrees, alone, answer_with, compared, is_bare, is_behind, is_printed_checked, is_printed_first, played, reported, rise_behind};
+ghost use Rattle.fam_lines.specs.Resolved.{agrees, alone, answer_with, compared, is_bare, is_behind, is_whole_checked, names_first, played, reported, rise_behind};
 
 use crate::answer::HostAnswer;
 use fam_base::{Entry, Path};
@@ -127,21 +127,21 @@ fn none_differs(c: &Checked) -> bool
     c.missing == 0 && c.extra == 0 && c.changed == 0
 }
 
-/// Whether a first path prints as itself: `-` is none where no path differs, and a path where one does.
-fn is_printed_first(same: bool, first: &Option<Path>) -> bool
-    ensures { result ≡ is_printed_first same first.now }
+/// Whether a first path is named just where some path differs.
+fn names_first(same: bool, first: &Option<Path>) -> bool
+    ensures { result ≡ names_first same first.now }
 {
     match first {
-        Some(path) => !same || path.bytes() != b"-".as_slice(),
+        Some(_) => !same,
         None => same,
     }
 }
 
 /// So of how a tree differs.
-fn is_printed_checked(c: &Checked) -> bool
-    ensures { result ≡ is_printed_checked c.now }
+fn is_whole_checked(c: &Checked) -> bool
+    ensures { result ≡ is_whole_checked c.now }
 {
-    is_printed_first(none_differs(c), &c.first)
+    names_first(none_differs(c), &c.first)
 }
 
 /// How a tree differs.
@@ -153,7 +153,7 @@ fn compared(
 ) -> Option<HostAnswer>
     ensures { result ≡ compared m checked entries.now report.now }
 {
-    if is_printed_checked(&checked) {
+    if is_whole_checked(&checked) {
         alone(entries, report, HostAnswer::Checks(m, checked))
     } else {
         None

@@ -1,0 +1,53 @@
+-- A host's name and its number.
+use Rattle.std.proofs.Common.{◌≡◌, ◌≢◌, ℕ, zero, suc, ◌+◌, ◌<◌, Bool, true, List, [], ◌∷◌, length, Option, Some, refl, ap, ap₂, sym, subst, ◌∙◌, arith}
+use Rattle.std.specs.Prelude.{IsTrue, slice_get, if◌then◌else◌}
+use Rattle.std.proofs.lemmas.Option.{same_Some}
+use Rattle.std.proofs.lemmas.Slice.Eq.{bytes_eq-Decides}
+use Rattle.fam_base.specs.HostNames.{is_host_name}
+use Rattle.fam_base.specs.PathOrder.{path_eq}
+use Rattle.fam_journal.specs.Members.{index_from}
+use Rattle.fam_outcomes.specs.Texts.{host_name}
+use Rattle.fam_history.specs.Notes.{host_number}
+use Rattle.fam_history.specs.ToldNotes.{AreDistinctNames}
+use Rattle.fam_history.proofs.HostNumbers.{number_is}
+use Rattle.fam_judge.specs.Standing.{Face}
+use Rattle.fam_judge.proofs.Standing.Faces.{index_found}
+use Rattle.fam_lines.specs.declared.host.SeenHost.{SeenHost}
+use Rattle.fam_lines.specs.Hosts.{faces_of, names_of}
+use Rattle.fam_lines.specs.Resolved.{number_of}
+
+-- the name of the host of a number
+name_at : (hosts : List SeenHost) (h : ℕ) (f : Face) → slice_get (faces_of hosts) h ≡ Some f → host_name (names_of hosts) h ≡ f.name
+name_at [] h f is = absurd cc
+name_at (x ∷ hosts) zero f is = ap (λ (g : Face). g.name) (same_Some _ f is)
+name_at (x ∷ hosts) (suc h) f is = name_at hosts h f is
+
+-- the number of a name is that of a host of this name
+pub number_names : (hosts : List SeenHost) (name : List ℕ) (h : ℕ) → number_of hosts name ≡ Some h → host_name (names_of hosts) h ≡ name
+number_names hosts name h is =
+    let found = index_found (λ (f : Face). path_eq f.name name) (faces_of hosts) h is in
+    name_at hosts h found.member found.is ∙ (bytes_eq-Decides found.member.name name).0 found.passes
+
+-- where a name is looked for among names
+among : (hosts : List SeenHost) (name : List ℕ) (i : ℕ)
+    → index_from i (λ (f : Face). path_eq f.name name) (faces_of hosts) ≡ index_from i (λ (declared : List ℕ). path_eq declared name) (names_of hosts)
+among [] name i = refl
+among (x ∷ hosts) name i = ap (λ (o : Option ℕ). if path_eq x.name name then Some i else o) (among hosts name (i + 1))
+
+-- a host that has a name is declared
+within : (names : List (List ℕ)) (h : ℕ) → host_name names h ≢ [] → h < length names
+within [] h some = absurd (some refl)
+within (n ∷ names) zero some = omega arith
+within (n ∷ names) (suc h) some = omega (arith, within names h some)
+
+-- no name is empty
+some_name : (name : List ℕ) → IsTrue (is_host_name name) → name ≢ []
+unfolding is_host_name
+some_name name is none = let h : IsTrue (is_host_name []) = subst (λ (n : List ℕ). IsTrue (is_host_name n)) none is in absurd (cc h)
+
+-- the number of a host's own name, where no two have one name
+pub own_number : (hosts : List SeenHost) (h : ℕ) → AreDistinctNames (names_of hosts) → IsTrue (is_host_name (host_name (names_of hosts) h))
+    → number_of hosts (host_name (names_of hosts) h) ≡ Some h
+own_number hosts h distinct is =
+    let names = names_of hosts in
+    among hosts (host_name names h) 0 ∙ number_is names h (within names h (some_name (host_name names h) is)) distinct
