@@ -5,4 +5,3 @@ pub mod Clean
 pub mod PrintedLines
 pub mod CleanNotes
 pub mod ReadRecords
-pub mod ReadLines

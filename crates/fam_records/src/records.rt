@@ -99,8 +99,10 @@ impl<'a> Records<'a> {
         ensures value { Gives (λ x. x) (lines_left self.new) result (one_line listed_entry (lines_left self.old)) }
         ensures room { HasRoom self.new }
     {
-        let (mut words, line) = self.expected()?;
-        told_entry(&mut words, line)
+        match self.expected() {
+            Ok((mut words, line)) => told_entry(&mut words, line),
+            Err(fault) => Err(fault),
+        }
     }
 
     /// What a report says of the superblock.
@@ -109,8 +111,10 @@ impl<'a> Records<'a> {
         ensures value { Gives (λ x. x) (lines_left self.new) result (one_line superblock_line (lines_left self.old)) }
         ensures room { HasRoom self.new }
     {
-        let (mut words, line) = self.expected()?;
-        told_superblock(&mut words, line)
+        match self.expected() {
+            Ok((mut words, line)) => told_superblock(&mut words, line),
+            Err(fault) => Err(fault),
+        }
     }
 
     /// What it says of the log.
@@ -119,8 +123,10 @@ impl<'a> Records<'a> {
         ensures value { Gives (λ x. x) (lines_left self.new) result (one_line log_state_line (lines_left self.old)) }
         ensures room { HasRoom self.new }
     {
-        let (mut words, line) = self.expected()?;
-        told_log(&mut words, line)
+        match self.expected() {
+            Ok((mut words, line)) => told_log(&mut words, line),
+            Err(fault) => Err(fault),
+        }
     }
 
     /// How many files and directories it has.
@@ -129,8 +135,10 @@ impl<'a> Records<'a> {
         ensures value { Gives (λ x. x) (lines_left self.new) result (one_line files_line (lines_left self.old)) }
         ensures room { HasRoom self.new }
     {
-        let (mut words, line) = self.expected()?;
-        told_files(&mut words, line)
+        match self.expected() {
+            Ok((mut words, line)) => told_files(&mut words, line),
+            Err(fault) => Err(fault),
+        }
     }
 
     /// How many units it has that are used, and that are free.
@@ -139,8 +147,10 @@ impl<'a> Records<'a> {
         ensures value { Gives (λ x. x) (lines_left self.new) result (one_line units_line (lines_left self.old)) }
         ensures room { HasRoom self.new }
     {
-        let (mut words, line) = self.expected()?;
-        told_units(&mut words, line)
+        match self.expected() {
+            Ok((mut words, line)) => told_units(&mut words, line),
+            Err(fault) => Err(fault),
+        }
     }
 
     /// The numbers of two entries that overlap, if any do.
@@ -149,8 +159,10 @@ impl<'a> Records<'a> {
         ensures value { Gives (λ x. x) (lines_left self.new) result (one_line overlap_line (lines_left self.old)) }
         ensures room { HasRoom self.new }
     {
-        let (mut words, line) = self.expected()?;
-        told_overlap(&mut words, line)
+        match self.expected() {
+            Ok((mut words, line)) => told_overlap(&mut words, line),
+            Err(fault) => Err(fault),
+        }
     }
 
     /// The number of the first bad entry, and why it is bad, if one is.
@@ -159,8 +171,10 @@ impl<'a> Records<'a> {
         ensures value { Gives (λ x. x) (lines_left self.new) result (one_line bad_entry_line (lines_left self.old)) }
         ensures room { HasRoom self.new }
     {
-        let (mut words, line) = self.expected()?;
-        told_bad_entry(&mut words, line)
+        match self.expected() {
+            Ok((mut words, line)) => told_bad_entry(&mut words, line),
+            Err(fault) => Err(fault),
+        }
     }
 
     /// How many slots past the gate hold entries.
@@ -169,8 +183,10 @@ impl<'a> Records<'a> {
         ensures value { Gives (λ x. x) (lines_left self.new) result (one_line past_line (lines_left self.old)) }
         ensures room { HasRoom self.new }
     {
-        let (mut words, line) = self.expected()?;
-        told_past(&mut words, line)
+        match self.expected() {
+            Ok((mut words, line)) => told_past(&mut words, line),
+            Err(fault) => Err(fault),
+        }
     }
 
     /// The seven other lines of a report.
@@ -180,13 +196,34 @@ impl<'a> Records<'a> {
         ensures value { Gives (λ x. x) (lines_left self.new) result (report_of (lines_left self.old)) }
         ensures room { HasRoom self.new }
     {
-        let superblock = self.superblock()?;
-        let log = self.log()?;
-        let (files, directories) = self.files()?;
-        let (used, free) = self.units()?;
-        let overlap = self.overlap()?;
-        let bad = self.bad_entry()?;
-        let past = self.past()?;
+        let superblock = match self.superblock() {
+            Ok(read) => read,
+            Err(fault) => return Err(fault),
+        };
+        let log = match self.log() {
+            Ok(read) => read,
+            Err(fault) => return Err(fault),
+        };
+        let (files, directories) = match self.files() {
+            Ok(read) => read,
+            Err(fault) => return Err(fault),
+        };
+        let (used, free) = match self.units() {
+            Ok(read) => read,
+            Err(fault) => return Err(fault),
+        };
+        let overlap = match self.overlap() {
+            Ok(read) => read,
+            Err(fault) => return Err(fault),
+        };
+        let bad = match self.bad_entry() {
+            Ok(read) => read,
+            Err(fault) => return Err(fault),
+        };
+        let past = match self.past() {
+            Ok(read) => read,
+            Err(fault) => return Err(fault),
+        };
         Ok(Report {
             superblock,
             log,
@@ -226,30 +263,37 @@ impl<'a> Records<'a> {
     {
         match further {
             Further::Nothing => Ok((Vec::new(alloc), None)),
-            Further::Entries(count) => {
-                let entries = self.entries(alloc, count)?;
-                Ok((entries, None))
-            }
-            Further::Report => {
-                let report = self.report()?;
-                Ok((Vec::new(alloc), Some(report)))
-            }
+            Further::Entries(count) => match self.entries(alloc, count) {
+                Ok(entries) => Ok((entries, None)),
+                Err(fault) => Err(fault),
+            },
+            Further::Report => match self.report() {
+                Ok(report) => Ok((Vec::new(alloc), Some(report))),
+                Err(fault) => Err(fault),
+            },
         }
     }
 
     /// The note of whose first line this is told.
-    fn record(&mut self, alloc: Global, number: u64, told: ToldLine) -> Result<Option<Record>, LineFault>
+    fn record(
+        &mut self,
+        alloc: Global,
+        number: u64,
+        told: ToldLine,
+    ) -> Result<Option<Record>, LineFault>
         requires room { HasRoom self.old }
         ensures value { Gives seen_if (lines_left self.new) result (record_of number told (lines_left self.old)) }
         ensures room { HasRoom self.new }
     {
-        let (entries, report) = self.further(alloc, further_of(&told.note))?;
-        Ok(Some(Record {
-            line: number,
-            told,
-            entries,
-            report,
-        }))
+        match self.further(alloc, further_of(&told.note)) {
+            Ok((entries, report)) => Ok(Some(Record {
+                line: number,
+                told,
+                entries,
+                report,
+            })),
+            Err(fault) => Err(fault),
+        }
     }
 
     /// The next note, from its lines.
@@ -262,8 +306,10 @@ impl<'a> Records<'a> {
         let Some((mut words, line)) = self.next_line() else {
             return Ok(None);
         };
-        let told = told_history_line(alloc, &mut words, line)?;
-        self.record(alloc, line.number, told)
+        match told_history_line(alloc, &mut words, line) {
+            Ok(told) => self.record(alloc, line.number, told),
+            Err(fault) => Err(fault),
+        }
     }
 
     /// The next note: of a listing with its entries, and of a report with all of it; `None` where no note is left. `BadLine` names the
