@@ -4,6 +4,7 @@ use Rattle.std.specs.Prelude.{⊤, IsTrue, slice_get}
 use Rattle.fam_base.specs.Image.{Image}
 use Rattle.fam_journal.specs.Notes.{Note}
 use Rattle.fam_journal.specs.Shapes.{Pairs}
+use Rattle.fam_judge.specs.Covering.{AreFitting, Direct, HostOver, Late, Over, direct, late}
 use Rattle.fam_judge.specs.Alike.{told_note}
 use Rattle.fam_judge.specs.Fitting.{Fits}
 use Rattle.fam_judge.specs.Possible.{Leads, LeadsTo, Possible, Progress, after, as_is, past_in, shapes_in, written}
@@ -12,9 +13,9 @@ use Rattle.fam_judge.specs.Standing.{MayStand}
 use Rattle.fam_judge.specs.Untold.{untold_note, untold_notes}
 use Rattle.fam_judge.proofs.Goodness.{Each, Wishful, apart_after, each_wishes, wishes_after}
 use Rattle.fam_judge.proofs.Masters.{AreApart}
-use Rattle.fam_judge.proofs.OverHidden.{Late, late_now}
-use Rattle.fam_judge.proofs.OverHosts.{Direct, HostOver, IsApart, uuid_in}
-use Rattle.fam_judge.proofs.OverLate.{Over, direct, inner_over, late}
+use Rattle.fam_judge.proofs.OverHidden.{late_now}
+use Rattle.fam_judge.proofs.OverHosts.{IsApart, uuid_in}
+use Rattle.fam_judge.proofs.OverLate.{inner_over}
 use Rattle.fam_judge.proofs.OverLines.{line_follows}
 use Rattle.fam_judge.proofs.OverOwn.{FollowsIn}
 use Rattle.fam_judge.proofs.Sizes.{kept_uuids}
@@ -52,11 +53,6 @@ line_over start x c (late l) apart wishes y may fits =
     let now = late_now start x c (over_apart start x c (late l) apart) l in
     let next = line_follows start now.now c now.direct (direct_apart now.now c now.direct apart) (each_wishes c wishes) y may fits in
     record { next = next.next; leads = record { first = now.now; before = written l.host now.wrote; steps = next.leads }; over = next.over }
-
--- each of these notes stands, and fits
-abbrev pub AreFitting : Image → Possible → List Note → Type 0
-AreFitting start c [] = ⊤
-AreFitting start c (y ∷ notes) = MayStand (length start) (shapes_in c) y × Fits (past_in start c) y × AreFitting start (after start c y) notes
 
 -- a state behind lines, which allows no less than what the journal comes to
 pub record Reached (start : Image) (x c : Possible) (lines : List Note) : Type 0 where

@@ -5,6 +5,7 @@ use Rattle.fam_base.specs.Image.{Image}
 use Rattle.fam_journal.specs.Notes.{Note, Host, Made, Cut, Start, Mark, Found, Writes, Answered, Stop, Halt, Umount, Refused}
 use Rattle.fam_journal.specs.Past.{HostPast, Past, first_past, hosts_after, past_after, past_behind, past_of, settled_length, state_after}
 use Rattle.fam_journal.specs.Shapes.{HostShape, shapes_after, shapes_behind, shapes_of}
+use Rattle.fam_judge.specs.Covering.{behind, state_of}
 use Rattle.fam_judge.specs.Possible.{Possible, Progress, after, first_possible, past_in, progress_after, shapes_in}
 use Rattle.fam_judge.proofs.Members.{changed_same, map_changed}
 
@@ -54,15 +55,6 @@ shape_after x (Refused name cause) = refl
 pub past_after_is : (start : Image) (x : Possible) (y : Note) → past_in start (after start x y) ≡ past_after (past_in start x) y
 past_after_is start x y =
     ap (λ (hosts : List HostPast). let p : Past = record { start = start; state = state_after (past_in start x) y; hosts = hosts } in p) (told_after start x y)
-
--- notes one behind another
-abbrev pub behind : Image → Possible → List Note → Possible
-behind start x [] = x
-behind start x (y ∷ notes) = behind start (after start x y) notes
-
--- the state behind a journal
-abbrev pub state_of : Image → List Note → Possible
-state_of start journal = behind start (first_possible start) journal
 
 past_from : (start : Image) (x : Possible) (notes : List Note) → past_in start (behind start x notes) ≡ past_behind (past_in start x) notes
 past_from start x [] = refl

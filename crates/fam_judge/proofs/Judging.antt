@@ -6,6 +6,7 @@ use Rattle.fam_base.specs.Image.{Image}
 use Rattle.fam_journal.specs.Notes.{Note, Host, Made, Cut, Start, Mark, Found, Writes, Answered, Stop, Halt, Umount, Refused}
 use Rattle.fam_journal.specs.Past.{Past, past_of}
 use Rattle.fam_journal.specs.Shapes.{HostShape, shapes_after, shapes_behind, shapes_of}
+use Rattle.fam_judge.specs.Covering.{AreFitting, Over, behind, direct, same, state_of}
 use Rattle.fam_judge.specs.Alike.{AreAlikeNotes, told_note}
 use Rattle.fam_judge.specs.Explained.{AreAllowedForSome, IsExplained}
 use Rattle.fam_judge.specs.Fitting.{Fits}
@@ -16,13 +17,11 @@ use Rattle.fam_judge.specs.Standing.{AreStanding, MayStand}
 use Rattle.fam_judge.specs.ToldHosts.{ToldHost, told_behind, told_hosts}
 use Rattle.fam_judge.specs.Untold.{untold_note, untold_notes}
 use Rattle.fam_judge.proofs.Choices.{some_choices}
-use Rattle.fam_judge.proofs.Completing.{AreFitting, shown_reached}
+use Rattle.fam_judge.proofs.Completing.{shown_reached}
 use Rattle.fam_judge.proofs.Explaining.{one_more, sound-append}
 use Rattle.fam_judge.proofs.Fitting.{explained_fits, fits_explained}
-use Rattle.fam_judge.proofs.Folding.{behind, behind_more, past_after_is, past_is, shape_after, shapes_are, state_of}
+use Rattle.fam_judge.proofs.Folding.{behind_more, past_after_is, past_is, shape_after, shapes_are}
 use Rattle.fam_judge.proofs.OverHosts.{IsApart}
-use Rattle.fam_judge.proofs.OverLate.{Over, direct}
-use Rattle.fam_judge.proofs.Over.{same}
 use Rattle.fam_judge.proofs.RealLines.{all_real}
 use Rattle.fam_judge.proofs.Realizing.{ComesTo, IsRealized}
 use Rattle.fam_judge.proofs.Showing.{same_shown}

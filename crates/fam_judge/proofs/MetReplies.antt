@@ -20,10 +20,11 @@ use Rattle.fam_rules.specs.Reply.{Reply}
 use Rattle.fam_journal.specs.Legal.{CauseAllowed, DamageAllowed, DecideAllowed, FoundAllowed, IsDecided, master_of}
 use Rattle.fam_journal.specs.Past.{Bad, BadSlot, HostPast, Sound, State, finds, reply_count, reported_count}
 use Rattle.fam_journal.specs.Shapes.{Begun, CauseShape, CommandStage, CountShape, Marked, Met, Named, ReplyShape}
+use Rattle.fam_judge.specs.Covering.{StateOver, dropped, joined, same}
 use Rattle.fam_judge.specs.Fitting.{ReplyFits}
 use Rattle.fam_judge.specs.Formed.{CausePlace, FaultPlace, FieldPlace, LogPlace, ReplyPlace, SlotPlace}
 use Rattle.fam_judge.specs.Possible.{NonePends}
-use Rattle.fam_judge.proofs.Over.{StateOver, over_master, over_met, over_none, dropped, joined, same}
+use Rattle.fam_judge.proofs.Over.{over_master, over_met, over_none}
 use Rattle.fam_judge.proofs.Replies.{IsDecline, decided_master}
 
 no_begun : (n : ℕ) → Met n ≡ Begun → ⊥

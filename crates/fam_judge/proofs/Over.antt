@@ -7,14 +7,9 @@ use Rattle.fam_base.specs.declared.entry.Params.{Params}
 use Rattle.fam_rules.specs.Asks.{File}
 use Rattle.fam_journal.specs.Legal.{FoundAllowed, master_of}
 use Rattle.fam_journal.specs.Past.{Bad, Sound, State, finds, settled_length, shows, shows_count, with_pending}
+use Rattle.fam_judge.specs.Covering.{StateOver, dropped, joined, same}
 use Rattle.fam_judge.specs.Possible.{NonePends}
 use Rattle.fam_judge.proofs.States.{Goes, counts_bad, counts_none, finds_none, goes, joined_length, joins, stays}
-
--- the second one is the first one, or the entry that pends in the first one has joined it, or was dropped
-pub data StateOver (s t : State) : Type 0 where
-  same : t ≡ s → StateOver s t
-  joined : (p : Params) (history : List File) (f : File) → s ≡ Sound p history (Some f) → t ≡ Sound p (history ++ f ∷ []) None → StateOver s t
-  dropped : (p : Params) (history : List File) (f : File) → s ≡ Sound p history (Some f) → t ≡ Sound p history None → StateOver s t
 
 -- where nothing pends they are the same
 pub over_none : (s t : State) → StateOver s t → NonePends s → t ≡ s

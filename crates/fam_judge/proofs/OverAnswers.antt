@@ -14,13 +14,14 @@ use Rattle.fam_journal.specs.Members.{changed_at}
 use Rattle.fam_journal.specs.Notes.{Answer, Replied, Note, Answered, Found}
 use Rattle.fam_journal.specs.Past.{HostPast, Sound, State, ended_state, finds, reply_count, settled_length, shows_count, with_pending}
 use Rattle.fam_journal.specs.Shapes.{AnswerShape, Begun, CauseShape, CommandStage, HasMet, IsHead, Marked, Met, Named, OfRunning, Pairs, ReplyShape, TaskNote, TaskShape, keeps_behind, with_stage}
+use Rattle.fam_judge.specs.Covering.{Direct, FloorUnder, HostOver, StagesOver, StateOver, TasksOver, same}
 use Rattle.fam_judge.specs.Fitting.{AnswerFits, Fits, ReplyFits}
 use Rattle.fam_judge.specs.Formed.{AnswerPlace, HasPlace, ReplyPlace}
 use Rattle.fam_judge.specs.Possible.{Meets, NonePends, Possible, Progress, Reaches, StageIs, Wishes, after, after_line, marked, meets, past_in, shapes_in, stands, told_met, unmarked, untold_met, with_mark, without_mark}
 use Rattle.fam_judge.proofs.MetReplies.{Target, counted_marked, decided_met, met_target, place_met, shape_met}
-use Rattle.fam_judge.proofs.Over.{StateOver, Within, master_shows, none_shows, over_shows, same, settled_shows}
+use Rattle.fam_judge.proofs.Over.{Within, master_shows, none_shows, over_shows, settled_shows}
 use Rattle.fam_judge.proofs.OverFits.{ReplyOver, reply_over}
-use Rattle.fam_judge.proofs.OverHosts.{Direct, FloorUnder, HostOver, Later, StagesOver, TasksOver, no_later}
+use Rattle.fam_judge.proofs.OverHosts.{Later, no_later}
 use Rattle.fam_judge.proofs.OverOwn.{Both, FollowsIn, both_run, found_later, marked_begun, met_begun, named_begun, not_begun}
 use Rattle.fam_judge.proofs.Places.{changed_is, changed_twice, of_told, own_pairs, runs_at, told_at}
 use Rattle.fam_judge.proofs.Replies.{IsDecline}

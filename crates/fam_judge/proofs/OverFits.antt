@@ -14,9 +14,9 @@ use Rattle.fam_rules.specs.ReportLaws.{IsSoundReport}
 use Rattle.fam_commands.specs.ReplyClasses.{Appending, Declining, Faulty, ReplyClass, Reporting, Showing, reply_class}
 use Rattle.fam_journal.specs.Legal.{AppendedAllowed, CauseAllowed, DamageAllowed, HasParams, InBounds, IsAcknowledged, IsReportOf, ReportAllowed}
 use Rattle.fam_journal.specs.Past.{Bad, BadHeader, BadSlot, Damage, HostPast, NoSuperblock, Sound, State, acknowledges, reported_count, shows, shows_count, with_pending}
+use Rattle.fam_judge.specs.Covering.{FloorUnder, StateOver, dropped, joined, same}
 use Rattle.fam_judge.specs.Fitting.{IsFitting, QuestionFits, ReplyFits}
-use Rattle.fam_judge.proofs.Over.{StateOver, Within, dropped, joined, over_first, over_master, same}
-use Rattle.fam_judge.proofs.OverHosts.{FloorUnder}
+use Rattle.fam_judge.proofs.Over.{Within, over_first, over_master}
 use Rattle.fam_judge.proofs.Replies.{IsDecline, reported_is}
 use Rattle.fam_judge.proofs.Sizes.{acknowledged, effect_in}
 use Rattle.fam_judge.proofs.States.{Goes, counts_none, goes, joined_length, joins, stays}

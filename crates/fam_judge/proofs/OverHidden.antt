@@ -10,11 +10,12 @@ use Rattle.fam_journal.specs.Members.{changed_at}
 use Rattle.fam_journal.specs.Notes.{Note, Mark, Found, Writes}
 use Rattle.fam_journal.specs.Past.{HostPast, State, finds, settled_length}
 use Rattle.fam_journal.specs.Shapes.{Begun, CommandStage, HostShape, Marked, Met, Named, OfRunning, OfTask, Pairs, TaskNote, TaskShape, with_stage}
+use Rattle.fam_judge.specs.Covering.{Direct, FloorUnder, HasFloor, HostOver, Late, StagesOver, StateOver, TasksOver, same}
 use Rattle.fam_judge.specs.Fitting.{Fits}
 use Rattle.fam_judge.specs.Possible.{Possible, Progress, Wrote, after, past_in, progress_after, shapes_in}
 use Rattle.fam_judge.proofs.Members.{changed_same}
-use Rattle.fam_judge.proofs.Over.{StateOver, over_hidden, over_settled, same}
-use Rattle.fam_judge.proofs.OverHosts.{Direct, FloorUnder, HasFloor, HostOver, IsApart, StagesOver, TasksOver, no_later}
+use Rattle.fam_judge.proofs.Over.{over_hidden, over_settled}
+use Rattle.fam_judge.proofs.OverHosts.{IsApart, no_later}
 use Rattle.fam_judge.proofs.OverWrites.{writes_in}
 use Rattle.fam_judge.proofs.Places.{once_pairs, running_at}
 
@@ -106,18 +107,6 @@ module _ (start : Image) (x c : Possible) (d : Direct x c) where
   over_found h n may found = record { state = over_hidden n x.state c.state d.state found; hosts = hidden_found x c d h n may }
 
 -- An entry that was named, where the first state hasn't named it yet.
-
--- the second state has come from one that allows no more, in which the host may name the entry
-pub record Late (start : Image) (x c : Possible) : Type 0 where
-  pub host : ℕ
-  pub pre : Possible
-  pub direct : Direct x pre
-  pub seq : ℕ
-  pub entry : Entry
-  pub may : OfRunning (slice_get (shapes_in pre) host) (λ me t. TaskNote host me t (Writes host seq entry))
-  pub fits : Fits (past_in start pre) (Writes host seq entry)
-  pub hosts : c.hosts ≡ (after start pre (Writes host seq entry)).hosts
-  pub state : StateOver (after start pre (Writes host seq entry)).state c.state
 
 -- a state that has named it
 pub record NamedNow (start : Image) (x c : Possible) (host : ℕ) : Type 0 where

@@ -6,64 +6,11 @@ use Rattle.fam_protocol.specs.After.{Named as Naming}
 use Rattle.fam_journal.specs.Legal.{master_of}
 use Rattle.fam_journal.specs.Past.{HostPast, State, settled_length}
 use Rattle.fam_journal.specs.Shapes.{Begun, CommandStage, HostShape, Marked, Met, Named, Pairs, TaskShape}
+use Rattle.fam_judge.specs.Covering.{Direct, FloorUnder, HasFloor, HostOver, StagesOver, StateOver, TasksOver}
 use Rattle.fam_judge.specs.Possible.{NonePends, Possible, Progress, shapes_in}
 use Rattle.fam_judge.proofs.Folding.{shape_in, told_in}
 use Rattle.fam_judge.proofs.Masters.{AreApart}
-use Rattle.fam_judge.proofs.Over.{StateOver}
 use Rattle.fam_judge.proofs.Pairing.{paired}
-
--- Floors.
-
--- a command's mark, were it right behind its start, would have settled no more than this
-abbrev pub HasFloor : ℕ → Option ℕ → Type 0
-HasFloor settled floor = (f : ℕ) × (floor ≡ Some f) × (f ≤ settled)
-
--- the first floor is the lower one
-abbrev pub FloorUnder : Option ℕ → Option ℕ → Type 0
-FloorUnder low high = (f : ℕ) × (g : ℕ) × (low ≡ Some f) × (high ≡ Some g) × (f ≤ g)
-
--- Stages.
-
--- how far a command has come by what lines tell, and how far it has come; the first state is s
-abbrev pub StagesOver : State → CommandStage → CommandStage → HostPast → HostPast → Type 0
-StagesOver s Begun Begun p q = HasFloor (settled_length s) p.floor
-StagesOver s Begun Marked p q = FloorUnder p.floor q.floor
-StagesOver s Begun (Met n) p q = ⊤
-StagesOver s Begun (Named seq) p q = ⊥
-StagesOver s Marked Begun p q = ⊥
-StagesOver s Marked Marked p q = FloorUnder p.floor q.floor
-StagesOver s Marked (Met n) p q = ⊤
-StagesOver s Marked (Named seq) p q = ⊥
-StagesOver s (Met m) Begun p q = ⊥
-StagesOver s (Met m) Marked p q = ⊥
-StagesOver s (Met m) (Met n) p q = (m ≡ n) × (master_of s ≡ Some p.uuid → NonePends s)
-StagesOver s (Met m) (Named seq) p q = ⊥
-StagesOver s (Named k) Begun p q = ⊥
-StagesOver s (Named k) Marked p q = ⊥
-StagesOver s (Named k) (Met n) p q = ⊥
-StagesOver s (Named k) (Named seq) p q = (k ≡ seq) × (p.wrote ≡ q.wrote)
-
--- so of running commands, if any
-abbrev pub TasksOver : State → Option TaskShape → Option TaskShape → HostPast → HostPast → Type 0
-TasksOver s None None p q = ⊤
-TasksOver s None (Some b) p q = ⊥
-TasksOver s (Some a) None p q = ⊥
-TasksOver s (Some a) (Some b) p q = (a.cmd ≡ b.cmd) × StagesOver s a.stage b.stage p q
-
--- so of a host
-pub record HostOver (s : State) (p q : Progress) : Type 0 where
-  pub name : p.shape.name ≡ q.shape.name
-  pub uuid : p.shape.uuid ≡ q.shape.uuid
-  pub keeps : p.shape.keeps ≡ q.shape.keeps
-  pub own : p.told.uuid ≡ p.shape.uuid
-  pub told_uuid : p.told.uuid ≡ q.told.uuid
-  pub told_cmd : p.told.cmd ≡ q.told.cmd
-  pub task : TasksOver s p.shape.task q.shape.task p.told q.told
-
--- so of a state
-pub record Direct (x c : Possible) : Type 0 where
-  pub state : StateOver x.state c.state
-  pub hosts : Pairs (HostOver x.state) x.hosts c.hosts
 
 -- the UUID of a host
 abbrev pub uuid_in : Progress → List ℕ

@@ -13,24 +13,20 @@ use Rattle.fam_journal.specs.Members.{changed_at}
 use Rattle.fam_journal.specs.Notes.{Note, Host, Made, Cut, Start, Mark, Found, Writes, Answered, Stop, Halt, Umount, Refused}
 use Rattle.fam_journal.specs.Past.{HostPast, Sound, State, cmd_of, finds, pends, settled_length}
 use Rattle.fam_journal.specs.Shapes.{Begun, CommandStage, HostShape, Marked, Met, Named, OfRunning, Pairs, TaskNote, TaskShape, with_stage}
+use Rattle.fam_judge.specs.Covering.{Direct, HostOver, Late, Over, StateOver, direct, late}
 use Rattle.fam_judge.specs.Fitting.{Fits}
 use Rattle.fam_judge.specs.Possible.{Possible, Progress, after, past_in, progress_after, shapes_in}
 use Rattle.fam_judge.specs.Shows.{is_inner}
 use Rattle.fam_judge.specs.Standing.{MayStand}
 use Rattle.fam_judge.proofs.Folding.{told_in}
 use Rattle.fam_judge.proofs.Members.{changed_apart}
-use Rattle.fam_judge.proofs.Over.{StateOver, over_hidden, over_master, over_settled}
-use Rattle.fam_judge.proofs.OverHidden.{Late, hidden_found, hidden_mark, over_found, over_mark, task_of}
-use Rattle.fam_judge.proofs.OverHosts.{Direct, HostOver, IsApart, one_place}
+use Rattle.fam_judge.proofs.Over.{over_hidden, over_master, over_settled}
+use Rattle.fam_judge.proofs.OverHidden.{hidden_found, hidden_mark, over_found, over_mark, task_of}
+use Rattle.fam_judge.proofs.OverHosts.{IsApart, one_place}
 use Rattle.fam_judge.proofs.Pairing.{paired}
 use Rattle.fam_judge.proofs.OverWrites.{WriteSays, cmd_at, named_file, write_says}
 use Rattle.fam_judge.proofs.Places.{Running, changed_is, of_told, running_at, runs_at, told_at}
 use Rattle.fam_journal.proofs.Calls.Members.{changed_other}
-
--- the first state is one that allows no less, or one in which the entry isn't named yet
-pub data Over (start : Image) (x c : Possible) : Type 0 where
-  direct : Direct x c → Over start x c
-  late : Late start x c → Over start x c
 
 -- The host that named it.
 
@@ -174,7 +170,7 @@ module _ (start : Image) (x c : Possible) where
   inner_over apart (direct d) (Mark j) inner lines may fits = direct (over_mark start x c d j may)
   inner_over apart (direct d) (Found j n) inner lines may fits = direct (over_found start x c d j n may fits)
   inner_over apart (direct d) (Writes j seq e) inner lines may fits =
-      late (record { host = j; pre = c; direct = d; seq = seq; entry = e; may = may; fits = fits; hosts = refl; state = Rattle.fam_judge.proofs.Over.same refl })
+      late (record { host = j; pre = c; direct = d; seq = seq; entry = e; may = may; fits = fits; hosts = refl; state = Rattle.fam_judge.specs.Covering.same refl })
   inner_over apart (late l) (Mark j) inner lines may fits = late (late_mark l j may (cases_eq j l.host))
   inner_over apart (late l) (Found j n) inner lines may fits = late (late_found l j n may fits (cases_eq j l.host))
   inner_over apart (late l) (Writes j seq e) inner lines may fits = absurd (late_writes l apart j seq e may fits (cases_eq j l.host))

@@ -15,13 +15,14 @@ use Rattle.fam_journal.specs.Members.{changed_at}
 use Rattle.fam_journal.specs.Notes.{Answer, Replied, MediaFault, Note, Host, Made, Cut, Start, Mark, Found, Writes, Answered, Stop, Halt, Umount, Refused}
 use Rattle.fam_journal.specs.Past.{Bad, HostPast, Sound, State, acknowledges, ended_state, shows, shows_count, with_pending}
 use Rattle.fam_journal.specs.Shapes.{CommandStage, HostShape, Met, OfRunning, Pairs, TaskNote, TaskShape, keeps_behind}
+use Rattle.fam_judge.specs.Covering.{Direct, HostOver, StateOver}
 use Rattle.fam_judge.specs.Fitting.{AnswerFits, Fits, QuestionFits, ReplyFits}
 use Rattle.fam_judge.specs.Formed.{AnswerPlace, HasPlace}
 use Rattle.fam_judge.specs.Possible.{Possible, Progress, Reaches, Wrote, after, after_line, giver, meets, past_in, shapes_in}
 use Rattle.fam_judge.specs.Standing.{MayStand}
-use Rattle.fam_judge.proofs.Over.{StateOver, Within, master_shows, none_shows, over_shows, settled_shows}
+use Rattle.fam_judge.proofs.Over.{Within, master_shows, none_shows, over_shows, settled_shows}
 use Rattle.fam_judge.proofs.OverAnswers.{Comes, comes}
-use Rattle.fam_judge.proofs.OverHosts.{Direct, HostOver, IsApart, Later}
+use Rattle.fam_judge.proofs.OverHosts.{IsApart, Later}
 use Rattle.fam_judge.proofs.OverOwn.{Both, FollowsIn, both_run, own_found, own_mark}
 use Rattle.fam_judge.proofs.OverPlain.{plain_follows}
 use Rattle.fam_judge.proofs.OverWrites.{WritesIn, writes_in}

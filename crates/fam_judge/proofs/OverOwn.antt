@@ -10,11 +10,12 @@ use Rattle.fam_journal.specs.Members.{changed_at}
 use Rattle.fam_journal.specs.Notes.{Note, Mark, Found, Writes}
 use Rattle.fam_journal.specs.Past.{HostPast, State, finds, settled_length}
 use Rattle.fam_journal.specs.Shapes.{Begun, CommandStage, HostShape, IsHead, Marked, Met, Named, OfRunning, Pairs, TaskNote, TaskShape, with_stage}
+use Rattle.fam_judge.specs.Covering.{Direct, HasFloor, HostOver, StagesOver, StateOver, TasksOver, same}
 use Rattle.fam_judge.specs.Fitting.{Fits}
 use Rattle.fam_judge.specs.Possible.{Steps, Meets, Possible, Progress, Reaches, StageIs, Wishes, after, after_line, marked, meets, past_in, shapes_in, stands, told_met, unmarked, untold_met, with_mark, without_mark}
 use Rattle.fam_judge.specs.Standing.{MayStand}
-use Rattle.fam_judge.proofs.Over.{StateOver, master_finds, none_finds, over_finds, over_settled, same, settled_finds}
-use Rattle.fam_judge.proofs.OverHosts.{Direct, HasFloor, HostOver, Later, StagesOver, TasksOver, no_later}
+use Rattle.fam_judge.proofs.Over.{master_finds, none_finds, over_finds, over_settled, settled_finds}
+use Rattle.fam_judge.proofs.OverHosts.{Later, no_later}
 use Rattle.fam_judge.proofs.Pairing.{paired}
 use Rattle.fam_judge.proofs.Places.{Running, changed_is, once_pairs, own_pairs, running_at, runs_at, told_at, of_told}
 

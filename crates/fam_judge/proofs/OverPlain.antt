@@ -12,11 +12,11 @@ use Rattle.fam_journal.specs.Notes.{Answer, Replied, MediaFault, Note, Host, Mad
 use Rattle.fam_journal.specs.Past.{HostPast, Sound, State, halted, settled_length}
 use Rattle.fam_journal.specs.Shapes.{Begun, HostShape, OfRunning, Pairs, TaskNote, TaskShape}
 use Rattle.fam_journal.proofs.Calls.Declares.{none_passes}
+use Rattle.fam_judge.specs.Covering.{Direct, HostOver, StateOver, TasksOver, dropped, joined, same}
 use Rattle.fam_judge.specs.Possible.{Possible, Progress, after, after_line, giver, new_progress, past_in, shapes_in}
 use Rattle.fam_judge.specs.Standing.{Face, MayStand, engaged_in, face, faces, is_own}
 use Rattle.fam_judge.proofs.Folding.{shape_in}
-use Rattle.fam_judge.proofs.Over.{StateOver, joined, dropped, same}
-use Rattle.fam_judge.proofs.OverHosts.{Direct, HostOver, Later, TasksOver, no_later}
+use Rattle.fam_judge.proofs.OverHosts.{Later, no_later}
 use Rattle.fam_judge.proofs.OverOwn.{Both, FollowsIn, both_run}
 use Rattle.fam_judge.proofs.Pairing.{pairs_all, pairs_more}
 use Rattle.fam_judge.proofs.Places.{once_pairs, own_pairs, runs_at}

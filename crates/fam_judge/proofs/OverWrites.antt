@@ -13,10 +13,11 @@ use Rattle.fam_journal.specs.Members.{changed_at}
 use Rattle.fam_journal.specs.Notes.{Note, Found, Writes}
 use Rattle.fam_journal.specs.Past.{Bad, HostPast, Sound, State, cmd_of, filled_bytes, finds, pends, settled_length}
 use Rattle.fam_journal.specs.Shapes.{Begun, CommandStage, EntryShape, IsHead, Marked, Met, Named, OfRunning, Pairs, TaskNote, TaskShape, with_stage}
+use Rattle.fam_judge.specs.Covering.{Direct, HostOver, StagesOver, StateOver, TasksOver, same}
 use Rattle.fam_judge.specs.Possible.{Meets, NonePends, Possible, Progress, Wrote, after, past_in, shapes_in, told_met, untold_met}
 use Rattle.fam_judge.proofs.Folding.{told_in}
-use Rattle.fam_judge.proofs.Over.{StateOver, over_met, over_none, over_settled, same, settled_finds}
-use Rattle.fam_judge.proofs.OverHosts.{Direct, HostOver, IsApart, LaterOf, StagesOver, TasksOver, host_later_of, one_place}
+use Rattle.fam_judge.proofs.Over.{over_met, over_none, over_settled, settled_finds}
+use Rattle.fam_judge.proofs.OverHosts.{IsApart, LaterOf, host_later_of, one_place}
 use Rattle.fam_judge.proofs.OverOwn.{Both, both_run}
 use Rattle.fam_judge.proofs.Pairing.{pairs_step}
 use Rattle.fam_judge.proofs.Places.{changed_is, changed_twice, of_told, runs_at, told_at}

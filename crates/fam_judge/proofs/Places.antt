@@ -8,9 +8,10 @@ use Rattle.fam_journal.specs.Legal.{OfHost}
 use Rattle.fam_journal.specs.Members.{changed_at}
 use Rattle.fam_journal.specs.Past.{HostPast, State}
 use Rattle.fam_journal.specs.Shapes.{HostShape, OfRunning, OfTask, Pairs, TaskShape}
+use Rattle.fam_judge.specs.Covering.{Direct, HostOver}
 use Rattle.fam_judge.specs.Possible.{Possible, Progress, past_in, shapes_in}
 use Rattle.fam_judge.proofs.Folding.{shape_in, told_in}
-use Rattle.fam_judge.proofs.OverHosts.{Direct, HostOver, Later, host_later}
+use Rattle.fam_judge.proofs.OverHosts.{Later, host_later}
 use Rattle.fam_judge.proofs.Pairing.{pairs_step}
 
 -- a host of this number runs a command, of which this holds

@@ -13,6 +13,7 @@ use Rattle.fam_journal.specs.Members.{changed_at}
 use Rattle.fam_journal.specs.Notes.{Answer, Replied, MediaFault, Note, Host, Made, Cut, Start, Mark, Found, Writes, Answered, Stop, Halt, Umount, Refused}
 use Rattle.fam_journal.specs.Past.{HostPast, State, settled_length, state_after}
 use Rattle.fam_journal.specs.Shapes.{Begun, CommandStage, HostShape, IsHead, Marked, Met, Named, OfRunning, Pairs, TaskNote, TaskShape, with_stage}
+use Rattle.fam_judge.specs.Covering.{AreFitting, behind, state_of}
 use Rattle.fam_judge.specs.Fitting.{AnswerFits, Fits}
 use Rattle.fam_judge.specs.Formed.{HasPlace}
 use Rattle.fam_judge.specs.Possible.{Leads, LeadsTo, Meets, Possible, Progress, Reaches, ReachesFor, StageIs, Steps, Wishes, Wrote, after, after_line, first_possible, giver, marked, meets, new_progress, past_in, progress_after, shapes_in, stands, told_met, unmarked, untold_met, with_mark, without_mark, wrote}
@@ -20,8 +21,7 @@ use Rattle.fam_judge.specs.Shows.{ShowsJournal, is_inner}
 use Rattle.fam_judge.specs.Standing.{MayStand, faces, is_own}
 use Rattle.fam_judge.specs.Untold.{untold_note, untold_notes}
 use Rattle.fam_judge.proofs.Choices.{Back, ButOne, Chosen, IsBegun, at_mark, but_back, but_chosen, but_here, chosen_but, faces_chosen, floorless, mark_came, no_mark_came, as_it_is, unchanged_but}
-use Rattle.fam_judge.proofs.Completing.{AreFitting}
-use Rattle.fam_judge.proofs.Folding.{behind, behind_both, behind_more, shape_in, state_of, told_in}
+use Rattle.fam_judge.proofs.Folding.{behind_both, behind_more, shape_in, told_in}
 use Rattle.fam_judge.proofs.Places.{Running, changed_is, changed_twice, running_at, runs_at}
 use Rattle.fam_judge.proofs.Showing.{shows_both}
 

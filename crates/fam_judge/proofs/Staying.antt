@@ -13,6 +13,7 @@ use Rattle.fam_journal.specs.Notes.{Answer, Note, Host, Made, Cut, Start, Mark, 
 use Rattle.fam_journal.specs.Past.{HostPast, Sound, State, cmd_of, ended_state, finds, pends, settled_length, shows_count}
 use Rattle.fam_journal.specs.Shapes.{Begun, CommandStage, HostShape, Marked, Met, Named, TaskNote, TaskShape, with_stage}
 use Rattle.fam_journal.proofs.Calls.Members.{changed_here, changed_other}
+use Rattle.fam_judge.specs.Covering.{Direct, FloorUnder, HostOver, Late, StagesOver, StateOver, TasksOver, late}
 use Rattle.fam_judge.specs.Fitting.{AnswerFits, Fits}
 use Rattle.fam_judge.specs.Formed.{AnswerPlace}
 use Rattle.fam_judge.specs.Possible.{Elsewhere, Possible, Progress, Steps, after, new_progress, past_in, settled_by, shapes_in}
@@ -21,10 +22,10 @@ use Rattle.fam_judge.proofs.Completing.{over_apart}
 use Rattle.fam_judge.proofs.Folding.{shape_in}
 use Rattle.fam_judge.proofs.Goodness.{Each, Wishful}
 use Rattle.fam_judge.proofs.Members.{changed_append, changed_apart, changed_same, front_member, map_changed}
-use Rattle.fam_judge.proofs.Over.{StateOver, over_hidden, over_settled}
-use Rattle.fam_judge.proofs.OverHidden.{Late, one_side, task_of}
-use Rattle.fam_judge.proofs.OverHosts.{Direct, FloorUnder, HostOver, IsApart, StagesOver, TasksOver, one_place}
-use Rattle.fam_judge.proofs.OverLate.{late, late_writes, naming, other_runs, own_at, runs_pre, says, task_there, there, at_other}
+use Rattle.fam_judge.proofs.Over.{over_hidden, over_settled}
+use Rattle.fam_judge.proofs.OverHidden.{one_side, task_of}
+use Rattle.fam_judge.proofs.OverHosts.{IsApart, one_place}
+use Rattle.fam_judge.proofs.OverLate.{late_writes, naming, other_runs, own_at, runs_pre, says, task_there, there, at_other}
 use Rattle.fam_judge.proofs.OverLines.{MetWish, line_follows}
 use Rattle.fam_judge.proofs.OverOwn.{FollowsIn}
 use Rattle.fam_judge.proofs.OverPlain.{all_idle}

@@ -10,3 +10,4 @@ pub mod Counting
 pub mod Standing
 pub mod Possible
 pub mod ToldHosts
+pub mod Covering
