@@ -60,7 +60,7 @@ module _ (start : Image) where
   told_same before =
       behind_told (untold_notes before) [] ∙ ap (told_behind (told_hosts [])) (alike_of_untold before) ∙ sym (behind_told before [])
 
-  fitting_from : (before notes : List Note) → AreStanding (length start) (shapes_of before) notes → AreAllowedForSome start before notes
+  pub fitting_from : (before notes : List Note) → AreStanding (length start) (shapes_of before) notes → AreAllowedForSome start before notes
       → AreFitting start (state_of start (untold_notes before)) (untold_notes notes)
   fitting_from before [] stands allowed = tt
   fitting_from before (y ∷ notes) stands allowed = (

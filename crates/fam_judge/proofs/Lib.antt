@@ -64,3 +64,4 @@ pub mod Realizing
 pub mod Realized
 pub mod RealLines
 pub mod Judging
+pub mod Sets

@@ -109,18 +109,20 @@ module _ (start : Image) (x c : Possible) (d : Direct x c) where
 -- An entry that was named, where the first state hasn't named it yet.
 
 -- a state that has named it
-pub record NamedNow (start : Image) (x c : Possible) (host : ℕ) : Type 0 where
+pub record NamedNow (start : Image) (x c : Possible) (host seq : ℕ) : Type 0 where
   pub now : Possible
   pub wrote : Wrote start host x now
+  pub number : wrote.seq ≡ seq
   pub direct : Direct now c
 
 -- it names it where that is told of
-pub late_now : (start : Image) (x c : Possible) → IsApart x → (late : Late start x c) → NamedNow start x c late.host
+pub late_now : (start : Image) (x c : Possible) → IsApart x → (late : Late start x c) → NamedNow start x c late.host late.seq
 late_now start x c apart late =
     let is = writes_in start x late.pre late.direct apart late.host late.seq late.entry late.may late.fits in
     record {
       now = after start is.met (Writes late.host late.seq late.entry);
       wrote = record { met = is.met; meets = is.meets; seq = late.seq; entry = late.entry; may = is.may; fits = is.fits; is = refl };
+      number = refl;
       direct = record {
         state = subst (λ (s : State). StateOver s c.state) (sym is.state) late.state;
         hosts = subst (λ (l : List Progress). Pairs (HostOver (after start is.met (Writes late.host late.seq late.entry)).state) (after start is.met (Writes late.host late.seq late.entry)).hosts l)

@@ -27,8 +27,9 @@ ghost use Rattle.fam_judge.specs.Explained.{IsAllowedForSome, IsExplained, IsExp
 ghost use Rattle.fam_judge.specs.Fitting.{Fits, CheckFits};
 ghost use Rattle.fam_judge.specs.Formed.{AreFormed, HavePlaces, AreSoundNotes, IsFormedNote, HasPlace, AreListedNotes};
 ghost use Rattle.fam_judge.specs.GivesWay.{GiveWay};
-ghost use Rattle.fam_judge.specs.Possible.{IsPossible, Possible};
-ghost use Rattle.fam_judge.specs.Untold.{untold_cmd, untold_notes};
+ghost use Rattle.fam_judge.specs.Covering.{GoesOn, IsOf, Judges};
+ghost use Rattle.fam_judge.specs.Possible.{IsPossible, Possible, first_possible};
+ghost use Rattle.fam_judge.specs.Untold.{untold_cmd, untold_note, untold_notes};
 ghost use Rattle.fam_judge.specs.Shows.{ShowsJournal};
 ghost use Rattle.fam_judge.specs.Standing.{AreDistinct, AreStanding, IsFormedAs, MayList, MayStand, faces, is_own};
 ghost use Rattle.fam_judge.specs.ToldHosts.{told_behind, told_hosts};
@@ -213,4 +214,16 @@ pub fn some_state_is_possible()
         → (x : Possible) × IsPossible start (untold_notes history) x }
     ensures explained { (start : Image) (history : List Note) (x : Possible) → IsPossible start (untold_notes history) x
         → IsExplained start history }
+{}
+
+/// A set of states that judges the lines of a history (`Judges`) begins with the one before them (`first`), and goes on by one
+/// line (`line`) to all states to which that leads, but names no entry of which it tells nothing (`GoesOn`). Where no state is
+/// left the history isn't explained (`none`), and where one is left it is (`some`).
+pub fn a_set_of_states_judges()
+    ensures first { (start : Image) → Judges start [] (first_possible start ∷ []) }
+    ensures line { (start : Image) (lines : List Note) (xs zs : List Possible) (line : Note) → untold_note line ≡ line
+        → Judges start lines xs → GoesOn start line xs zs → Judges start (lines ++ line ∷ []) zs }
+    ensures none { (start : Image) (history : List Note) → Judges start (untold_notes history) [] → IsExplained start history → ⊥ }
+    ensures some { (start : Image) (history : List Note) (xs : List Possible) (x : Possible) → Judges start (untold_notes history) xs
+        → IsOf xs x → IsExplained start history }
 {}
