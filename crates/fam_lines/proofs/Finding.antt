@@ -1,6 +1,6 @@
 -- Of a note's own first line and what follows it, a line is resolved that tells the same.
 use Rattle.std.proofs.Common.{◌≡◌, ℕ, Bool, true, false, List, [], ◌∷◌, Option, Some, None, refl, ap, ap₂, sym, subst, ◌∙◌}
-use Rattle.std.specs.Prelude.{IsTrue, Vec, if◌then◌else◌, option_map, slice_get}
+use Rattle.std.specs.Prelude.{MatchOption, Vec, if◌then◌else◌, option_map, slice_get}
 use Rattle.std.specs.Global.{Global}
 use Rattle.std.proofs.lemmas.Option.{slice_get-map}
 use Rattle.fam_base.specs.declared.cmd.Cmd.{Cmd}
@@ -33,7 +33,7 @@ use Rattle.fam_lines.specs.Named.{IsName, NamesHosts, NamesOther}
 use Rattle.fam_lines.specs.Resolved.{answer_with, answered_line, cause_of, is_told, lone, made_line, number_of, resolved, start_line, whole_params}
 use Rattle.fam_lines.proofs.Behind.{gives_own}
 use Rattle.fam_lines.proofs.Numbers.{own_number}
-use Rattle.fam_lines.proofs.Resolving.{command_tells}
+use Rattle.fam_lines.proofs.Telling.{command_tells}
 
 -- what is told of a command is told of some
 told_so : (c : Cmd) → is_told (told_of_command c) ≡ true
@@ -101,8 +101,8 @@ module _ (hosts : List SeenHost) (distinct : AreDistinctNames (names_of hosts)) 
       where
         by : (es : List Entry) (r : Option Report) → nothing ≡ further es r → Finds (lone es r o) n
         by [] None e = record { line = l; is = is; same = same }
-        by [] (Some r) e = absurd (cc (ap (λ (f : Further). f.report) e))
-        by (x ∷ es) r e = absurd (cc (ap (λ (f : Further). f.entries) e))
+        by [] (Some r) e = let other : None ≡ Some r = ap (λ (f : Further). f.report) e in absurd cc
+        by (x ∷ es) r e = let other : [] ≡ x ∷ es = ap (λ (f : Further). f.entries) e in absurd cc
 
     -- of a declared host
     finds_going : (n : Note) (h : ℕ) (make : ℕ → Line) → IsName (host_name (names_of hosts) h) → nothing ≡ further entries.items report
@@ -150,3 +150,11 @@ module _ (hosts : List SeenHost) (distinct : AreDistinctNames (names_of hosts)) 
     finds t named n whole is =
         subst (λ (x : ToldLine). Finds (resolved hosts x entries report) n) is.first
         (finds_own n (subst NamesHosts (sym is.first) named) is.behind whole)
+
+-- so it is of a result
+pub result_only : (hosts : List SeenHost) (t : ToldLine) (entries : Vec Entry Global) (report : Option Report) (o : Option Line) → o ≡ resolved hosts t entries report
+    → NamesHosts t → AreDistinctNames (names_of hosts) → (n : Note) → IsWholeNote hosts n → IsNoteOf (names_of hosts) t (further entries.items report) n
+    → MatchOption o ⊥ (λ (l : Line). told_note (note_of l) ≡ told_note n)
+result_only hosts t entries report o is named distinct n whole tells =
+    let found = finds hosts distinct entries report t named n whole tells in
+    subst (λ (x : Option Line). MatchOption x ⊥ (λ (l : Line). told_note (note_of l) ≡ told_note n)) (sym (is ∙ found.is)) found.same

@@ -1,5 +1,5 @@
 pub mod Behind
 pub mod Finding
 pub mod Numbers
-pub mod Resolving
+pub mod Telling
 pub mod Trees

@@ -11,10 +11,12 @@ mod line;
 mod lines;
 mod making;
 mod refused;
+mod resolving;
 mod standing;
 
 pub use answer::HostAnswer;
 pub use host::SeenHost;
 pub use line::Line;
+pub use resolving::resolve;
 
 pub use standing::stands;

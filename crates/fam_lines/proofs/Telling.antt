@@ -1,6 +1,6 @@
 -- A line that is resolved: it is of a note that tells just what is told, and of no other.
 use Rattle.std.proofs.Common.{◌≡◌, ℕ, Bool, true, false, List, [], ◌∷◌, length, Option, Some, None, refl, ap, ap₂, sym, subst, ◌∙◌}
-use Rattle.std.specs.Prelude.{IsTrue, Vec, if◌then◌else◌, option_map, replicate, slice_get}
+use Rattle.std.specs.Prelude.{IfSome, Vec, if◌then◌else◌, option_map, replicate, slice_get}
 use Rattle.std.specs.Global.{Global}
 use Rattle.std.proofs.lemmas.List.{length-replicate}
 use Rattle.std.proofs.lemmas.Option.{same_Some, slice_get-map}
@@ -251,3 +251,19 @@ pub resolved_is : (hosts : List SeenHost) (t : ToldLine) (entries : Vec Entry Gl
     → IsLine hosts t entries.items report l
 unfolding Is
 resolved_is hosts t entries report l is = line_is hosts t.name entries report t.note l is
+
+-- so it is of a result
+pub result_tells : (hosts : List SeenHost) (t : ToldLine) (entries : Vec Entry Global) (report : Option Report) (o : Option Line) → o ≡ resolved hosts t entries report
+    → IfSome o (λ (l : Line). IsNoteOf (names_of hosts) t (further entries.items report) (note_of l))
+result_tells hosts t entries report None is = tt
+result_tells hosts t entries report (Some l) is = (resolved_is hosts t entries report l (sym is)).tells
+
+pub result_whole : (hosts : List SeenHost) (t : ToldLine) (entries : Vec Entry Global) (report : Option Report) (o : Option Line) → o ≡ resolved hosts t entries report
+    → IfSome o (λ (l : Line). IsWholeNote hosts (note_of l))
+result_whole hosts t entries report None is = tt
+result_whole hosts t entries report (Some l) is = (resolved_is hosts t entries report l (sym is)).whole
+
+pub result_untold : (hosts : List SeenHost) (t : ToldLine) (entries : Vec Entry Global) (report : Option Report) (o : Option Line) → o ≡ resolved hosts t entries report
+    → IfSome o (λ (l : Line). untold_note (note_of l) ≡ note_of l)
+result_untold hosts t entries report None is = tt
+result_untold hosts t entries report (Some l) is = (resolved_is hosts t entries report l (sym is)).untold
