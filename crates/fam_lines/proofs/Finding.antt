@@ -1,5 +1,5 @@
 -- Of a note's own first line and what follows it, a line is resolved that tells the same.
-use Rattle.std.proofs.Common.{◌≡◌, ℕ, Bool, true, false, List, [], ◌∷◌, Option, Some, None, refl, ap, ap₂, sym, subst, ◌∙◌}
+use Rattle.std.proofs.Common.{◌≡◌, ℕ, Bool, true, List, [], ◌∷◌, Option, Some, None, refl, ap, ap₂, sym, subst, ◌∙◌}
 use Rattle.std.specs.Prelude.{MatchOption, Vec, if◌then◌else◌, option_map, slice_get}
 use Rattle.std.specs.Global.{Global}
 use Rattle.std.proofs.lemmas.Option.{slice_get-map}
@@ -14,7 +14,6 @@ use Rattle.fam_journal.specs.declared.refusal.Refusal.TheVariants as why
 use Rattle.fam_journal.specs.Notes as note
 use Rattle.fam_journal.specs.Notes.{Answer, Note}
 use Rattle.fam_outcomes.specs.Texts.{host_name}
-use Rattle.fam_history.specs.declared.command.ToldCommand.{ToldCommand}
 use Rattle.fam_history.specs.declared.note.ToldLine.{ToldLine}
 use Rattle.fam_history.specs.Told.{told_of_command}
 use Rattle.fam_history.specs.ToldAnswers.{answer_told}
@@ -22,13 +21,12 @@ use Rattle.fam_history.specs.ToldNotes.{AreDistinctNames, line_told, params_told
 use Rattle.fam_history.specs.ToldRefusals.{told_of_refusal}
 use Rattle.fam_judge.specs.Alike.{Begins, told_note}
 use Rattle.fam_judge.specs.Standing.{Face, OfFace}
-use Rattle.fam_lines.specs.declared.answer.HostAnswer.{HostAnswer}
 use Rattle.fam_lines.specs.declared.host.SeenHost.{SeenHost}
 use Rattle.fam_lines.specs.declared.line.Line.{Line}
 use Rattle.fam_lines.specs.declared.line.Line.TheVariants as line
 use Rattle.fam_lines.specs.Behind.{Further, IsNoteOf, IsWholeAnswer, IsWholeMade, IsWholeNote, behind_answer, behind_note, further, nothing}
 use Rattle.fam_lines.specs.Hosts.{face_of, faces_of, names_of}
-use Rattle.fam_lines.specs.Lines.{note_of, untold_of}
+use Rattle.fam_lines.specs.Lines.{note_of}
 use Rattle.fam_lines.specs.Named.{IsName, NamesHosts, NamesOther}
 use Rattle.fam_lines.specs.Resolved.{answer_with, answered_line, cause_of, is_told, lone, made_line, number_of, resolved, start_line, whole_params}
 use Rattle.fam_lines.proofs.Behind.{gives_own}
