@@ -3,3 +3,4 @@ pub mod Finding
 pub mod Numbers
 pub mod Telling
 pub mod Trees
+pub mod Whole
