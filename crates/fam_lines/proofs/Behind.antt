@@ -1,6 +1,6 @@
 -- An answer by its first line and what follows: it tells just that, and no other does.
 use Rattle.std.proofs.Common.{◌≡◌, ℕ, Bool, true, false, List, [], ◌∷◌, Option, Some, None, refl, ap, ap₂, sym, subst, ◌∙◌}
-use Rattle.std.specs.Prelude.{◌&&◌, Vec, if◌then◌else◌, is_none, is_some, not}
+use Rattle.std.specs.Prelude.{Vec, if◌then◌else◌, is_none, is_some, not}
 use Rattle.std.specs.FinMap as finmap
 use Rattle.std.specs.Global.{Global}
 use Rattle.std.proofs.lemmas.Option.{same_Some}
@@ -20,7 +20,8 @@ use Rattle.fam_lines.specs.declared.answer.HostAnswer.{HostAnswer}
 use Rattle.fam_lines.specs.declared.answer.HostAnswer.TheVariants as given
 use Rattle.fam_lines.specs.Behind.{Further, IsTreeOfEntries, IsWholeAnswer, NamesFirst, behind_answer, further, nothing}
 use Rattle.fam_lines.specs.Lines.{answer_of}
-use Rattle.fam_lines.specs.Resolved.{agrees, alone, answer_with, compared, is_bare, is_empty, is_whole_checked, names_first, played, reported, rise_behind}
+use Rattle.fam_lines.specs.Resolved.{agrees, alone, answer_with, compared, is_whole_checked, names_first, played, reported, rise_behind}
+use Rattle.fam_tree.specs.Keyed.{IsKeyed}
 use Rattle.fam_tree.specs.Runs.{InOrder}
 use Rattle.fam_lines.proofs.Trees.{in_order, keyed_replay, replayed_values, rises, tree_in_order, values_replayed}
 
@@ -146,7 +147,7 @@ gives_played : (m : ℕ) (tree : Tree) (entries : Vec Entry Global) (report : Op
     → IsTreeOfEntries tree → Gives (played m entries report) (Replied (reply.Played m tree))
 gives_played m tree entries report e whole =
     let parts = behind_is entries.items report _ e in
-    let keyed = subst (λ (t : Tree). Rattle.fam_tree.specs.Keyed.IsKeyed t) (sym whole.is) (keyed_replay whole.entries) in
+    let keyed = subst IsKeyed (sym whole.is) (keyed_replay whole.entries) in
     let order : InOrder entries.items = subst InOrder parts.0 (tree_in_order tree keyed) in
     record {
       answer = given.Played m entries;

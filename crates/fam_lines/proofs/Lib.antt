@@ -1,4 +1,6 @@
 pub mod Behind
+pub mod Finding
 pub mod Numbers
-pub mod Resolving
+pub mod Telling
 pub mod Trees
+pub mod Whole

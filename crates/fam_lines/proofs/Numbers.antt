@@ -1,5 +1,5 @@
 -- A host's name and its number.
-use Rattle.std.proofs.Common.{◌≡◌, ◌≢◌, ℕ, zero, suc, ◌+◌, ◌<◌, Bool, true, List, [], ◌∷◌, length, Option, Some, refl, ap, ap₂, sym, subst, ◌∙◌, arith}
+use Rattle.std.proofs.Common.{◌≡◌, ◌≢◌, ℕ, zero, suc, ◌+◌, ◌<◌, List, [], ◌∷◌, length, Option, Some, refl, ap, subst, ◌∙◌, arith}
 use Rattle.std.specs.Prelude.{IsTrue, slice_get, if◌then◌else◌}
 use Rattle.std.proofs.lemmas.Option.{same_Some}
 use Rattle.std.proofs.lemmas.Slice.Eq.{bytes_eq-Decides}
@@ -7,7 +7,6 @@ use Rattle.fam_base.specs.HostNames.{is_host_name}
 use Rattle.fam_base.specs.PathOrder.{path_eq}
 use Rattle.fam_journal.specs.Members.{index_from}
 use Rattle.fam_outcomes.specs.Texts.{host_name}
-use Rattle.fam_history.specs.Notes.{host_number}
 use Rattle.fam_history.specs.ToldNotes.{AreDistinctNames}
 use Rattle.fam_history.proofs.HostNumbers.{number_is}
 use Rattle.fam_judge.specs.Standing.{Face}

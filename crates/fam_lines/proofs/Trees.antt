@@ -1,5 +1,5 @@
 -- The tree of entries whose paths rise, and the entries of a tree.
-use Rattle.std.proofs.Common.{◌≡◌, ℕ, Bool, true, false, List, [], ◌∷◌, ◌++◌, map, Option, Some, None, refl, ap, ap₂, sym, subst, ◌∙◌, append_assoc}
+use Rattle.std.proofs.Common.{◌≡◌, ℕ, Bool, true, false, List, [], ◌∷◌, ◌++◌, map, Some, None, refl, ap, ap₂, sym, subst, ◌∙◌, append_assoc}
 use Rattle.std.specs.Prelude.{T, ◌&&◌, fold}
 use Rattle.std.specs.FinMap as finmap
 use Rattle.std.specs.FinMap.{is_sorted, put}
@@ -11,9 +11,9 @@ use Rattle.std.specs.declared.cmp.Ordering.TheVariants.{Less, Equal, Greater}
 use Rattle.fam_base.specs.declared.entry.Entry.{Entry}
 use Rattle.fam_base.specs.PathOrder.{path_cmp}
 use Rattle.fam_format.specs.Tree.{Tree, replay, with_entry}
-use Rattle.fam_tree.specs.Keyed.{IsKeyed, paths_of}
+use Rattle.fam_tree.specs.Keyed.{IsKeyed}
 use Rattle.fam_tree.specs.Runs.{AllAbove, InOrder, tree_of}
-use Rattle.fam_tree.proofs.Ordered.{above_weaker, below_held, cut_view, order_front, tree_is_keyed, tree_values}
+use Rattle.fam_tree.proofs.Ordered.{above_weaker, below_held, cut_view, tree_is_keyed, tree_values}
 use Rattle.fam_tree.proofs.Views.{path_cmp-IsAntisymmetric}
 use Rattle.fam_lines.specs.Resolved.{rise_behind}
 

@@ -1,5 +1,5 @@
 -- What follows the first line of a note, and which note a line with what follows it is.
-use Rattle.std.specs.Prelude.{ℕ, ⊤, ◌≡◌, Bool, true, false, List, [], Option, Some, None, is_some, slice_get, not}
+use Rattle.std.specs.Prelude.{ℕ, ⊤, ◌≡◌, List, [], Option, Some, None, is_some, slice_get, not}
 use Rattle.std.specs.FinMap as finmap
 use Rattle.fam_base.specs.declared.entry.Entry.{Entry}
 use Rattle.fam_base.specs.declared.entry.Params.{Params}
@@ -14,7 +14,7 @@ use Rattle.fam_history.specs.Answers.{none_differs}
 use Rattle.fam_history.specs.declared.note.ToldLine.{ToldLine}
 use Rattle.fam_history.specs.ToldNotes.{line_told}
 use Rattle.fam_judge.specs.Standing.{OfFace}
-use Rattle.fam_lines.specs.Hosts.{faces_of, names_of}
+use Rattle.fam_lines.specs.Hosts.{faces_of}
 use Rattle.fam_lines.specs.declared.host.SeenHost.{SeenHost}
 
 -- the further lines, as what they tell: entries, or a report

@@ -1,4 +1,5 @@
 pub mod Behind
 pub mod Hosts
 pub mod Lines
+pub mod Named
 pub mod Resolved

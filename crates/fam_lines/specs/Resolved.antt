@@ -1,5 +1,5 @@
 -- The line with numbers in place of names, case by case. `specs/Behind.antt` says what it has to be.
-use Rattle.std.specs.Prelude.{ℕ, ◌≡◌, ◌&&◌, Bool, true, false, List, [], ◌∷◌, Option, Some, None, Vec, if◌then◌else◌, is_none, not, option_map, slice_get}
+use Rattle.std.specs.Prelude.{ℕ, ◌&&◌, Bool, true, false, List, [], ◌∷◌, Option, Some, None, Vec, if◌then◌else◌, is_none, not, option_map, slice_get}
 use Rattle.std.specs.Global.{Global}
 use Rattle.std.specs.Ordering.{is_lt}
 use Rattle.fam_base.specs.declared.cmd.Cmd.{Cmd}

@@ -2,7 +2,7 @@
 
 ghost use Rattle.std.specs.Prelude.{◌≡◌, ◌≤◌, length, option_map};
 ghost use Rattle.fam_journal.specs.Calls.{host_limit};
-ghost use Rattle.fam_lines.specs.Resolved.{answered_line, cause_of, is_told, is_told_cmd, is_told_content, line_with, lone, made_line, number_of, resolved, start_line, whole_params};
+ghost use Rattle.fam_lines.specs.Resolved.{answered_line, cause_of, is_told, is_told_cmd, is_told_content, line_with, lone, made_line, number_of, start_line, whole_params};
 ghost use Rattle.fam_lines.specs.declared.line.Line.TheVariants as line;
 
 use crate::answer::HostAnswer;
@@ -11,7 +11,7 @@ use crate::host::{SeenHost, number_in};
 use crate::line::Line;
 use fam_base::{Cmd, Content, Entry, HostName, LineNo, Params};
 use fam_format::shape_of;
-use fam_history::{LineNote, ToldCommand, ToldLine, ToldParams, ToldRefusal};
+use fam_history::{LineNote, ToldCommand, ToldParams, ToldRefusal};
 use fam_journal::{HostId, Refusal};
 use fam_rules::Report;
 use uuid::Uuid;
@@ -206,7 +206,7 @@ fn lone(entries: &[Entry], report: &Option<Report>, line: Option<Line>) -> Optio
 }
 
 /// A line of the host of a name and number, by what is told and what follows.
-fn line_with(
+pub(crate) fn line_with(
     hosts: &[SeenHost],
     at: Option<usize>,
     name: HostName,

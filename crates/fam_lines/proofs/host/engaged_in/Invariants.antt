@@ -1,6 +1,5 @@
 use Rattle.std.proofs.Common.{◌≡◌, drop}
 use Rattle.std.specs.Prelude.{◌||◌}
-use Rattle.fam_base.specs.PathOrder.{path_eq}
 use Rattle.fam_judge.specs.Standing.{engaged_in}
 use Rattle.fam_journal.specs.Members.{index_from}
 use Rattle.fam_lines.specs.Hosts.{faces_of}

@@ -1,5 +1,4 @@
 use Rattle.std.proofs.Common.{◌≡◌, drop}
-use Rattle.std.specs.Prelude.{◌||◌}
 use Rattle.fam_base.specs.PathOrder.{path_eq}
 use Rattle.fam_judge.specs.Standing.{number_in}
 use Rattle.fam_journal.specs.Members.{index_from}

@@ -1,12 +1,11 @@
 -- A line that is resolved: it is of a note that tells just what is told, and of no other.
-use Rattle.std.proofs.Common.{◌≡◌, ℕ, Bool, true, false, List, [], ◌∷◌, length, Option, Some, None, refl, ap, ap₂, sym, subst, ◌∙◌}
-use Rattle.std.specs.Prelude.{IsTrue, Vec, if◌then◌else◌, option_map, replicate, slice_get}
+use Rattle.std.proofs.Common.{◌≡◌, ℕ, Bool, true, false, List, [], ◌∷◌, Option, Some, None, refl, ap, ap₂, sym, subst, ◌∙◌}
+use Rattle.std.specs.Prelude.{IfSome, Vec, if◌then◌else◌, option_map, replicate, slice_get}
 use Rattle.std.specs.Global.{Global}
 use Rattle.std.proofs.lemmas.List.{length-replicate}
 use Rattle.std.proofs.lemmas.Option.{same_Some, slice_get-map}
 use Rattle.fam_base.specs.declared.cmd.Cmd.{Cmd}
 use Rattle.fam_base.specs.declared.cmd.Cmd.TheVariants as cmd
-use Rattle.fam_base.specs.declared.cmd.Content.{Content}
 use Rattle.fam_base.specs.declared.cmd.Content.TheVariants as content
 use Rattle.fam_base.specs.declared.entry.Entry.{Entry}
 use Rattle.fam_rules.specs.declared.answers.Report.{Report}
@@ -14,7 +13,7 @@ use Rattle.fam_journal.specs.declared.refusal.Refusal.{Refusal}
 use Rattle.fam_journal.specs.declared.refusal.Refusal.TheVariants as why
 use Rattle.fam_journal.specs.Notes as note
 use Rattle.fam_journal.specs.Notes.{Note}
-use Rattle.fam_outcomes.specs.Texts.{host_name, name_of_note}
+use Rattle.fam_outcomes.specs.Texts.{host_name}
 use Rattle.fam_history.specs.declared.answer.ToldAnswer.{ToldAnswer}
 use Rattle.fam_history.specs.declared.command.ToldCommand.{ToldCommand}
 use Rattle.fam_history.specs.declared.command.ToldCommand.TheVariants as command
@@ -25,7 +24,7 @@ use Rattle.fam_history.specs.declared.note.ToldParams.{ToldParams}
 use Rattle.fam_history.specs.declared.refusal.ToldRefusal.{ToldRefusal}
 use Rattle.fam_history.specs.declared.refusal.ToldRefusal.TheVariants as refusal
 use Rattle.fam_history.specs.Told.{told_of_command}
-use Rattle.fam_history.specs.ToldNotes.{line_told, told_of_note}
+use Rattle.fam_history.specs.ToldNotes.{line_told}
 use Rattle.fam_history.specs.ToldRefusals.{told_of_refusal}
 use Rattle.fam_judge.specs.Standing.{Face, OfFace}
 use Rattle.fam_judge.specs.Untold.{untold, untold_cmd, untold_entry, untold_note}
@@ -36,7 +35,7 @@ use Rattle.fam_lines.specs.declared.line.Line.TheVariants as line
 use Rattle.fam_lines.specs.Behind.{IsNoteOf, IsWholeMade, IsWholeNote, further, behind_note, nothing}
 use Rattle.fam_lines.specs.Hosts.{face_of, faces_of, names_of}
 use Rattle.fam_lines.specs.Lines.{note_of, untold_of}
-use Rattle.fam_lines.specs.Resolved.{answer_with, answered_line, cause_of, is_bare, is_told, is_told_cmd, line_with, lone, made_line, number_of, resolved, start_line, whole_params}
+use Rattle.fam_lines.specs.Resolved.{answer_with, answered_line, cause_of, is_told, is_told_cmd, line_with, lone, made_line, number_of, resolved, start_line, whole_params}
 use Rattle.fam_lines.proofs.Behind.{answer_is}
 use Rattle.fam_lines.proofs.Numbers.{number_names}
 
@@ -251,3 +250,19 @@ pub resolved_is : (hosts : List SeenHost) (t : ToldLine) (entries : Vec Entry Gl
     → IsLine hosts t entries.items report l
 unfolding Is
 resolved_is hosts t entries report l is = line_is hosts t.name entries report t.note l is
+
+-- so it is of a result
+pub result_tells : (hosts : List SeenHost) (t : ToldLine) (entries : Vec Entry Global) (report : Option Report) (o : Option Line) → o ≡ resolved hosts t entries report
+    → IfSome o (λ (l : Line). IsNoteOf (names_of hosts) t (further entries.items report) (note_of l))
+result_tells hosts t entries report None is = tt
+result_tells hosts t entries report (Some l) is = (resolved_is hosts t entries report l (sym is)).tells
+
+pub result_whole : (hosts : List SeenHost) (t : ToldLine) (entries : Vec Entry Global) (report : Option Report) (o : Option Line) → o ≡ resolved hosts t entries report
+    → IfSome o (λ (l : Line). IsWholeNote hosts (note_of l))
+result_whole hosts t entries report None is = tt
+result_whole hosts t entries report (Some l) is = (resolved_is hosts t entries report l (sym is)).whole
+
+pub result_untold : (hosts : List SeenHost) (t : ToldLine) (entries : Vec Entry Global) (report : Option Report) (o : Option Line) → o ≡ resolved hosts t entries report
+    → IfSome o (λ (l : Line). untold_note (note_of l) ≡ note_of l)
+result_untold hosts t entries report None is = tt
+result_untold hosts t entries report (Some l) is = (resolved_is hosts t entries report l (sym is)).untold
