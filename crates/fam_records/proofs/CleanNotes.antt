@@ -1,5 +1,5 @@
 -- What is printed of a note has no control byte.
-use Rattle.std.proofs.Common.{◌≡◌, ℕ, ◌^◌, ◌<◌, Bool, true, false, cond, List, [], ◌∷◌, ◌++◌, length, Option, Some, None, codes, refl, ap, sym, ◌∙◌, arith, append_assoc, decimal}
+use Rattle.std.proofs.Common.{◌≡◌, ℕ, ◌^◌, ◌<◌, true, false, cond, List, [], ◌∷◌, ◌++◌, length, Option, Some, None, codes, refl, ap, sym, ◌∙◌, arith, append_assoc, decimal}
 use Rattle.std.specs.Prelude.{◌&&◌, ◌==◌, not}
 use Rattle.std.specs.List.{list_all}
 use Rattle.std.proofs.lemmas.Bool.{and_parts, true≢false}
@@ -13,7 +13,6 @@ use Rattle.fam_base.specs.declared.cmd.Stripe.{Stripe}
 use Rattle.fam_base.specs.declared.entry.Kind.{Kind}
 use Rattle.fam_base.specs.declared.entry.Kind.TheVariants.{File, Directory}
 use Rattle.fam_base.specs.declared.entry.Params.{Params}
-use Rattle.fam_base.specs.Commands.{read_limit}
 use Rattle.fam_base.specs.HostNames.{is_host_name, is_name_byte}
 use Rattle.fam_format.specs.declared.faults.LogField.{LogField}
 use Rattle.fam_format.specs.declared.faults.LogField.TheVariants as field
@@ -37,7 +36,7 @@ use Rattle.fam_journal.specs.declared.refusal.Refusal.{Refusal}
 use Rattle.fam_journal.specs.declared.refusal.Refusal.TheVariants as why
 use Rattle.fam_journal.specs.Notes.{Note, Host, Made, Cut, Start, Mark, Found, Writes, Answered, Stop, Halt, Umount, Refused}
 use Rattle.fam_grammar.specs.Words.{is_blank}
-use Rattle.fam_outcomes.specs.Texts.{against_text, attr_text, bad_text, cause_text, checked_text, cmd_text, format_text, host_name, kind_text, log_field_text, log_state_text, log_text, made_text, name_of_note, name_text, number, overlap_text, path_or_none, reason_text, refusal_text, seed_text, slot_text, stripe_text, super_field_text, super_state_text, super_text}
+use Rattle.fam_outcomes.specs.Texts.{against_text, bad_text, cause_text, checked_text, cmd_text, format_text, host_name, kind_text, log_field_text, log_state_text, log_text, made_text, name_of_note, number, overlap_text, path_or_none, reason_text, refusal_text, seed_text, slot_text, stripe_text, super_field_text, super_state_text, super_text}
 use Rattle.fam_history.specs.declared.answer.ToldAnswer.{ToldAnswer}
 use Rattle.fam_history.specs.declared.answer.ToldAnswer.TheVariants as given
 use Rattle.fam_history.specs.Told.{IfTellingStripe, IsTelling, IsTellingAttr, IsTellingContent, IsTellingFill}

@@ -6,7 +6,7 @@ use Rattle.fam_tree.specs.Listings.{text_lines}
 use Rattle.fam_tree.proofs.Cutting.{back_shorter, lines_more, no_lines}
 use Rattle.fam_grammar.specs.Scripts.{AreEvent, AreNoEvent, words_in}
 use Rattle.fam_grammar.specs.Words.{Word}
-use Rattle.fam_records.specs.Lines.{ALine, NextLine, NoLine, is_passed, next_from, numbered_line}
+use Rattle.fam_records.specs.Lines.{ALine, NoLine, is_passed, next_from, numbered_line}
 
 is_none : (words : List Word) → AreNoEvent words → is_passed words ≡ true
 is_none [] none = refl

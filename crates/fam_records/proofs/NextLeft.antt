@@ -1,22 +1,19 @@
 -- A history is its next note, and the history of the lines behind that.
-use Rattle.std.proofs.Common.{◌≡◌, ℕ, zero, suc, ◌+◌, ◌<◌, ◌≤◌, Bool, true, false, cond, List, [], ◌∷◌, length, Option, Some, None, Result, Ok, Err, refl, ap, sym, subst, ◌∙◌, arith}
+use Rattle.std.proofs.Common.{◌≡◌, ℕ, zero, suc, ◌+◌, ◌<◌, ◌≤◌, true, false, cond, List, [], ◌∷◌, length, Option, Some, None, Result, Ok, Err, refl, ap, sym, ◌∙◌, arith}
 use Rattle.std.specs.Prelude.{⊤}
-use Rattle.fam_base.specs.declared.entry.Entry.{Entry}
 use Rattle.fam_grammar.specs.declared.fault.LineFault.{LineFault}
 use Rattle.fam_grammar.specs.declared.fault.LineFault.TheVariants.{BadLine, OutOfMemory}
 use Rattle.fam_grammar.specs.declared.words.Line.{Line}
 use Rattle.fam_grammar.specs.Reading.{Reading, Reads, Misfit}
 use Rattle.fam_grammar.specs.Scripts.{words_in}
 use Rattle.fam_grammar.specs.Words.{Word}
-use Rattle.fam_rules.specs.declared.answers.Report.{Report}
-use Rattle.fam_history.specs.declared.note.ToldLine.{ToldLine}
 use Rattle.fam_history.specs.ListedEntries.{listed_entry}
 use Rattle.fam_history.specs.Notes.{history_line}
 use Rattle.fam_history.specs.ReportLines.{bad_entry_line, files_line, log_state_line, overlap_line, past_line, superblock_line, units_line}
 use Rattle.fam_records.specs.declared.record.Further.{Further}
 use Rattle.fam_records.specs.declared.record.Further.TheVariants as further
 use Rattle.fam_records.specs.declared.record.Record.{Record}
-use Rattle.fam_records.specs.Histories.{BeginsWith, History, history_by, history_left, history_up_to, left_behind, no_history, seen_if, with_record}
+use Rattle.fam_records.specs.Histories.{BeginsWith, history_by, history_left, history_up_to, left_behind, no_history, seen_if, with_record}
 use Rattle.fam_records.specs.Lines.{ALine, Left, NextLine, NoLine, is_passed, next_from, next_line, numbered_line}
 use Rattle.fam_records.specs.Records.{Recorded, entries_of, further_lines, further_of, next_record, record_by, record_of, report_of}
 use Rattle.fam_records.specs.Taken.{Bad, Gives, Taken, Takes, line_by, one_line, taken_as, then_takes}

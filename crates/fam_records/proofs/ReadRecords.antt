@@ -1,5 +1,5 @@
 -- The notes of a journal's text are read as what is told of them.
-use Rattle.std.proofs.Common.{◌≡◌, ℕ, true, zero, suc, ◌+◌, ◌<◌, List, [], ◌∷◌, ◌++◌, length, map, Option, Some, None, codes, refl, ap, ap₂, sym, subst, ◌∙◌, arith, append-nil, append_assoc}
+use Rattle.std.proofs.Common.{◌≡◌, ℕ, true, ◌+◌, List, [], ◌∷◌, ◌++◌, length, map, Option, Some, None, codes, refl, ap, ap₂, sym, ◌∙◌, arith, append-nil}
 use Rattle.std.specs.Prelude.{All}
 use Rattle.std.specs.FinMap as finmap
 use Rattle.std.specs.List.{flat_map}
@@ -19,7 +19,7 @@ use Rattle.fam_tree.specs.Lines.{entry_line, listing, listing_line}
 use Rattle.fam_tree.specs.Listings.{IsListed, text_lines}
 use Rattle.fam_tree.proofs.Cutting.{no_lines}
 use Rattle.fam_grammar.specs.Words.{words_from}
-use Rattle.fam_journal.specs.Notes.{Answer, Replied, MediaFault, Note, Answered}
+use Rattle.fam_journal.specs.Notes.{Replied, MediaFault, Note, Answered}
 use Rattle.fam_outcomes.specs.Texts.{bad_text, line, log_state_text, names_after, note_line, number, overlap_text, render, render_behind, super_state_text}
 use Rattle.fam_history.specs.ListedEntries.{listed_entry}
 use Rattle.fam_history.specs.Notes.{history_line}

@@ -1,8 +1,6 @@
 -- A note as a history tells it, of its lines: the first, and those of a listing or of a report.
 use Rattle.std.specs.Prelude.{ℕ, zero, suc, List, [], ◌∷◌, Option, Some, None}
 use Rattle.fam_base.specs.declared.entry.Entry.{Entry}
-use Rattle.fam_grammar.specs.declared.words.Line.{Line}
-use Rattle.fam_grammar.specs.Words.{Word}
 use Rattle.fam_rules.specs.declared.answers.Report.{Report}
 use Rattle.fam_history.specs.declared.answer.ToldAnswer.{ToldAnswer}
 use Rattle.fam_history.specs.declared.answer.ToldAnswer.TheVariants as given
