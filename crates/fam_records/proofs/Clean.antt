@@ -73,6 +73,7 @@ escape_clean byte = by (is_plain byte) refl
   where
     plain : is_plain byte ≡ true → nat_le 32 byte ≡ true
     plain is = grind (arith, nat_tests)
+
     by : (t : Bool) → is_plain byte ≡ t → is_clean (cond t (byte ∷ []) (0x5c ∷ 0x78 ∷ hex_digit (byte / 16) ∷ hex_digit (byte % 16) ∷ [])) ≡ true
     by true is = more byte [] (plain is) refl
     by false is = byte_clean byte

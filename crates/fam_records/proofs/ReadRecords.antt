@@ -231,9 +231,11 @@ module _ (names : List (List ℕ)) (note : Note) (is : IsTellingRecord names not
   note_lines : (rest : List ℕ) → text_lines (note_line names note ++ rest) ≡ head_line names note ∷ (texts_of (further_told note) ++ text_lines rest)
   note_lines rest =
       ap (λ (l : List ℕ). text_lines (l ++ rest)) (note_prints names note ∙ ap (λ (l : List ℕ). line (head_line names note) ++ l) (more_prints note))
-      ∙ lines_are (head_line names note ∷ texts_of (further_told note)) rest
-      (head_printed names note is.first, printed-append (map entry_line (further_told note).0) (texts_if (further_told note).1)
-      (entries_printed (further_told note).0 is.entries) (report_printed_if (further_told note).1 is.report))
+      ∙ lines_are (head_line names note ∷ texts_of (further_told note)) rest (
+        head_printed names note is.first,
+        printed-append (map entry_line (further_told note).0) (texts_if (further_told note).1)
+            (entries_printed (further_told note).0 is.entries) (report_printed_if (further_told note).1 is.report),
+      )
 
   -- are read as what is told of it
   note_read : (n : ℕ) (lines : List (List ℕ)) → next_record (from n (head_line names note ∷ (texts_of (further_told note) ++ lines)))

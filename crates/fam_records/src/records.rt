@@ -256,7 +256,11 @@ impl<'a> Records<'a> {
     }
 
     /// The lines that follow a note's first one.
-    fn further(&mut self, alloc: Global, further: Further) -> Result<(Vec<Entry>, Option<Report>), LineFault>
+    fn further(
+        &mut self,
+        alloc: Global,
+        further: Further,
+    ) -> Result<(Vec<Entry>, Option<Report>), LineFault>
         requires room { HasRoom self.old }
         ensures value { Gives (λ p. (p.0.items, p.1)) (lines_left self.new) result (further_lines further (lines_left self.old)) }
         ensures room { HasRoom self.new }
