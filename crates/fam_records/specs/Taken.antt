@@ -17,6 +17,12 @@ abbrev pub then_takes : {A B : Type 0} → Taken A → (A → Left → Taken B) 
 then_takes (Takes value left) next = next value left
 then_takes (Bad number column) next = Bad number column
 
+-- two things, one behind the other
+abbrev pub both_of : {A B : Type 0} → (Left → Taken A) → (Left → Taken B) → Left → Taken (A × B)
+both_of first second left =
+    then_takes (first left) (λ a rest.
+    then_takes (second rest) (λ b behind. Takes (a, b) behind))
+
 -- what the words of a line read as
 abbrev pub taken_as : {A : Type 0} → Line → Left → Reading A → Taken A
 taken_as line left (Reads value rest) = Takes value left
