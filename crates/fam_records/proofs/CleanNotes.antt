@@ -132,31 +132,38 @@ slot_clean seq why is = simp (clean-append, number_clean seq is.0, reason_clean 
 
 -- Reports.
 
+-- what a report says of the superblock is clean
 pub super_state_clean : (s : SuperState) → IsTellingSuperState s → is_clean (super_state_text s) ≡ true
 super_state_clean superblock.Sound is = refl
 super_state_clean (superblock.NoSuper word) is = super_clean (NoSuper word) is
 super_state_clean (superblock.BadSuper f found wanted) is = super_clean (BadSuper f found wanted) is
 
+-- what it says of the log is clean
 pub log_state_clean : (s : LogState) → IsTellingLogState s → is_clean (log_state_text s) ≡ true
 log_state_clean (log.Sound entries slots) is = simp (clean-append, number_clean entries is.0, number_clean slots is.1) refl
 log_state_clean (log.BadLog f found wanted) is = log_clean (BadLog f found wanted) is
 log_state_clean log.Unread is = refl
 
+-- its line of files and directories is clean
 pub files_clean : (files directories : ℕ) → files < 2 ^ 64 → directories < 2 ^ 64
     → is_clean (codes "files" ++ number files ++ codes " directories" ++ number directories) ≡ true
 files_clean files directories first second = simp (clean-append, number_clean files first, number_clean directories second) refl
 
+-- its line of units is clean
 pub units_clean : (used unused : ℕ) → used < 2 ^ 64 → unused < 2 ^ 64 → is_clean (codes "units used" ++ number used ++ codes " free" ++ number unused) ≡ true
 units_clean used unused first second = simp (clean-append, number_clean used first, number_clean unused second) refl
 
+-- its line of two entries that overlap is clean
 pub overlap_clean : (pair : Option (ℕ × ℕ)) → IfTellingPair pair → is_clean (overlap_text pair) ≡ true
 overlap_clean None is = refl
 overlap_clean (Some pair) is = simp (clean-append, number_clean pair.0 is.0, number_clean pair.1 is.1) refl
 
+-- its line of the first bad entry is clean
 pub bad_clean : (bad : Option (ℕ × Reason)) → IfTellingSlot bad → is_clean (bad_text bad) ≡ true
 bad_clean None is = refl
 bad_clean (Some bad) is = slot_clean bad.0 bad.1 is
 
+-- its line of slots past the gate is clean
 pub past_clean : (n : ℕ) → n < 2 ^ 64 → is_clean (codes "past gate" ++ number n) ≡ true
 past_clean n small = number_clean n small
 

@@ -21,6 +21,7 @@ pub none_left : (bytes : List ℕ) → length bytes ≡ 0 → text_lines bytes �
 none_left [] none = no_lines
 none_left (byte ∷ bytes) none = absurd (omega (arith, none))
 
+-- so there is no next one
 pub no_line : (number : ℕ) (bytes : List ℕ) → length bytes ≡ 0 → next_from number (text_lines bytes) ≡ NoLine number
 no_line number bytes none = ap (next_from number) (none_left bytes none)
 

@@ -73,6 +73,7 @@ module _ (text : List ℕ) (is : IsPrinted text) where
       some [] = omega arith
       some (byte ∷ bytes) = omega arith
 
+  -- it is the next line
   pub next_is : (number : ℕ) (lines : List (List ℕ)) → next_line (record { number = number; lines = text ∷ lines })
       ≡ ALine (record { number = number; end = length text + 1 }) (words_from 1 text) (record { number = number + 1; lines = lines })
   next_is number lines =
@@ -94,6 +95,7 @@ abbrev pub ArePrinted : List (List ℕ) → Type 0
 ArePrinted [] = Unit {0}
 ArePrinted (text ∷ texts) = IsPrinted text × ArePrinted texts
 
+-- they are the first lines
 pub lines_are : (texts : List (List ℕ)) (rest : List ℕ) → ArePrinted texts → text_lines (flat_map line texts ++ rest) ≡ texts ++ text_lines rest
 lines_are [] rest are = refl
 lines_are (text ∷ texts) rest are =
