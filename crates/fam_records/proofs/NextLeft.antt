@@ -140,6 +140,7 @@ same_up_to (suc n) (suc m) left few other =
 
 left_by : (n count : ℕ) (said : Taken (Option Recorded)) → count ≤ suc n → IsFewer count said
     → history_by said (history_up_to n (left_behind said)) ≡ history_by said (history_left (left_behind said))
+unfolding history_left
 left_by n count (Takes None left) few fewer = refl
 left_by n count (Takes (Some first) left) few fewer =
     ap (with_record first) (same_up_to n (length left.lines) left (omega (arith, few, fewer)) (omega arith))
@@ -147,6 +148,7 @@ left_by n count (Bad number column) few fewer = refl
 
 -- the next note, and the notes of the lines behind it
 pub next_left : (left : Left) → history_left left ≡ history_by (next_record left) (history_left (left_behind (next_record left)))
+unfolding history_left
 next_left left =
     same_up_to (length left.lines) (suc (length left.lines)) left (omega arith) (omega arith)
     ∙ left_by (length left.lines) (length left.lines) (next_record left) (omega arith) (next_fewer left)

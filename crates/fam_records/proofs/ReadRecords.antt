@@ -267,6 +267,7 @@ module _ (names : List (List ℕ)) (note : Note) (is : IsTellingRecord names not
 -- the text of notes is read as what is told of them, wherever it begins
 pub notes_read : (names : List (List ℕ)) (notes : List Note) (n : ℕ) → AreTellingRecords names notes
     → history_left (from n (text_lines (render_behind names notes))) ≡ record { records = records_told n names notes; bad = None }
+unfolding history_left
 notes_read names [] n are = ap (λ l. history_left (from n l)) no_lines
 notes_read names (note ∷ notes) n are =
     let behind : List ℕ = render_behind (names_after names note) notes in

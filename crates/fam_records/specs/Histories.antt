@@ -43,7 +43,7 @@ history_up_to zero left = no_history
 history_up_to (suc n) left = history_by (next_record left) (history_up_to n (left_behind (next_record left)))
 
 -- all notes of the lines that are left: they are no more than the lines
-abbrev pub history_left : Left → History
+unfoldable pub history_left : Left → History
 history_left left = history_up_to (length left.lines) left
 
 -- the lines of a text
