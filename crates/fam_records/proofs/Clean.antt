@@ -1,5 +1,5 @@
 -- Texts without control bytes: no line feed ends their line early, and no carriage return ends them.
-use Rattle.std.proofs.Common.{◌≡◌, ℕ, zero, suc, ◌+◌, ◌/◌, ◌%◌, ◌^◌, ◌<◌, Bool, true, false, cond, List, [], ◌∷◌, ◌++◌, map, refl, ap, ap₂, sym, ◌∙◌, arith, decimal}
+use Rattle.std.proofs.Common.{◌≡◌, ℕ, zero, suc, ◌+◌, ◌/◌, ◌%◌, ◌^◌, ◌<◌, Bool, true, false, cond, List, [], ◌∷◌, ◌++◌, map, refl, ap, ap₂, ◌∙◌, arith, decimal}
 use Rattle.std.specs.Prelude.{◌&&◌, nat_le, if◌then◌else◌}
 use Rattle.std.specs.List.{AllByRecursion, flat_map, list_all, join_with_byte}
 use Rattle.std.specs.Int.Digits.{digits_of}
@@ -26,6 +26,7 @@ abbrev pub is_clean : List ℕ → Bool
 is_clean [] = true
 is_clean (byte ∷ bytes) = nat_le 32 byte && is_clean bytes
 
+-- a text is clean where its parts are
 pub clean-append : (a b : List ℕ) → is_clean (a ++ b) ≡ is_clean a && is_clean b
 clean-append [] b = refl
 clean-append (byte ∷ bytes) b = ap (λ (t : Bool). nat_le 32 byte && t) (clean-append bytes b) ∙ assoc (nat_le 32 byte) (is_clean bytes) (is_clean b)
@@ -34,10 +35,11 @@ clean-append (byte ∷ bytes) b = ap (λ (t : Bool). nat_le 32 byte && t) (clean
     assoc true y z = refl
     assoc false y z = refl
 
+-- two clean texts are a clean one
 pub both : (a b : List ℕ) → is_clean a ≡ true → is_clean b ≡ true → is_clean (a ++ b) ≡ true
 both a b first second = clean-append a b ∙ ap₂ (λ (x y : Bool). x && y) first second
 
-pub more : (byte : ℕ) (bytes : List ℕ) → nat_le 32 byte ≡ true → is_clean bytes ≡ true → is_clean (byte ∷ bytes) ≡ true
+more : (byte : ℕ) (bytes : List ℕ) → nat_le 32 byte ≡ true → is_clean bytes ≡ true → is_clean (byte ∷ bytes) ≡ true
 more byte bytes first rest = ap₂ (λ (x y : Bool). x && y) first rest
 
 -- Numbers.
@@ -46,6 +48,7 @@ digits_clean : (ds : List ℕ) → AllByRecursion (λ d. d < 10) ds → is_clean
 digits_clean [] all = refl
 digits_clean (d ∷ ds) all = more (48 + d) (map (λ d. 48 + d) ds) (grind (arith, nat_tests)) (digits_clean ds all.1)
 
+-- a number in decimal is clean
 pub number_clean : (n : ℕ) → n < 2 ^ 64 → is_clean (decimal n) ≡ true
 number_clean zero fits = ap is_clean (decimal_digit 0 (omega arith))
 number_clean (suc n) fits =
@@ -56,6 +59,7 @@ number_clean (suc n) fits =
 digit_clean : (n : ℕ) → nat_le 32 (hex_digit n) ≡ true
 digit_clean n = grind (arith, nat_tests)
 
+-- the two digits of a byte are clean
 pub byte_clean : (byte : ℕ) → is_clean (byte_text byte) ≡ true
 byte_clean byte =
     more (hex_digit (byte / 16)) (hex_digit (byte % 16) ∷ []) (digit_clean (byte / 16)) (more (hex_digit (byte % 16)) [] (digit_clean (byte % 16)) refl)
@@ -64,6 +68,7 @@ flat_clean : (f : ℕ → List ℕ) (bytes : List ℕ) → ((byte : ℕ) → is_
 flat_clean f [] each = refl
 flat_clean f (byte ∷ bytes) each = both (f byte) (flat_map f bytes) (each byte) (flat_clean f bytes each)
 
+-- so are bytes in print
 pub bytes_clean : (bytes : List ℕ) → is_clean (bytes_text bytes) ≡ true
 bytes_clean [] = refl
 bytes_clean (byte ∷ bytes) = flat_clean byte_text (byte ∷ bytes) byte_clean
@@ -73,10 +78,12 @@ escape_clean byte = by (is_plain byte) refl
   where
     plain : is_plain byte ≡ true → nat_le 32 byte ≡ true
     plain is = grind (arith, nat_tests)
+
     by : (t : Bool) → is_plain byte ≡ t → is_clean (cond t (byte ∷ []) (0x5c ∷ 0x78 ∷ hex_digit (byte / 16) ∷ hex_digit (byte % 16) ∷ [])) ≡ true
     by true is = more byte [] (plain is) refl
     by false is = byte_clean byte
 
+-- a name with its escapes is clean
 pub name_clean : (bytes : List ℕ) → is_clean (escaped bytes) ≡ true
 unfolding escaped
 name_clean bytes = flat_clean escaped_byte bytes escape_clean
@@ -90,6 +97,7 @@ place_clean : (t : Bool) (d : ℕ) → nat_le 32 (if t then 45 else uuid_digit l
 place_clean true d = refl
 place_clean false d = grind (arith, nat_tests)
 
+-- a UUID in print is clean
 pub uuid_clean : (id : List ℕ) → is_clean (hyphenated_text lower id) ≡ true
 uuid_clean id =
     indexed_clean 36 (λ k. if is_hyphen_place k then 45 else uuid_digit lower (nibble id (digit_place k))) (λ k. place_clean (is_hyphen_place k) (nibble id (digit_place k)))
@@ -105,12 +113,14 @@ bytes_of_name (byte ∷ bytes) all =
     here : (b : ℕ) → is_name_byte b ≡ true → nat_le 32 b ≡ true
     here b is = grind (arith, nat_tests)
 
+-- a host's name is clean
 pub host_clean : (name : List ℕ) → is_host_name name ≡ true → is_clean name ≡ true
 unfolding is_host_name
 host_clean name is = bytes_of_name name (grind (arith, nat_tests))
 
 -- Entries.
 
+-- a mode in print is clean
 pub mode_clean : (m : ℕ) → is_clean (mode_text m) ≡ true
 mode_clean m =
     more (octal_digit (m / 512)) (octal_digit (m / 64) ∷ octal_digit (m / 8) ∷ octal_digit m ∷ []) (octal (m / 512))
@@ -149,6 +159,7 @@ joined_clean [] clean = refl
 joined_clean (text ∷ []) clean = clean.0
 joined_clean (text ∷ next ∷ texts) clean = both text (32 ∷ join_with_byte 32 (next ∷ texts)) clean.0 (joined_clean (next ∷ texts) clean.1)
 
+-- an entry in print is clean
 pub entry_clean : (e : Entry) → IsListed e → is_clean (entry_line e) ≡ true
 unfolding entry_line AreClean
 entry_clean e is = joined_clean (entry_words e) (

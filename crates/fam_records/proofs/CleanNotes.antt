@@ -1,5 +1,5 @@
 -- What is printed of a note has no control byte.
-use Rattle.std.proofs.Common.{◌≡◌, ℕ, ◌^◌, ◌<◌, Bool, true, false, cond, List, [], ◌∷◌, ◌++◌, length, Option, Some, None, codes, refl, ap, sym, ◌∙◌, arith, append_assoc, decimal}
+use Rattle.std.proofs.Common.{◌≡◌, ℕ, ◌^◌, ◌<◌, true, false, cond, List, [], ◌∷◌, ◌++◌, length, Option, Some, None, codes, refl, ap, sym, ◌∙◌, arith, append_assoc, decimal}
 use Rattle.std.specs.Prelude.{◌&&◌, ◌==◌, not}
 use Rattle.std.specs.List.{list_all}
 use Rattle.std.proofs.lemmas.Bool.{and_parts, true≢false}
@@ -13,7 +13,6 @@ use Rattle.fam_base.specs.declared.cmd.Stripe.{Stripe}
 use Rattle.fam_base.specs.declared.entry.Kind.{Kind}
 use Rattle.fam_base.specs.declared.entry.Kind.TheVariants.{File, Directory}
 use Rattle.fam_base.specs.declared.entry.Params.{Params}
-use Rattle.fam_base.specs.Commands.{read_limit}
 use Rattle.fam_base.specs.HostNames.{is_host_name, is_name_byte}
 use Rattle.fam_format.specs.declared.faults.LogField.{LogField}
 use Rattle.fam_format.specs.declared.faults.LogField.TheVariants as field
@@ -37,7 +36,7 @@ use Rattle.fam_journal.specs.declared.refusal.Refusal.{Refusal}
 use Rattle.fam_journal.specs.declared.refusal.Refusal.TheVariants as why
 use Rattle.fam_journal.specs.Notes.{Note, Host, Made, Cut, Start, Mark, Found, Writes, Answered, Stop, Halt, Umount, Refused}
 use Rattle.fam_grammar.specs.Words.{is_blank}
-use Rattle.fam_outcomes.specs.Texts.{against_text, attr_text, bad_text, cause_text, checked_text, cmd_text, format_text, host_name, kind_text, log_field_text, log_state_text, log_text, made_text, name_of_note, name_text, number, overlap_text, path_or_none, reason_text, refusal_text, seed_text, slot_text, stripe_text, super_field_text, super_state_text, super_text}
+use Rattle.fam_outcomes.specs.Texts.{against_text, bad_text, cause_text, checked_text, cmd_text, format_text, host_name, kind_text, log_field_text, log_state_text, log_text, made_text, name_of_note, number, overlap_text, path_or_none, reason_text, refusal_text, seed_text, slot_text, stripe_text, super_field_text, super_state_text, super_text}
 use Rattle.fam_history.specs.declared.answer.ToldAnswer.{ToldAnswer}
 use Rattle.fam_history.specs.declared.answer.ToldAnswer.TheVariants as given
 use Rattle.fam_history.specs.Told.{IfTellingStripe, IsTelling, IsTellingAttr, IsTellingContent, IsTellingFill}
@@ -133,31 +132,38 @@ slot_clean seq why is = simp (clean-append, number_clean seq is.0, reason_clean 
 
 -- Reports.
 
+-- what a report says of the superblock is clean
 pub super_state_clean : (s : SuperState) → IsTellingSuperState s → is_clean (super_state_text s) ≡ true
 super_state_clean superblock.Sound is = refl
 super_state_clean (superblock.NoSuper word) is = super_clean (NoSuper word) is
 super_state_clean (superblock.BadSuper f found wanted) is = super_clean (BadSuper f found wanted) is
 
+-- what it says of the log is clean
 pub log_state_clean : (s : LogState) → IsTellingLogState s → is_clean (log_state_text s) ≡ true
 log_state_clean (log.Sound entries slots) is = simp (clean-append, number_clean entries is.0, number_clean slots is.1) refl
 log_state_clean (log.BadLog f found wanted) is = log_clean (BadLog f found wanted) is
 log_state_clean log.Unread is = refl
 
+-- its line of files and directories is clean
 pub files_clean : (files directories : ℕ) → files < 2 ^ 64 → directories < 2 ^ 64
     → is_clean (codes "files" ++ number files ++ codes " directories" ++ number directories) ≡ true
 files_clean files directories first second = simp (clean-append, number_clean files first, number_clean directories second) refl
 
+-- its line of units is clean
 pub units_clean : (used unused : ℕ) → used < 2 ^ 64 → unused < 2 ^ 64 → is_clean (codes "units used" ++ number used ++ codes " free" ++ number unused) ≡ true
 units_clean used unused first second = simp (clean-append, number_clean used first, number_clean unused second) refl
 
+-- its line of two entries that overlap is clean
 pub overlap_clean : (pair : Option (ℕ × ℕ)) → IfTellingPair pair → is_clean (overlap_text pair) ≡ true
 overlap_clean None is = refl
 overlap_clean (Some pair) is = simp (clean-append, number_clean pair.0 is.0, number_clean pair.1 is.1) refl
 
+-- its line of the first bad entry is clean
 pub bad_clean : (bad : Option (ℕ × Reason)) → IfTellingSlot bad → is_clean (bad_text bad) ≡ true
 bad_clean None is = refl
 bad_clean (Some bad) is = slot_clean bad.0 bad.1 is
 
+-- its line of slots past the gate is clean
 pub past_clean : (n : ℕ) → n < 2 ^ 64 → is_clean (codes "past gate" ++ number n) ≡ true
 past_clean n small = number_clean n small
 

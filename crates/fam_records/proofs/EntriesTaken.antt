@@ -18,6 +18,7 @@ none_before : (said : Taken (List Entry)) → said ≡ onto [] said
 none_before (Takes entries left) = refl
 none_before (Bad number column) = refl
 
+-- before the first entry
 pub none_taken : (count : ℕ) (first : Left) (entries : List Entry) → entries ≡ [] → HasTaken count first entries count first
 none_taken count first entries none =
     none_before (entries_of count first) ∙ ap (λ (es : List Entry). onto es (entries_of count first)) (sym none)

@@ -6,7 +6,7 @@ use Rattle.fam_tree.specs.Listings.{text_lines}
 use Rattle.fam_tree.proofs.Cutting.{back_shorter, lines_more, no_lines}
 use Rattle.fam_grammar.specs.Scripts.{AreEvent, AreNoEvent, words_in}
 use Rattle.fam_grammar.specs.Words.{Word}
-use Rattle.fam_records.specs.Lines.{ALine, NextLine, NoLine, is_passed, next_from, numbered_line}
+use Rattle.fam_records.specs.Lines.{ALine, NoLine, is_passed, next_from, numbered_line}
 
 is_none : (words : List Word) → AreNoEvent words → is_passed words ≡ true
 is_none [] none = refl
@@ -21,6 +21,7 @@ pub none_left : (bytes : List ℕ) → length bytes ≡ 0 → text_lines bytes �
 none_left [] none = no_lines
 none_left (byte ∷ bytes) none = absurd (omega (arith, none))
 
+-- so there is no next one
 pub no_line : (number : ℕ) (bytes : List ℕ) → length bytes ≡ 0 → next_from number (text_lines bytes) ≡ NoLine number
 no_line number bytes none = ap (next_from number) (none_left bytes none)
 

@@ -1,25 +1,22 @@
 -- A history is its next note, and the history of the lines behind that.
-use Rattle.std.proofs.Common.{◌≡◌, ℕ, zero, suc, ◌+◌, ◌<◌, ◌≤◌, Bool, true, false, cond, List, [], ◌∷◌, length, Option, Some, None, Result, Ok, Err, refl, ap, sym, subst, ◌∙◌, arith}
+use Rattle.std.proofs.Common.{◌≡◌, ℕ, zero, suc, ◌+◌, ◌<◌, ◌≤◌, true, false, cond, List, [], ◌∷◌, length, Option, Some, None, Result, Ok, Err, refl, ap, sym, ◌∙◌, arith}
 use Rattle.std.specs.Prelude.{⊤}
-use Rattle.fam_base.specs.declared.entry.Entry.{Entry}
 use Rattle.fam_grammar.specs.declared.fault.LineFault.{LineFault}
 use Rattle.fam_grammar.specs.declared.fault.LineFault.TheVariants.{BadLine, OutOfMemory}
 use Rattle.fam_grammar.specs.declared.words.Line.{Line}
 use Rattle.fam_grammar.specs.Reading.{Reading, Reads, Misfit}
 use Rattle.fam_grammar.specs.Scripts.{words_in}
 use Rattle.fam_grammar.specs.Words.{Word}
-use Rattle.fam_rules.specs.declared.answers.Report.{Report}
-use Rattle.fam_history.specs.declared.note.ToldLine.{ToldLine}
 use Rattle.fam_history.specs.ListedEntries.{listed_entry}
 use Rattle.fam_history.specs.Notes.{history_line}
 use Rattle.fam_history.specs.ReportLines.{bad_entry_line, files_line, log_state_line, overlap_line, past_line, superblock_line, units_line}
 use Rattle.fam_records.specs.declared.record.Further.{Further}
 use Rattle.fam_records.specs.declared.record.Further.TheVariants as further
 use Rattle.fam_records.specs.declared.record.Record.{Record}
-use Rattle.fam_records.specs.Histories.{BeginsWith, History, history_by, history_left, history_up_to, left_behind, no_history, seen_if, with_record}
+use Rattle.fam_records.specs.Histories.{BeginsWith, history_by, history_left, history_up_to, left_behind, no_history, seen_if, with_record}
 use Rattle.fam_records.specs.Lines.{ALine, Left, NextLine, NoLine, is_passed, next_from, next_line, numbered_line}
-use Rattle.fam_records.specs.Records.{Recorded, entries_of, further_lines, further_of, next_record, record_by, record_of, report_of}
-use Rattle.fam_records.specs.Taken.{Bad, Gives, Taken, Takes, line_by, one_line, taken_as, then_takes}
+use Rattle.fam_records.specs.Records.{Recorded, counts_of, damage_of, entries_of, further_lines, further_of, next_record, record_by, record_of, report_of, states_of}
+use Rattle.fam_records.specs.Taken.{Bad, Gives, Taken, Takes, both_of, line_by, one_line, taken_as, then_takes}
 
 -- at most so many lines are left behind what is read
 abbrev IsWithin : {A : Type 0} → ℕ → Taken A → Type 0
@@ -69,16 +66,22 @@ entries_within most (suc n) left few =
     then_within most (one_line listed_entry left) _ (one_within most listed_entry left few) (λ entry rest less.
     then_within most (entries_of n rest) _ (entries_within most n rest less) (λ entries behind last. last))
 
+both_within : {A B : Type 0} (most : ℕ) (first : Left → Taken A) (second : Left → Taken B) (left : Left) → length left.lines ≤ most
+    → ((l : Left) → length l.lines ≤ most → IsWithin most (first l)) → ((l : Left) → length l.lines ≤ most → IsWithin most (second l))
+    → IsWithin most (both_of first second left)
+both_within most first second left few one other =
+    then_within most (first left) _ (one left few) (λ a rest less. then_within most (second rest) _ (other rest less) (λ b behind last. last))
+
 report_within : (most : ℕ) (left : Left) → length left.lines ≤ most → IsWithin most (report_of left)
 unfolding report_of
 report_within most left few =
-    then_within most (one_line superblock_line left) _ (one_within most superblock_line left few) (λ superblock rest less.
-    then_within most (one_line log_state_line rest) _ (one_within most log_state_line rest less) (λ log rest less.
-    then_within most (one_line files_line rest) _ (one_within most files_line rest less) (λ files rest less.
-    then_within most (one_line units_line rest) _ (one_within most units_line rest less) (λ units rest less.
-    then_within most (one_line overlap_line rest) _ (one_within most overlap_line rest less) (λ overlap rest less.
-    then_within most (one_line bad_entry_line rest) _ (one_within most bad_entry_line rest less) (λ bad rest less.
-    then_within most (one_line past_line rest) _ (one_within most past_line rest less) (λ past behind last. last)))))))
+    then_within most (states_of left) _ (both_within most (one_line superblock_line) (one_line log_state_line) left few
+    (one_within most superblock_line) (one_within most log_state_line)) (λ states rest less.
+    then_within most (counts_of rest) _ (both_within most (one_line files_line) (one_line units_line) rest less
+    (one_within most files_line) (one_within most units_line)) (λ counts rest less.
+    then_within most (damage_of rest) _ (both_within most (one_line overlap_line) (one_line bad_entry_line) rest less
+    (one_within most overlap_line) (one_within most bad_entry_line)) (λ damage rest less.
+    then_within most (one_line past_line rest) _ (one_within most past_line rest less) (λ past behind last. last))))
 
 further_within : (most : ℕ) (more : Further) (left : Left) → length left.lines ≤ most → IsWithin most (further_lines more left)
 further_within most further.Nothing left few = few
@@ -137,6 +140,7 @@ same_up_to (suc n) (suc m) left few other =
 
 left_by : (n count : ℕ) (said : Taken (Option Recorded)) → count ≤ suc n → IsFewer count said
     → history_by said (history_up_to n (left_behind said)) ≡ history_by said (history_left (left_behind said))
+unfolding history_left
 left_by n count (Takes None left) few fewer = refl
 left_by n count (Takes (Some first) left) few fewer =
     ap (with_record first) (same_up_to n (length left.lines) left (omega (arith, few, fewer)) (omega arith))
@@ -144,6 +148,7 @@ left_by n count (Bad number column) few fewer = refl
 
 -- the next note, and the notes of the lines behind it
 pub next_left : (left : Left) → history_left left ≡ history_by (next_record left) (history_left (left_behind (next_record left)))
+unfolding history_left
 next_left left =
     same_up_to (length left.lines) (suc (length left.lines)) left (omega arith) (omega arith)
     ∙ left_by (length left.lines) (length left.lines) (next_record left) (omega arith) (next_fewer left)

@@ -1,19 +1,18 @@
 -- Lines that are printed are read one by one.
-use Rattle.std.proofs.Common.{◌≡◌, ◌≢◌, ℕ, zero, suc, ◌+◌, ◌-◌, ◌<◌, Bool, true, false, cond, List, [], ◌∷◌, ◌++◌, length, take, refl, ap, ap₂, sym, subst, ◌∙◌, arith, append_assoc}
+use Rattle.std.proofs.Common.{◌≡◌, ℕ, zero, suc, ◌+◌, ◌-◌, ◌<◌, Bool, true, false, cond, List, [], ◌∷◌, ◌++◌, length, take, refl, ap, ap₂, sym, ◌∙◌, arith, append_assoc}
 use Rattle.std.specs.Prelude.{◌&&◌, ◌==◌, not, nat_le, slice_index}
 use Rattle.std.specs.List.{flat_map}
 use Rattle.std.proofs.lemmas.Bool.{and_parts, ne_eqb, true≢false}
 use Rattle.std.proofs.lemmas.Bool.Decides.{nat_tests}
 use Rattle.fam_tree.specs.Lines.{line_feed}
 use Rattle.fam_tree.specs.Listings.{text_lines}
-use Rattle.fam_tree.proofs.Cutting.{back_found, front_found, lines_more, no_lines}
+use Rattle.fam_tree.proofs.Cutting.{back_found, front_found, lines_more}
 use Rattle.fam_tree.proofs.Printed.{No}
 use Rattle.fam_grammar.specs.Reading.{Reading, Reads}
-use Rattle.fam_grammar.specs.Scripts.{end_of_line, words_in}
 use Rattle.fam_grammar.specs.Words.{Word, is_blank, short_word, with_byte, without_return, words_from}
 use Rattle.fam_outcomes.specs.Texts.{line}
-use Rattle.fam_records.specs.Lines.{ALine, Left, NextLine, is_passed, next_line, numbered_line}
-use Rattle.fam_records.specs.Taken.{Taken, Takes, line_by, one_line, taken_as}
+use Rattle.fam_records.specs.Lines.{ALine, is_passed, next_line}
+use Rattle.fam_records.specs.Taken.{Takes, line_by, one_line, taken_as}
 use Rattle.fam_records.proofs.Clean.{is_clean}
 
 no_byte : (c : ℕ) → c < 32 → (text : List ℕ) → is_clean text ≡ true → No c text
@@ -74,6 +73,7 @@ module _ (text : List ℕ) (is : IsPrinted text) where
       some [] = omega arith
       some (byte ∷ bytes) = omega arith
 
+  -- it is the next line
   pub next_is : (number : ℕ) (lines : List (List ℕ)) → next_line (record { number = number; lines = text ∷ lines })
       ≡ ALine (record { number = number; end = length text + 1 }) (words_from 1 text) (record { number = number + 1; lines = lines })
   next_is number lines =
@@ -95,6 +95,7 @@ abbrev pub ArePrinted : List (List ℕ) → Type 0
 ArePrinted [] = Unit {0}
 ArePrinted (text ∷ texts) = IsPrinted text × ArePrinted texts
 
+-- they are the first lines
 pub lines_are : (texts : List (List ℕ)) (rest : List ℕ) → ArePrinted texts → text_lines (flat_map line texts ++ rest) ≡ texts ++ text_lines rest
 lines_are [] rest are = refl
 lines_are (text ∷ texts) rest are =

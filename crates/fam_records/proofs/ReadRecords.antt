@@ -1,5 +1,5 @@
 -- The notes of a journal's text are read as what is told of them.
-use Rattle.std.proofs.Common.{◌≡◌, ℕ, true, zero, suc, ◌+◌, ◌<◌, List, [], ◌∷◌, ◌++◌, length, map, Option, Some, None, codes, refl, ap, ap₂, sym, subst, ◌∙◌, arith, append-nil, append_assoc}
+use Rattle.std.proofs.Common.{◌≡◌, ℕ, true, ◌+◌, List, [], ◌∷◌, ◌++◌, length, map, Option, Some, None, codes, refl, ap, ap₂, sym, ◌∙◌, arith, append-nil}
 use Rattle.std.specs.Prelude.{All}
 use Rattle.std.specs.FinMap as finmap
 use Rattle.std.specs.List.{flat_map}
@@ -19,7 +19,7 @@ use Rattle.fam_tree.specs.Lines.{entry_line, listing, listing_line}
 use Rattle.fam_tree.specs.Listings.{IsListed, text_lines}
 use Rattle.fam_tree.proofs.Cutting.{no_lines}
 use Rattle.fam_grammar.specs.Words.{words_from}
-use Rattle.fam_journal.specs.Notes.{Answer, Replied, MediaFault, Note, Answered}
+use Rattle.fam_journal.specs.Notes.{Replied, MediaFault, Note, Answered}
 use Rattle.fam_outcomes.specs.Texts.{bad_text, line, log_state_text, names_after, note_line, number, overlap_text, render, render_behind, super_state_text}
 use Rattle.fam_history.specs.ListedEntries.{listed_entry}
 use Rattle.fam_history.specs.Notes.{history_line}
@@ -33,8 +33,8 @@ use Rattle.fam_history.proofs.PrintedReports.{bad_reads, files_read, log_reads, 
 use Rattle.fam_records.specs.declared.record.Further.TheVariants as further
 use Rattle.fam_records.specs.Lines.{Left}
 use Rattle.fam_records.specs.Histories.{history_by, history_left, history_of, left_behind, with_record}
-use Rattle.fam_records.specs.Records.{entries_of, further_lines, further_of, further_of_answer, next_record, record_by, record_of, report_of}
-use Rattle.fam_records.specs.Taken.{Taken, Takes, one_line, taken_as, then_takes}
+use Rattle.fam_records.specs.Records.{counts_of, damage_of, entries_of, further_lines, further_of, further_of_answer, next_record, record_by, record_of, report_of, states_of}
+use Rattle.fam_records.specs.Taken.{Taken, Takes, both_of, one_line, taken_as, then_takes}
 use Rattle.fam_records.specs.ToldRecords.{AreTellingRecords, IfTellingReport, IsCounted, IsTellingRecord, IsTellingReport, further_told, lines_of_note, record_told, records_told, reply_further, report_lines}
 use Rattle.fam_records.proofs.Clean.{entry_clean}
 use Rattle.fam_records.proofs.CleanNotes.{bad_clean, files_clean, head_printed, log_state_clean, overlap_clean, past_clean, super_state_clean, units_clean}
@@ -123,6 +123,12 @@ report_printed r is = (
 )
 
 -- they are read one by one, each with the number that its place gives
+both_is : {A B : Type 0} (first : Left → Taken A) (second : Left → Taken B) (start middle last : Left) (a : A) (b : B) → first start ≡ Takes a middle
+    → second middle ≡ Takes b last → both_of first second start ≡ Takes (a, b) last
+both_is first second start middle last a b one other =
+    then_is (first start) (λ a rest. then_takes (second rest) (λ b behind. Takes (a, b) behind)) a middle (Takes (a, b) last) one
+    (then_is (second middle) (λ b behind. Takes (a, b) behind) b last (Takes (a, b) last) other refl)
+
 report_read : (r : Report) (n : ℕ) (lines : List (List ℕ)) → IsTellingReport r → report_of (from n (report_texts r ++ lines)) ≡ Takes r (from (n + 7) lines)
 unfolding report_of
 report_read r n lines is =
@@ -134,27 +140,30 @@ report_read r n lines is =
     let f = e.1 in
     let g = f.1 in
     let same : n + 1 + 1 + 1 + 1 + 1 + 1 + 1 ≡ n + 7 = omega arith in
-    let l6 : List (List ℕ) = (codes "past gate" ++ number r.past) ∷ lines in
-    let l5 : List (List ℕ) = (bad_text r.bad) ∷ l6 in
-    let l4 : List (List ℕ) = (overlap_text r.overlap) ∷ l5 in
-    let l3 : List (List ℕ) = (codes "units used" ++ number r.used ++ codes " free" ++ number r.free) ∷ l4 in
-    let l2 : List (List ℕ) = (codes "files" ++ number r.files ++ codes " directories" ++ number r.directories) ∷ l3 in
-    let l1 : List (List ℕ) = (log_state_text r.log) ∷ l2 in
-    then_is (one_line superblock_line (from (n) ((super_state_text r.superblock) ∷ l1))) _ r.superblock (from (n + 1) l1) _
-    (line_read (super_state_text r.superblock) a.0 superblock_line r.superblock (n) l1 (super_reads 1 (length (super_state_text r.superblock) + 1) r.superblock is.superblock))
-    (then_is (one_line log_state_line (from (n + 1) ((log_state_text r.log) ∷ l2))) _ r.log (from (n + 1 + 1) l2) _
-    (line_read (log_state_text r.log) b.0 log_state_line r.log (n + 1) l2 (log_reads 1 (length (log_state_text r.log) + 1) r.log is.log))
-    (then_is (one_line files_line (from (n + 1 + 1) ((codes "files" ++ number r.files ++ codes " directories" ++ number r.directories) ∷ l3))) _ (r.files, r.directories) (from (n + 1 + 1 + 1) l3) _
-    (line_read (codes "files" ++ number r.files ++ codes " directories" ++ number r.directories) c.0 files_line (r.files, r.directories) (n + 1 + 1) l3 (files_read 1 (length (codes "files" ++ number r.files ++ codes " directories" ++ number r.directories) + 1) r.files r.directories is.files is.directories))
-    (then_is (one_line units_line (from (n + 1 + 1 + 1) ((codes "units used" ++ number r.used ++ codes " free" ++ number r.free) ∷ l4))) _ (r.used, r.free) (from (n + 1 + 1 + 1 + 1) l4) _
-    (line_read (codes "units used" ++ number r.used ++ codes " free" ++ number r.free) d.0 units_line (r.used, r.free) (n + 1 + 1 + 1) l4 (units_read 1 (length (codes "units used" ++ number r.used ++ codes " free" ++ number r.free) + 1) r.used r.free is.used is.unused))
-    (then_is (one_line overlap_line (from (n + 1 + 1 + 1 + 1) ((overlap_text r.overlap) ∷ l5))) _ r.overlap (from (n + 1 + 1 + 1 + 1 + 1) l5) _
-    (line_read (overlap_text r.overlap) e.0 overlap_line r.overlap (n + 1 + 1 + 1 + 1) l5 (overlap_reads 1 (length (overlap_text r.overlap) + 1) r.overlap is.overlap))
-    (then_is (one_line bad_entry_line (from (n + 1 + 1 + 1 + 1 + 1) ((bad_text r.bad) ∷ l6))) _ r.bad (from (n + 1 + 1 + 1 + 1 + 1 + 1) l6) _
-    (line_read (bad_text r.bad) f.0 bad_entry_line r.bad (n + 1 + 1 + 1 + 1 + 1) l6 (bad_reads 1 (length (bad_text r.bad) + 1) r.bad is.bad))
-    (then_is (one_line past_line (from (n + 1 + 1 + 1 + 1 + 1 + 1) ((codes "past gate" ++ number r.past) ∷ lines))) _ r.past (from (n + 1 + 1 + 1 + 1 + 1 + 1 + 1) lines) _
-    (line_read (codes "past gate" ++ number r.past) g.0 past_line r.past (n + 1 + 1 + 1 + 1 + 1 + 1) lines (past_reads 1 (length (codes "past gate" ++ number r.past) + 1) r.past is.past))
-    (ap (λ (k : ℕ). Takes r (from k lines)) same)))))))
+    let files : List ℕ = codes "files" ++ number r.files ++ codes " directories" ++ number r.directories in
+    let units : List ℕ = codes "units used" ++ number r.used ++ codes " free" ++ number r.free in
+    let past : List ℕ = codes "past gate" ++ number r.past in
+    let l6 : List (List ℕ) = past ∷ lines in
+    let l5 : List (List ℕ) = bad_text r.bad ∷ l6 in
+    let l4 : List (List ℕ) = overlap_text r.overlap ∷ l5 in
+    let l3 : List (List ℕ) = units ∷ l4 in
+    let l2 : List (List ℕ) = files ∷ l3 in
+    let l1 : List (List ℕ) = log_state_text r.log ∷ l2 in
+    then_is (states_of (from n (super_state_text r.superblock ∷ l1))) _ (r.superblock, r.log) (from (n + 1 + 1) l2) _
+    (both_is (one_line superblock_line) (one_line log_state_line) (from n (super_state_text r.superblock ∷ l1)) (from (n + 1) l1) (from (n + 1 + 1) l2) r.superblock r.log
+    (line_read (super_state_text r.superblock) a.0 superblock_line r.superblock n l1 (super_reads 1 _ r.superblock is.superblock))
+    (line_read (log_state_text r.log) b.0 log_state_line r.log (n + 1) l2 (log_reads 1 _ r.log is.log)))
+    (then_is (counts_of (from (n + 1 + 1) l2)) _ ((r.files, r.directories), (r.used, r.free)) (from (n + 1 + 1 + 1 + 1) l4) _
+    (both_is (one_line files_line) (one_line units_line) (from (n + 1 + 1) l2) (from (n + 1 + 1 + 1) l3) (from (n + 1 + 1 + 1 + 1) l4) (r.files, r.directories) (r.used, r.free)
+    (line_read files c.0 files_line (r.files, r.directories) (n + 1 + 1) l3 (files_read 1 _ r.files r.directories is.files is.directories))
+    (line_read units d.0 units_line (r.used, r.free) (n + 1 + 1 + 1) l4 (units_read 1 _ r.used r.free is.used is.unused)))
+    (then_is (damage_of (from (n + 1 + 1 + 1 + 1) l4)) _ (r.overlap, r.bad) (from (n + 1 + 1 + 1 + 1 + 1 + 1) l6) _
+    (both_is (one_line overlap_line) (one_line bad_entry_line) (from (n + 1 + 1 + 1 + 1) l4) (from (n + 1 + 1 + 1 + 1 + 1) l5) (from (n + 1 + 1 + 1 + 1 + 1 + 1) l6) r.overlap r.bad
+    (line_read (overlap_text r.overlap) e.0 overlap_line r.overlap (n + 1 + 1 + 1 + 1) l5 (overlap_reads 1 _ r.overlap is.overlap))
+    (line_read (bad_text r.bad) f.0 bad_entry_line r.bad (n + 1 + 1 + 1 + 1 + 1) l6 (bad_reads 1 _ r.bad is.bad)))
+    (then_is (one_line past_line (from (n + 1 + 1 + 1 + 1 + 1 + 1) l6)) _ r.past (from (n + 1 + 1 + 1 + 1 + 1 + 1 + 1) lines) _
+    (line_read past g.0 past_line r.past (n + 1 + 1 + 1 + 1 + 1 + 1) lines (past_reads 1 _ r.past is.past))
+    (ap (λ (k : ℕ). Takes r (from k lines)) same))))
 
 -- Notes.
 
@@ -231,9 +240,11 @@ module _ (names : List (List ℕ)) (note : Note) (is : IsTellingRecord names not
   note_lines : (rest : List ℕ) → text_lines (note_line names note ++ rest) ≡ head_line names note ∷ (texts_of (further_told note) ++ text_lines rest)
   note_lines rest =
       ap (λ (l : List ℕ). text_lines (l ++ rest)) (note_prints names note ∙ ap (λ (l : List ℕ). line (head_line names note) ++ l) (more_prints note))
-      ∙ lines_are (head_line names note ∷ texts_of (further_told note)) rest
-      (head_printed names note is.first, printed-append (map entry_line (further_told note).0) (texts_if (further_told note).1)
-      (entries_printed (further_told note).0 is.entries) (report_printed_if (further_told note).1 is.report))
+      ∙ lines_are (head_line names note ∷ texts_of (further_told note)) rest (
+        head_printed names note is.first,
+        printed-append (map entry_line (further_told note).0) (texts_if (further_told note).1)
+            (entries_printed (further_told note).0 is.entries) (report_printed_if (further_told note).1 is.report),
+      )
 
   -- are read as what is told of it
   note_read : (n : ℕ) (lines : List (List ℕ)) → next_record (from n (head_line names note ∷ (texts_of (further_told note) ++ lines)))
@@ -253,8 +264,10 @@ module _ (names : List (List ℕ)) (note : Note) (is : IsTellingRecord names not
 
 -- Journals.
 
+-- the text of notes is read as what is told of them, wherever it begins
 pub notes_read : (names : List (List ℕ)) (notes : List Note) (n : ℕ) → AreTellingRecords names notes
     → history_left (from n (text_lines (render_behind names notes))) ≡ record { records = records_told n names notes; bad = None }
+unfolding history_left
 notes_read names [] n are = ap (λ l. history_left (from n l)) no_lines
 notes_read names (note ∷ notes) n are =
     let behind : List ℕ = render_behind (names_after names note) notes in

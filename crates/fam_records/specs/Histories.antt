@@ -43,7 +43,7 @@ history_up_to zero left = no_history
 history_up_to (suc n) left = history_by (next_record left) (history_up_to n (left_behind (next_record left)))
 
 -- all notes of the lines that are left: they are no more than the lines
-abbrev pub history_left : Left → History
+unfoldable pub history_left : Left → History
 history_left left = history_up_to (length left.lines) left
 
 -- the lines of a text
@@ -82,8 +82,7 @@ lines_left r = record { number = r.number; lines = text_lines r.rest.now }
 abbrev pub HasRoom : Records → Type 0
 HasRoom r = r.number + length r.rest.now < 2 ^ 64
 
--- a history begins with the note that was read, and the other is what stands behind it; or it is none, or a bad line. That no
--- memory is left says nothing of it
+-- a history is the note that was read and what stands behind it; or it has no note, or a bad line; no memory says nothing of it
 abbrev pub BeginsWith : History → History → Result (Option Record) LineFault → Type 0
 BeginsWith history behind (Ok None) = history ≡ no_history
 BeginsWith history behind (Ok (Some first)) = history ≡ with_record (seen first) behind

@@ -1,9 +1,10 @@
 -- A note as a history tells it, of its lines: the first, and those of a listing or of a report.
 use Rattle.std.specs.Prelude.{ℕ, zero, suc, List, [], ◌∷◌, Option, Some, None}
 use Rattle.fam_base.specs.declared.entry.Entry.{Entry}
-use Rattle.fam_grammar.specs.declared.words.Line.{Line}
-use Rattle.fam_grammar.specs.Words.{Word}
+use Rattle.fam_format.specs.declared.faults.Reason.{Reason}
+use Rattle.fam_rules.specs.declared.answers.LogState.{LogState}
 use Rattle.fam_rules.specs.declared.answers.Report.{Report}
+use Rattle.fam_rules.specs.declared.answers.SuperState.{SuperState}
 use Rattle.fam_history.specs.declared.answer.ToldAnswer.{ToldAnswer}
 use Rattle.fam_history.specs.declared.answer.ToldAnswer.TheVariants as given
 use Rattle.fam_history.specs.declared.note.LineNote.{LineNote}
@@ -15,7 +16,7 @@ use Rattle.fam_history.specs.ReportLines.{bad_entry_line, files_line, log_state_
 use Rattle.fam_records.specs.declared.record.Further.{Further}
 use Rattle.fam_records.specs.declared.record.Further.TheVariants as further
 use Rattle.fam_records.specs.Lines.{ALine, Left, NextLine, NoLine, next_line}
-use Rattle.fam_records.specs.Taken.{Taken, Takes, one_line, taken_as, then_takes}
+use Rattle.fam_records.specs.Taken.{Taken, Takes, both_of, one_line, taken_as, then_takes}
 
 -- a note: the number of its first line, what that line tells, the entries of its listing, and its report
 pub record Recorded : Type 0 where
@@ -65,27 +66,36 @@ entries_of (suc n) left =
     then_takes (one_line listed_entry left) (λ entry rest.
     then_takes (entries_of n rest) (λ entries behind. Takes (entry ∷ entries) behind))
 
+-- what a report says of the superblock and of the log
+abbrev pub states_of : Left → Taken (SuperState × LogState)
+states_of = both_of (one_line superblock_line) (one_line log_state_line)
+
+-- its files and directories, and its units that are used and that are free
+abbrev pub counts_of : Left → Taken ((ℕ × ℕ) × (ℕ × ℕ))
+counts_of = both_of (one_line files_line) (one_line units_line)
+
+-- two entries that overlap, and the first bad one
+abbrev pub damage_of : Left → Taken (Option (ℕ × ℕ) × Option (ℕ × Reason))
+damage_of = both_of (one_line overlap_line) (one_line bad_entry_line)
+
 -- the seven other lines of a report
 unfoldable pub report_of : Left → Taken Report
 report_of left =
-    then_takes (one_line superblock_line left) (λ superblock rest.
-    then_takes (one_line log_state_line rest) (λ log rest.
-    then_takes (one_line files_line rest) (λ files rest.
-    then_takes (one_line units_line rest) (λ units rest.
-    then_takes (one_line overlap_line rest) (λ overlap rest.
-    then_takes (one_line bad_entry_line rest) (λ bad rest.
+    then_takes (states_of left) (λ states rest.
+    then_takes (counts_of rest) (λ counts rest.
+    then_takes (damage_of rest) (λ damage rest.
     then_takes (one_line past_line rest) (λ past behind.
     Takes (record {
-      superblock = superblock;
-      log = log;
-      files = files.0;
-      directories = files.1;
-      used = units.0;
-      free = units.1;
-      overlap = overlap;
-      bad = bad;
+      superblock = states.0;
+      log = states.1;
+      files = counts.0.0;
+      directories = counts.0.1;
+      used = counts.1.0;
+      free = counts.1.1;
+      overlap = damage.0;
+      bad = damage.1;
       past = past;
-    }) behind)))))))
+    }) behind))))
 
 -- the lines that follow: a listing, a report, or none
 abbrev pub further_lines : Further → Left → Taken (List Entry × Option Report)

@@ -17,13 +17,18 @@ abbrev pub then_takes : {A B : Type 0} → Taken A → (A → Left → Taken B) 
 then_takes (Takes value left) next = next value left
 then_takes (Bad number column) next = Bad number column
 
+-- two things, one behind the other
+abbrev pub both_of : {A B : Type 0} → (Left → Taken A) → (Left → Taken B) → Left → Taken (A × B)
+both_of first second left =
+    then_takes (first left) (λ a rest.
+    then_takes (second rest) (λ b behind. Takes (a, b) behind))
+
 -- what the words of a line read as
 abbrev pub taken_as : {A : Type 0} → Line → Left → Reading A → Taken A
 taken_as line left (Reads value rest) = Takes value left
 taken_as line left (Misfit column) = Bad line.number column
 
--- the next line as a grammar reads its words. Where none is left, the line behind the last one is bad in its first column: a
--- listing or a report ends too early
+-- the next line as a grammar reads its words; where a text ends too early, the line behind its last one is bad in its first column
 abbrev pub line_by : {A : Type 0} → (ℕ → List Word → Reading A) → NextLine → Taken A
 line_by grammar (NoLine number) = Bad number 1
 line_by grammar (ALine line words left) = taken_as line left (grammar line.end words)
@@ -32,8 +37,7 @@ line_by grammar (ALine line words left) = taken_as line left (grammar line.end w
 abbrev pub one_line : {A : Type 0} → (ℕ → List Word → Reading A) → Left → Taken A
 one_line grammar left = line_by grammar (next_line left)
 
--- a call gives what is read, of which this is seen, and leaves the lines behind it; or it names the bad line. That no memory is
--- left says nothing of the lines
+-- a call gives what is read, seen so, and leaves the lines behind it; or it names the bad line; no memory says nothing of the lines
 abbrev pub Gives : {A B : Type 0} → (A → B) → Left → Result A LineFault → Taken B → Type 0
 Gives view left (Ok value) said = said ≡ Takes (view value) left
 Gives view left (Err (BadLine number column)) said = said ≡ Bad number column

@@ -8,7 +8,7 @@ ghost use Rattle.fam_history.specs.ListedEntries.{listed_entry};
 ghost use Rattle.fam_history.specs.ReportLines.{bad_entry_line, files_line, log_state_line, overlap_line, past_line, superblock_line, units_line};
 ghost use Rattle.fam_records.specs.Histories.{BeginsWith, HasRoom, history_left, history_of, lines_left, seen_if};
 ghost use Rattle.fam_records.specs.Read.{IsExpectedLine, IsNextLine};
-ghost use Rattle.fam_records.specs.Records.{entries_of, further_lines, further_of, further_of_answer, next_record, record_of, report_of};
+ghost use Rattle.fam_records.specs.Records.{counts_of, damage_of, entries_of, further_lines, further_of, further_of_answer, next_record, record_of, report_of, states_of};
 ghost use Rattle.fam_records.specs.Taken.{Gives, one_line};
 
 use crate::record::{Further, Record};
@@ -189,6 +189,39 @@ impl<'a> Records<'a> {
         }
     }
 
+    /// What a report says of the superblock and of the log.
+    fn states(&mut self) -> Result<(SuperState, LogState), LineFault>
+        requires room { HasRoom self.old }
+        ensures value { Gives (λ x. x) (lines_left self.new) result (states_of (lines_left self.old)) }
+        ensures room { HasRoom self.new }
+    {
+        let superblock = self.superblock()?;
+        let log = self.log()?;
+        Ok((superblock, log))
+    }
+
+    /// Its files and directories, and its units that are used and that are free.
+    fn counts(&mut self) -> Result<((u64, u64), (u64, u64)), LineFault>
+        requires room { HasRoom self.old }
+        ensures value { Gives (λ x. x) (lines_left self.new) result (counts_of (lines_left self.old)) }
+        ensures room { HasRoom self.new }
+    {
+        let files = self.files()?;
+        let units = self.units()?;
+        Ok((files, units))
+    }
+
+    /// Two entries that overlap, and the first bad one.
+    fn damage(&mut self) -> Result<(Option<(u64, u64)>, Option<(u64, Reason)>), LineFault>
+        requires room { HasRoom self.old }
+        ensures value { Gives (λ x. x) (lines_left self.new) result (damage_of (lines_left self.old)) }
+        ensures room { HasRoom self.new }
+    {
+        let overlap = self.overlap()?;
+        let bad = self.bad_entry()?;
+        Ok((overlap, bad))
+    }
+
     /// The seven other lines of a report.
     #[tactic(auto, unfolding(crate::specs::Records::report_of))]
     fn report(&mut self) -> Result<Report, LineFault>
@@ -196,34 +229,10 @@ impl<'a> Records<'a> {
         ensures value { Gives (λ x. x) (lines_left self.new) result (report_of (lines_left self.old)) }
         ensures room { HasRoom self.new }
     {
-        let superblock = match self.superblock() {
-            Ok(read) => read,
-            Err(fault) => return Err(fault),
-        };
-        let log = match self.log() {
-            Ok(read) => read,
-            Err(fault) => return Err(fault),
-        };
-        let (files, directories) = match self.files() {
-            Ok(read) => read,
-            Err(fault) => return Err(fault),
-        };
-        let (used, free) = match self.units() {
-            Ok(read) => read,
-            Err(fault) => return Err(fault),
-        };
-        let overlap = match self.overlap() {
-            Ok(read) => read,
-            Err(fault) => return Err(fault),
-        };
-        let bad = match self.bad_entry() {
-            Ok(read) => read,
-            Err(fault) => return Err(fault),
-        };
-        let past = match self.past() {
-            Ok(read) => read,
-            Err(fault) => return Err(fault),
-        };
+        let (superblock, log) = self.states()?;
+        let ((files, directories), (used, free)) = self.counts()?;
+        let (overlap, bad) = self.damage()?;
+        let past = self.past()?;
         Ok(Report {
             superblock,
             log,
@@ -256,7 +265,11 @@ impl<'a> Records<'a> {
     }
 
     /// The lines that follow a note's first one.
-    fn further(&mut self, alloc: Global, further: Further) -> Result<(Vec<Entry>, Option<Report>), LineFault>
+    fn further(
+        &mut self,
+        alloc: Global,
+        further: Further,
+    ) -> Result<(Vec<Entry>, Option<Report>), LineFault>
         requires room { HasRoom self.old }
         ensures value { Gives (λ p. (p.0.items, p.1)) (lines_left self.new) result (further_lines further (lines_left self.old)) }
         ensures room { HasRoom self.new }

@@ -1,4 +1,4 @@
-use Rattle.std.proofs.Common.{◌≡◌, ◌<◌, ◌++◌, ◌∷◌, [], arith, rules}
+use Rattle.std.proofs.Common.{◌≡◌, ◌<◌, ◌++◌, ◌∷◌, [], rules}
 use Rattle.fam_records.specs.Histories.{lines_left}
 use Rattle.fam_records.proofs.EntriesTaken.{more_taken}
 use Rattle.fam_records.proofs.records.Records.entries.Goals as goal

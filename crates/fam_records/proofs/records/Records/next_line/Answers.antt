@@ -1,4 +1,4 @@
-use Rattle.std.proofs.Common.{◌≡◌, ℕ, ◌<◌, ◌+◌, List, length, ap₂, refl, sym, ◌∙◌, rules}
+use Rattle.std.proofs.Common.{◌≡◌, ◌<◌, ◌+◌, List, length, ap₂, refl, sym, ◌∙◌, rules}
 use Rattle.fam_grammar.specs.declared.words.Line.{Line}
 use Rattle.fam_grammar.specs.Words.{Word}
 use Rattle.fam_records.specs.Histories.{lines_left}
