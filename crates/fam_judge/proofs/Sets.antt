@@ -12,7 +12,7 @@ use Rattle.fam_judge.specs.Explained.{IsExplained}
 use Rattle.fam_judge.specs.Fitting.{Fits}
 use Rattle.fam_judge.specs.Possible.{Elsewhere, IsPossible, Leads, LeadsTo, Possible, Steps, Wrote, after, as_is, first_possible, past_in, settled_by, shapes_in, written}
 use Rattle.fam_judge.specs.Shows.{ShowsJournal, is_inner}
-use Rattle.fam_judge.specs.Standing.{MayStand}
+use Rattle.fam_judge.specs.Standing.{MayStand, faces}
 use Rattle.fam_judge.specs.Untold.{untold_note, untold_notes}
 use Rattle.fam_judge.proofs.Completing.{over_apart}
 use Rattle.fam_judge.proofs.Folding.{behind_both, behind_more}
@@ -23,16 +23,17 @@ use Rattle.fam_judge.proofs.OverHosts.{IsApart}
 use Rattle.fam_judge.proofs.OverLate.{inner_over}
 use Rattle.fam_judge.proofs.OverLines.{line_follows}
 use Rattle.fam_judge.proofs.Showing.{first_line, parts, shows_both, skipped}
-use Rattle.fam_judge.proofs.Staying.{late_stays}
+use Rattle.fam_judge.proofs.OverPlain.{faces_over}
+use Rattle.fam_judge.proofs.Staying.{faces_pre, late_stays}
 use Rattle.fam_judge.proofs.Untelling.{alike_untold}
 
 -- Lists of notes.
 
-fitting_front : (start : Image) (c : Possible) (a b : List Note) → AreFitting start c (a ++ b) → AreFitting start c a
+pub fitting_front : (start : Image) (c : Possible) (a b : List Note) → AreFitting start c (a ++ b) → AreFitting start c a
 fitting_front start c [] b fitting = tt
 fitting_front start c (y ∷ a) b fitting = (fitting.0, fitting.1, fitting_front start (after start c y) a b fitting.2)
 
-fitting_back : (start : Image) (c : Possible) (a b : List Note) → AreFitting start c (a ++ b) → AreFitting start (behind start c a) b
+pub fitting_back : (start : Image) (c : Possible) (a b : List Note) → AreFitting start c (a ++ b) → AreFitting start (behind start c a) b
 fitting_back start c [] b fitting = fitting
 fitting_back start c (y ∷ a) b fitting = fitting_back start (after start c y) a b fitting.2
 
@@ -59,7 +60,7 @@ inner_all start x c (y ∷ notes) over good shows fitting =
     inner_all start x (after start c y) notes (inner_over start x c good.apart over y shows.0 (length start) fitting.0 fitting.1)
     (record { apart = apart_after start (length start) c y good.apart fitting.0; wishes = wishes_after start (length start) c y good.wishes fitting.0 }) shows.1 fitting.2
 
-untold_parts : (a b : List Note) → untold_notes (a ++ b) ≡ a ++ b → (untold_notes a ≡ a) × (untold_notes b ≡ b)
+pub untold_parts : (a b : List Note) → untold_notes (a ++ b) ≡ a ++ b → (untold_notes a ≡ a) × (untold_notes b ≡ b)
 untold_parts [] b told = (refl, told)
 untold_parts (y ∷ a) b told = let more = untold_parts a b (tails told) in (ap₂ (λ (z : Note) (l : List Note). z ∷ l) (heads told) more.0, more.1)
   where
@@ -76,13 +77,13 @@ leads_more start x [] y z mid leads one = (z, subst (λ (w : Possible). Leads st
 leads_more start x (line ∷ lines) y z mid leads one = (leads.0, leads.1, leads_more start leads.0 lines y z mid leads.2 one)
 
 -- a journal that lines show, at the last of them
-record LineAt (lines : List Note) (y : Note) (journal : List Note) : Type 0 where
-  before : List Note
-  back : List Note
-  whole : journal ≡ before ++ y ∷ back
-  shows : ShowsJournal lines before
-  hidden : ShowsJournal [] back
-  told : untold_notes before ≡ before
+pub record LineAt (lines : List Note) (y : Note) (journal : List Note) : Type 0 where
+  pub before : List Note
+  pub back : List Note
+  pub whole : journal ≡ before ++ y ∷ back
+  pub shows : ShowsJournal lines before
+  pub hidden : ShowsJournal [] back
+  pub told : untold_notes before ≡ before
 
 append_is : (a b : List Note) (n : Note) (d : List Note) → a ++ (b ++ n ∷ d) ≡ (a ++ b) ++ n ∷ d
 append_is [] b n d = refl
@@ -95,7 +96,7 @@ none_more (y ∷ lines) = ap (λ (l : List Note). y ∷ l) (none_more lines)
 head_told : (y : Note) (notes : List Note) → untold_note y ∷ untold_notes notes ≡ y ∷ notes → untold_note y ≡ y
 head_told y notes e = cc
 
-split_at : (lines : List Note) (y : Note) (journal : List Note) → ShowsJournal (lines ++ y ∷ []) journal → untold_note y ≡ y → untold_notes journal ≡ journal → LineAt lines y journal
+pub split_at : (lines : List Note) (y : Note) (journal : List Note) → ShowsJournal (lines ++ y ∷ []) journal → untold_note y ≡ y → untold_notes journal ≡ journal → LineAt lines y journal
 split_at lines y journal shows told_y told = by (parts lines (y ∷ []) journal shows)
   where
     by_line : (part : Rattle.fam_judge.proofs.Showing.Parts lines (y ∷ []) journal) → Rattle.fam_judge.proofs.Showing.FirstLine y [] part.back → LineAt lines y journal
@@ -115,6 +116,11 @@ split_at lines y journal shows told_y told = by (parts lines (y ∷ []) journal 
 
     by : Rattle.fam_judge.proofs.Showing.Parts lines (y ∷ []) journal → LineAt lines y journal
     by part = by_line part (first_line y [] part.back part.left)
+
+-- the hosts look the same in a state and in what it covers
+pub faces_covered : (start : Image) (x c : Possible) → Over start x c → faces (shapes_in x) ≡ faces (shapes_in c)
+faces_covered start x c (direct d) = faces_over x.state x.hosts c.hosts d.hosts
+faces_covered start x c (late l) = faces_over x.state x.hosts l.pre.hosts l.direct.hosts ∙ sym (faces_pre start x c l)
 
 -- a line tells of an entry that was named, or doesn't
 pub elsewhere_or : (k seq : ℕ) (y : Note) → Elsewhere k seq y ⊎ (Elsewhere k seq y → ⊥)
@@ -228,7 +234,7 @@ judges_first start = record {
     first x (suc i) e = absurd cc
 
 -- what isn't told is shown all the same
-untold_shows : (lines notes : List Note) → ShowsJournal lines notes → ShowsJournal (untold_notes lines) (untold_notes notes)
+pub untold_shows : (lines notes : List Note) → ShowsJournal lines notes → ShowsJournal (untold_notes lines) (untold_notes notes)
 untold_shows [] [] shows = tt
 untold_shows [] (n ∷ notes) shows = (inner_told n shows.0, untold_shows [] notes shows.1)
   where
@@ -263,3 +269,33 @@ judges_none start history judges explained = none (judges.complete (untold_notes
 -- where one is left it is
 pub judges_some : (start : Image) (history : List Note) (xs : List Possible) (x : Possible) → Judges start (untold_notes history) xs → IsOf xs x → IsExplained start history
 judges_some start history xs x judges is = possible_explained start history x (judges.sound x is)
+
+-- The last line of a history that is explained.
+
+-- a state that covers what comes before it, and where it stands and fits
+pub record StandsLast (start : Image) (xs : List Possible) (y : Note) : Type 0 where
+  pub state : Possible
+  pub covered : Possible
+  pub is : IsOf xs state
+  pub over : Over start state covered
+  pub may : MayStand (length start) (shapes_in covered) y
+  pub fits : Fits (past_in start covered) y
+
+pub stands_last : (start : Image) (lines other : List Note) (n : Note) (xs : List Possible) → Judges start lines xs → untold_notes other ≡ lines → IsExplained start (other ++ n ∷ []) → StandsLast start xs (untold_note n)
+stands_last start lines other n xs judges told is = by (split_at lines (untold_note n) (untold_notes j.0) shown (alike_untold (untold_note n) n (Rattle.fam_judge.proofs.Untelling.untold_alike n)) (untold_all_again j.0))
+  where
+    j : (journal : List Note) × ShowsJournal (other ++ n ∷ []) journal × Rattle.fam_judge.specs.Standing.AreStanding (length start) [] journal × Rattle.fam_judge.specs.Explained.AreAllowedForSome start [] journal
+    j = Rattle.fam_judge.proofs.Standing.Journals.explained_stands start (other ++ n ∷ []) is
+
+    shown : ShowsJournal (lines ++ untold_note n ∷ []) (untold_notes j.0)
+    shown =
+        subst (λ (l : List Note). ShowsJournal l (untold_notes j.0)) (map-append untold_note other (n ∷ []) ∙ ap (λ (l : List Note). l ++ untold_note n ∷ []) told)
+        (untold_shows (other ++ n ∷ []) j.0 j.1)
+
+    by : LineAt lines (untold_note n) (untold_notes j.0) → StandsLast start xs (untold_note n)
+    by at =
+        let all = subst (AreFitting start (first_possible start)) at.whole (fitting_from start [] j.0 j.2 j.3) in
+        let front = fitting_front start (first_possible start) at.before (untold_note n ∷ at.back) all in
+        let rest = fitting_back start (first_possible start) at.before (untold_note n ∷ at.back) all in
+        let x = judges.complete at.before at.shows at.told front in
+        record { state = x.0; covered = state_of start at.before; is = x.1; over = x.2; may = rest.0; fits = rest.1 }

@@ -141,7 +141,8 @@ module _ (start : Image) (x c : Possible) (l : Late start x c) where
   count_is = ap (λ (n : ℕ). n + 1) (says start x c l).count
 
   -- so the hosts look
-  faces_pre : faces (shapes_in c) ≡ faces (shapes_in l.pre)
+  -- the hosts look so before it, too
+  pub faces_pre : faces (shapes_in c) ≡ faces (shapes_in l.pre)
   faces_pre =
       ap (λ (hosts : List Progress). faces (map shape_in hosts)) l.hosts
       ∙ ap faces (map_changed shape_in l.host (naming start x c l) (with_stage (Named l.seq)) (λ p. refl) l.pre.hosts)
