@@ -1,11 +1,11 @@
 -- Lists of hosts that are chosen from those of a possible state: where a command's mark hasn't been told, it has come or not.
 use Prim.Native.Nat.{zero, suc}
-use Rattle.std.proofs.Common.{◌≡◌, ◌≢◌, ◌⊎◌, inl, inr, ℕ, Bool, List, [], ◌∷◌, ◌++◌, map, Option, Some, None, refl, ap, ap₂, sym, ◌∙◌, subst}
+use Rattle.std.proofs.Common.{◌≡◌, ◌⊎◌, inl, inr, ℕ, Bool, List, [], ◌∷◌, ◌++◌, map, Option, Some, None, refl, ap, ap₂, sym, ◌∙◌, subst}
 use Rattle.std.specs.Prelude.{⊤, is_some, option_map, slice_get}
 use Rattle.std.proofs.lemmas.Option.{same_Some}
 use Rattle.fam_journal.specs.Members.{changed_at}
 use Rattle.fam_journal.specs.Shapes.{Begun, CommandStage, Marked, Pairs, TaskShape, with_stage}
-use Rattle.fam_judge.specs.Possible.{Possible, Progress}
+use Rattle.fam_judge.specs.Possible.{Progress}
 use Rattle.fam_judge.specs.Standing.{Face, face, faces}
 use Rattle.fam_judge.proofs.Folding.{shape_in}
 

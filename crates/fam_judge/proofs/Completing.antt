@@ -1,11 +1,10 @@
 -- Behind each history that is explained some state is possible.
-use Rattle.std.proofs.Common.{◌≡◌, inl, inr, ℕ, List, [], ◌∷◌, ◌++◌, length, map, Option, Some, None, refl, ap, ap₂, sym, ◌∙◌, subst}
-use Rattle.std.specs.Prelude.{⊤, IsTrue, slice_get}
+use Rattle.std.proofs.Common.{◌≡◌, inl, inr, ℕ, List, [], ◌∷◌, length, map, refl, ap, ap₂, sym, ◌∙◌, subst}
+use Rattle.std.specs.Prelude.{IsTrue}
 use Rattle.fam_base.specs.Image.{Image}
 use Rattle.fam_journal.specs.Notes.{Note}
 use Rattle.fam_journal.specs.Shapes.{Pairs}
-use Rattle.fam_judge.specs.Covering.{AreFitting, Direct, HostOver, Late, Over, direct, late}
-use Rattle.fam_judge.specs.Alike.{told_note}
+use Rattle.fam_judge.specs.Covering.{AreFitting, Direct, HostOver, Over, direct, late}
 use Rattle.fam_judge.specs.Fitting.{Fits}
 use Rattle.fam_judge.specs.Possible.{Leads, LeadsTo, Possible, Progress, after, as_is, past_in, shapes_in, written}
 use Rattle.fam_judge.specs.Shows.{ShowsJournal, is_inner}
@@ -17,7 +16,6 @@ use Rattle.fam_judge.proofs.OverHidden.{late_now}
 use Rattle.fam_judge.proofs.OverHosts.{IsApart, uuid_in}
 use Rattle.fam_judge.proofs.OverLate.{inner_over}
 use Rattle.fam_judge.proofs.OverLines.{line_follows}
-use Rattle.fam_judge.proofs.OverOwn.{FollowsIn}
 use Rattle.fam_judge.proofs.Sizes.{kept_uuids}
 use Rattle.fam_judge.proofs.Untelling.{alike_untold}
 

@@ -1,9 +1,9 @@
 -- The state of hosts behind notes is what the folds of a journal tell.
-use Rattle.std.proofs.Common.{◌≡◌, ℕ, List, [], ◌∷◌, ◌++◌, map, refl, ap, ap₂, ◌∙◌}
+use Rattle.std.proofs.Common.{◌≡◌, ℕ, List, [], ◌∷◌, ◌++◌, map, refl, ap, ◌∙◌}
 use Rattle.std.proofs.lemmas.List.{map-append}
 use Rattle.fam_base.specs.Image.{Image}
 use Rattle.fam_journal.specs.Notes.{Note, Host, Made, Cut, Start, Mark, Found, Writes, Answered, Stop, Halt, Umount, Refused}
-use Rattle.fam_journal.specs.Past.{HostPast, Past, first_past, hosts_after, past_after, past_behind, past_of, settled_length, state_after}
+use Rattle.fam_journal.specs.Past.{HostPast, Past, hosts_after, past_after, past_behind, past_of, settled_length, state_after}
 use Rattle.fam_journal.specs.Shapes.{HostShape, shapes_after, shapes_behind, shapes_of}
 use Rattle.fam_judge.specs.Covering.{behind, state_of}
 use Rattle.fam_judge.specs.Possible.{Possible, Progress, after, first_possible, past_in, progress_after, shapes_in}

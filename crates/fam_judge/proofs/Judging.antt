@@ -1,33 +1,30 @@
 -- A history is explained exactly where some state is possible behind its lines.
-use Rattle.std.proofs.Common.{◌≡◌, inl, inr, ℕ, List, [], ◌∷◌, ◌++◌, length, map, refl, ap, ap₂, sym, ◌∙◌, subst}
-use Rattle.std.specs.Prelude.{⊤}
-use Rattle.std.proofs.lemmas.List.{append_assoc, map-append}
+use Rattle.std.proofs.Common.{◌≡◌, ℕ, List, [], ◌∷◌, ◌++◌, length, map, refl, ap, ap₂, sym, ◌∙◌, subst}
+use Rattle.std.proofs.lemmas.List.{map-append}
 use Rattle.fam_base.specs.Image.{Image}
-use Rattle.fam_journal.specs.Notes.{Note, Host, Made, Cut, Start, Mark, Found, Writes, Answered, Stop, Halt, Umount, Refused}
+use Rattle.fam_journal.specs.Notes.{Note, Start}
 use Rattle.fam_journal.specs.Past.{Past, past_of}
 use Rattle.fam_journal.specs.Shapes.{HostShape, shapes_after, shapes_behind, shapes_of}
-use Rattle.fam_judge.specs.Covering.{AreFitting, Over, behind, direct, same, state_of}
+use Rattle.fam_judge.specs.Covering.{AreFitting, direct, same, state_of}
 use Rattle.fam_judge.specs.Alike.{AreAlikeNotes, told_note}
 use Rattle.fam_judge.specs.Explained.{AreAllowedForSome, IsExplained}
 use Rattle.fam_judge.specs.Fitting.{Fits}
 use Rattle.fam_judge.specs.Formed.{AreFormed, AreSoundNotes}
-use Rattle.fam_judge.specs.Possible.{IsPossible, LeadsTo, Possible, Progress, after, first_possible, past_in, shapes_in}
-use Rattle.fam_judge.specs.Shows.{ShowsJournal}
+use Rattle.fam_judge.specs.Possible.{IsPossible, Possible, after, first_possible, past_in, shapes_in}
 use Rattle.fam_judge.specs.Standing.{AreStanding, MayStand}
-use Rattle.fam_judge.specs.ToldHosts.{ToldHost, told_behind, told_hosts}
+use Rattle.fam_judge.specs.ToldHosts.{told_behind, told_hosts}
 use Rattle.fam_judge.specs.Untold.{untold_note, untold_notes}
 use Rattle.fam_judge.proofs.Choices.{some_choices}
 use Rattle.fam_judge.proofs.Completing.{shown_reached}
-use Rattle.fam_judge.proofs.Explaining.{one_more, sound-append}
+use Rattle.fam_judge.proofs.Explaining.{sound-append}
 use Rattle.fam_judge.proofs.Fitting.{explained_fits, fits_explained}
-use Rattle.fam_judge.proofs.Folding.{behind_more, past_after_is, past_is, shape_after, shapes_are}
-use Rattle.fam_judge.proofs.OverHosts.{IsApart}
+use Rattle.fam_judge.proofs.Folding.{behind_more, past_is, shape_after, shapes_are}
 use Rattle.fam_judge.proofs.RealLines.{all_real}
-use Rattle.fam_judge.proofs.Realizing.{ComesTo, IsRealized}
+use Rattle.fam_judge.proofs.Realizing.{IsRealized}
 use Rattle.fam_judge.proofs.Showing.{same_shown}
 use Rattle.fam_judge.proofs.Standing.Alike.{stands_alike, stands_told}
 use Rattle.fam_judge.proofs.Standing.Journals.{behind_told, explained_stands, journal_formed, shows_alike}
-use Rattle.fam_judge.proofs.Untelling.{alike_notes_untold, alike_untold, untold_alike, untold_notes_alike}
+use Rattle.fam_judge.proofs.Untelling.{alike_notes_untold, alike_untold, untold_alike}
 
 -- What isn't told of a note.
 

@@ -1,8 +1,7 @@
 -- What a command may be answered that found entries: it doesn't depend on how many, and tells where the state has come to.
-use Rattle.std.proofs.Common.{◌≡◌, ◌⊎◌, inl, inr, ℕ, List, [], ◌∷◌, length, Option, Some, None, refl, ap, sym, ◌∙◌, subst}
-use Rattle.std.specs.Prelude.{⊤, Err, Ok, Result}
+use Rattle.std.proofs.Common.{◌≡◌, ◌⊎◌, inl, inr, ℕ, List, length, Option, Some, None, refl, ap, sym, ◌∙◌, subst}
+use Rattle.std.specs.Prelude.{⊤, Err}
 use Rattle.fam_base.specs.declared.cmd.Cmd.{Cmd}
-use Rattle.fam_base.specs.declared.entry.Entry.{Entry}
 use Rattle.fam_base.specs.declared.entry.Params.{Params}
 use Rattle.fam_format.specs.declared.faults.LogFault.{LogFault}
 use Rattle.fam_format.specs.declared.faults.LogFault.TheVariants.{BadLog}

@@ -1,31 +1,25 @@
 -- A reply that follows what a journal comes to follows a state that allows no less.
-use Rattle.std.proofs.Common.{◌≡◌, ◌⊎◌, ◌≤◌, inl, inr, ℕ, Bool, List, [], ◌∷◌, length, Option, Some, None, refl, ap, ap₂, sym, ◌∙◌, subst}
-use Rattle.std.specs.Prelude.{⊤, option_map, slice_get}
-use Rattle.std.proofs.lemmas.Option.{same_Some}
+use Rattle.std.proofs.Common.{◌≡◌, ◌⊎◌, inl, inr, ℕ, List, Some, None, refl, ap, sym, ◌∙◌, subst}
+use Rattle.std.specs.Prelude.{option_map, slice_get}
 use Rattle.fam_base.specs.declared.cmd.Cmd.{Cmd}
-use Rattle.fam_base.specs.declared.entry.Params.{Params}
 use Rattle.fam_base.specs.Image.{Image}
 use Rattle.fam_rules.specs.declared.answers.Refused.{Refused as Cause}
-use Rattle.fam_rules.specs.Asks.{File}
 use Rattle.fam_rules.specs.Reply as reply
 use Rattle.fam_rules.specs.Reply.{Reply}
-use Rattle.fam_journal.specs.Legal.{FoundAllowed, master_of}
 use Rattle.fam_journal.specs.Members.{changed_at}
-use Rattle.fam_journal.specs.Notes.{Answer, Replied, Note, Answered, Found}
-use Rattle.fam_journal.specs.Past.{HostPast, Sound, State, ended_state, finds, reply_count, settled_length, shows_count, with_pending}
-use Rattle.fam_journal.specs.Shapes.{AnswerShape, Begun, CauseShape, CommandStage, HasMet, IsHead, Marked, Met, Named, OfRunning, Pairs, ReplyShape, TaskNote, TaskShape, keeps_behind, with_stage}
-use Rattle.fam_judge.specs.Covering.{Direct, FloorUnder, HostOver, StagesOver, StateOver, TasksOver, same}
+use Rattle.fam_journal.specs.Notes.{Answer, Replied, Answered, Found}
+use Rattle.fam_journal.specs.Past.{State, reply_count}
+use Rattle.fam_journal.specs.Shapes.{Begun, CommandStage, HasMet, IsHead, Marked, Met, Named, OfRunning, ReplyShape, TaskNote, TaskShape, with_stage}
+use Rattle.fam_judge.specs.Covering.{Direct, FloorUnder, StagesOver, StateOver, same}
 use Rattle.fam_judge.specs.Fitting.{AnswerFits, Fits, ReplyFits}
 use Rattle.fam_judge.specs.Formed.{AnswerPlace, HasPlace, ReplyPlace}
-use Rattle.fam_judge.specs.Possible.{Meets, NonePends, Possible, Progress, Reaches, StageIs, Wishes, after, after_line, marked, meets, past_in, shapes_in, stands, told_met, unmarked, untold_met, with_mark, without_mark}
+use Rattle.fam_judge.specs.Possible.{Possible, Progress, Reaches, after, marked, meets, past_in, shapes_in, stands, unmarked, left_out_met, with_mark, without_mark}
 use Rattle.fam_judge.proofs.MetReplies.{Target, counted_marked, decided_met, met_target, place_met, shape_met}
-use Rattle.fam_judge.proofs.Over.{Within, master_shows, none_shows, over_shows, settled_shows}
 use Rattle.fam_judge.proofs.OverFits.{ReplyOver, reply_over}
 use Rattle.fam_judge.proofs.OverHosts.{Later, no_later}
-use Rattle.fam_judge.proofs.OverOwn.{Both, FollowsIn, both_run, found_later, marked_begun, met_begun, named_begun, not_begun}
-use Rattle.fam_judge.proofs.Places.{changed_is, changed_twice, of_told, own_pairs, runs_at, told_at}
+use Rattle.fam_judge.proofs.OverOwn.{Both, found_later, marked_begun, met_begun, named_begun, not_begun}
+use Rattle.fam_judge.proofs.Places.{changed_is, of_told, runs_at}
 use Rattle.fam_judge.proofs.Replies.{IsDecline}
-use Rattle.fam_judge.proofs.Sizes.{effect, ended_is}
 
 -- How far a command has come.
 
@@ -194,7 +188,7 @@ module _ (start : Image) (x c : Possible) (d : Direct x c) (h : ℕ) (given : Re
       let there : slice_get now.hosts h ≡ Some (f both.host) = changed_is h f x.hosts both.host both.is in
       from_met n now f like refl t.comes (found_later t.count x.state t.found) there (record both.task { stage = Met t.count })
       (ap (option_map (λ (k : TaskShape). record k { stage = Met t.count })) both.runs) refl t.count refl
-      (meets (untold_met t.count (runs_at x h (λ me t. IsHead t.stage) both.host both.task both.is both.runs (heads head))
+      (meets (left_out_met t.count (runs_at x h (λ me t. IsHead t.stage) both.host both.task both.is both.runs (heads head))
       (runs_at x h (λ me t. Rattle.fam_commands.specs.Appends.HasWish t.cmd) both.host both.task both.is both.runs (subst Rattle.fam_commands.specs.Appends.HasWish (sym both.cmd) wish)) t.found refl)) is
     where
       heads : both.task.stage ≡ Begun ⊎ (both.task.stage ≡ Marked) → IsHead both.task.stage

@@ -1,8 +1,7 @@
 -- What fits a state fits one that allows no less.
-use Rattle.std.proofs.Common.{◌≡◌, ◌+◌, ◌≤◌, inl, inr, ℕ, List, [], ◌∷◌, ◌++◌, length, Option, Some, None, refl, ap, sym, ◌∙◌, subst, arith}
+use Rattle.std.proofs.Common.{◌≡◌, ◌+◌, ◌≤◌, ℕ, List, [], ◌∷◌, ◌++◌, length, Option, Some, None, refl, ap, sym, ◌∙◌, subst, arith}
 use Rattle.std.specs.Prelude.{take}
 use Rattle.std.proofs.lemmas.Option.{same_Some}
-use Rattle.fam_base.specs.declared.cmd.Cmd.{Cmd}
 use Rattle.fam_base.specs.declared.entry.Params.{Params}
 use Rattle.fam_rules.specs.declared.answers.Refused.{Refused as Cause}
 use Rattle.fam_rules.specs.declared.answers.Refused.TheVariants as cause
@@ -11,14 +10,13 @@ use Rattle.fam_rules.specs.Asks.{File, entries_of}
 use Rattle.fam_rules.specs.Reply as reply
 use Rattle.fam_rules.specs.Reply.{Reply}
 use Rattle.fam_rules.specs.ReportLaws.{IsSoundReport}
-use Rattle.fam_commands.specs.ReplyClasses.{Appending, Declining, Faulty, ReplyClass, Reporting, Showing, reply_class}
 use Rattle.fam_journal.specs.Legal.{AppendedAllowed, CauseAllowed, DamageAllowed, HasParams, InBounds, IsAcknowledged, IsReportOf, ReportAllowed}
 use Rattle.fam_journal.specs.Past.{Bad, BadHeader, BadSlot, Damage, HostPast, NoSuperblock, Sound, State, acknowledges, reported_count, shows, shows_count, with_pending}
 use Rattle.fam_judge.specs.Covering.{FloorUnder, StateOver, dropped, joined, same}
 use Rattle.fam_judge.specs.Fitting.{IsFitting, QuestionFits, ReplyFits}
-use Rattle.fam_judge.proofs.Over.{Within, over_first, over_master}
+use Rattle.fam_judge.proofs.Over.{over_first, over_master}
 use Rattle.fam_judge.proofs.Replies.{IsDecline, reported_is}
-use Rattle.fam_judge.proofs.Sizes.{acknowledged, effect_in}
+use Rattle.fam_judge.proofs.Sizes.{acknowledged}
 use Rattle.fam_judge.proofs.States.{Goes, counts_none, goes, joined_length, joins, stays}
 
 -- Bounds.

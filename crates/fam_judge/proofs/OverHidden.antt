@@ -1,18 +1,15 @@
 -- Notes that a history leaves out, behind what a journal comes to: the state that allows no less stays one.
-use Rattle.std.proofs.Common.{◌≡◌, ◌⊎◌, ◌≤◌, inl, inr, ℕ, List, [], ◌∷◌, length, map, Option, Some, None, refl, ap, sym, ◌∙◌, subst, arith}
-use Rattle.std.specs.Prelude.{⊤, option_map, slice_get}
+use Rattle.std.proofs.Common.{◌≡◌, ◌≤◌, ℕ, List, Option, Some, None, refl, ap, sym, ◌∙◌, subst, arith}
+use Rattle.std.specs.Prelude.{option_map, slice_get}
 use Rattle.std.proofs.lemmas.Option.{same_Some}
-use Rattle.fam_base.specs.declared.entry.Entry.{Entry}
 use Rattle.fam_base.specs.Image.{Image}
-use Rattle.fam_commands.specs.Appends.{HasWish}
 use Rattle.fam_journal.specs.Legal.{FoundAllowed}
 use Rattle.fam_journal.specs.Members.{changed_at}
-use Rattle.fam_journal.specs.Notes.{Note, Mark, Found, Writes}
-use Rattle.fam_journal.specs.Past.{HostPast, State, finds, settled_length}
-use Rattle.fam_journal.specs.Shapes.{Begun, CommandStage, HostShape, Marked, Met, Named, OfRunning, OfTask, Pairs, TaskNote, TaskShape, with_stage}
-use Rattle.fam_judge.specs.Covering.{Direct, FloorUnder, HasFloor, HostOver, Late, StagesOver, StateOver, TasksOver, same}
-use Rattle.fam_judge.specs.Fitting.{Fits}
-use Rattle.fam_judge.specs.Possible.{Possible, Progress, Wrote, after, past_in, progress_after, shapes_in}
+use Rattle.fam_journal.specs.Notes.{Mark, Found, Writes}
+use Rattle.fam_journal.specs.Past.{HostPast, State, settled_length}
+use Rattle.fam_journal.specs.Shapes.{Begun, CommandStage, Marked, Met, Named, OfRunning, Pairs, TaskNote, TaskShape, with_stage}
+use Rattle.fam_judge.specs.Covering.{Direct, FloorUnder, HasFloor, HostOver, Late, StagesOver, StateOver, TasksOver}
+use Rattle.fam_judge.specs.Possible.{Possible, Progress, Wrote, after, progress_after, shapes_in}
 use Rattle.fam_judge.proofs.Members.{changed_same}
 use Rattle.fam_judge.proofs.Over.{over_hidden, over_settled}
 use Rattle.fam_judge.proofs.OverHosts.{IsApart, no_later}

@@ -1,24 +1,21 @@
 -- Notes behind an entry that was named, where the state that allows no less hasn't named it yet.
-use Rattle.std.proofs.Common.{◌≡◌, ◌≢◌, ◌⊎◌, ◌≤◌, inl, inr, ℕ, List, [], ◌∷◌, length, map, Option, Some, None, refl, ap, ap₂, sym, ◌∙◌, subst, arith}
-use Rattle.std.specs.Prelude.{⊤, IsTrue, option_map, slice_get}
+use Rattle.std.proofs.Common.{◌≡◌, ◌≢◌, ◌⊎◌, ◌≤◌, inl, inr, ℕ, List, length, Option, Some, refl, ap, sym, ◌∙◌, subst, arith}
+use Rattle.std.specs.Prelude.{IsTrue, option_map, slice_get}
 use Rattle.std.proofs.lemmas.Bool.{cases_eq}
-use Rattle.std.proofs.lemmas.Option.{same_Some, slice_get-map}
+use Rattle.std.proofs.lemmas.Option.{same_Some}
 use Rattle.fam_base.specs.declared.cmd.Cmd.{Cmd}
 use Rattle.fam_base.specs.declared.entry.Entry.{Entry}
-use Rattle.fam_base.specs.declared.entry.Params.{Params}
 use Rattle.fam_base.specs.Image.{Image}
-use Rattle.fam_rules.specs.Asks.{File}
 use Rattle.fam_journal.specs.Legal.{FoundAllowed, WritesAllowed, master_of}
 use Rattle.fam_journal.specs.Members.{changed_at}
-use Rattle.fam_journal.specs.Notes.{Note, Host, Made, Cut, Start, Mark, Found, Writes, Answered, Stop, Halt, Umount, Refused}
-use Rattle.fam_journal.specs.Past.{HostPast, Sound, State, cmd_of, finds, pends, settled_length}
-use Rattle.fam_journal.specs.Shapes.{Begun, CommandStage, HostShape, Marked, Met, Named, OfRunning, Pairs, TaskNote, TaskShape, with_stage}
+use Rattle.fam_journal.specs.Notes.{Note, Mark, Found, Writes}
+use Rattle.fam_journal.specs.Past.{State, cmd_of, pends, settled_length}
+use Rattle.fam_journal.specs.Shapes.{Begun, CommandStage, Marked, Met, Named, OfRunning, TaskNote, TaskShape, with_stage}
 use Rattle.fam_judge.specs.Covering.{Direct, HostOver, Late, Over, StateOver, direct, late}
 use Rattle.fam_judge.specs.Fitting.{Fits}
-use Rattle.fam_judge.specs.Possible.{Possible, Progress, after, past_in, progress_after, shapes_in}
+use Rattle.fam_judge.specs.Possible.{Possible, Progress, after, past_in, shapes_in}
 use Rattle.fam_judge.specs.Shows.{is_inner}
 use Rattle.fam_judge.specs.Standing.{MayStand}
-use Rattle.fam_judge.proofs.Folding.{told_in}
 use Rattle.fam_judge.proofs.Members.{changed_apart}
 use Rattle.fam_judge.proofs.Over.{over_hidden, over_master, over_settled}
 use Rattle.fam_judge.proofs.OverHidden.{hidden_found, hidden_mark, over_found, over_mark, task_of}

@@ -1,34 +1,33 @@
 -- Each line that follows what a journal comes to follows a state that allows no less.
-use Rattle.std.proofs.Common.{◌≡◌, ◌⊎◌, ◌+◌, ◌≤◌, inl, inr, ℕ, Bool, true, false, List, [], ◌∷◌, ◌++◌, length, map, Option, Some, None, refl, ap, ap₂, sym, ◌∙◌, subst, arith}
-use Rattle.std.specs.Prelude.{⊤, ◌==◌, if◌then◌else◌, option_map, slice_get}
+use Rattle.std.proofs.Common.{◌≡◌, ◌+◌, ◌≤◌, ℕ, Bool, true, false, List, [], ◌∷◌, ◌++◌, length, Option, Some, None, refl, ap, sym, ◌∙◌, subst, arith}
+use Rattle.std.specs.Prelude.{◌==◌, if◌then◌else◌, slice_get}
 use Rattle.std.proofs.lemmas.List.{length-append}
 use Rattle.std.proofs.lemmas.Option.{same_Some}
 use Rattle.fam_base.specs.declared.entry.Entry.{Entry}
-use Rattle.fam_base.specs.declared.entry.Params.{Params}
 use Rattle.fam_base.specs.Image.{Image}
 use Rattle.fam_commands.specs.Appends.{HasWish}
 use Rattle.fam_rules.specs.Asks.{File}
 use Rattle.fam_rules.specs.Reply as reply
 use Rattle.fam_rules.specs.Reply.{Reply}
-use Rattle.fam_journal.specs.Legal.{AppendedAllowed, FoundAllowed, ReportAllowed}
+use Rattle.fam_journal.specs.Legal.{AppendedAllowed, ReportAllowed}
 use Rattle.fam_journal.specs.Members.{changed_at}
 use Rattle.fam_journal.specs.Notes.{Answer, Replied, MediaFault, Note, Host, Made, Cut, Start, Mark, Found, Writes, Answered, Stop, Halt, Umount, Refused}
 use Rattle.fam_journal.specs.Past.{Bad, HostPast, Sound, State, acknowledges, ended_state, shows, shows_count, with_pending}
-use Rattle.fam_journal.specs.Shapes.{CommandStage, HostShape, Met, OfRunning, Pairs, TaskNote, TaskShape, keeps_behind}
+use Rattle.fam_journal.specs.Shapes.{Met, Pairs, TaskNote, TaskShape, keeps_behind}
 use Rattle.fam_judge.specs.Covering.{Direct, HostOver, StateOver}
 use Rattle.fam_judge.specs.Fitting.{AnswerFits, Fits, QuestionFits, ReplyFits}
 use Rattle.fam_judge.specs.Formed.{AnswerPlace, HasPlace}
-use Rattle.fam_judge.specs.Possible.{Possible, Progress, Reaches, Wrote, after, after_line, giver, meets, past_in, shapes_in}
+use Rattle.fam_judge.specs.Possible.{Possible, Progress, after_line, meets, past_in, shapes_in}
 use Rattle.fam_judge.specs.Standing.{MayStand}
 use Rattle.fam_judge.proofs.Over.{Within, master_shows, none_shows, over_shows, settled_shows}
 use Rattle.fam_judge.proofs.OverAnswers.{Comes, comes}
 use Rattle.fam_judge.proofs.OverHosts.{IsApart, Later}
-use Rattle.fam_judge.proofs.OverOwn.{Both, FollowsIn, both_run, own_found, own_mark}
+use Rattle.fam_judge.proofs.OverOwn.{FollowsIn, both_run, own_found, own_mark}
 use Rattle.fam_judge.proofs.OverPlain.{plain_follows}
-use Rattle.fam_judge.proofs.OverWrites.{WritesIn, writes_in}
-use Rattle.fam_judge.proofs.Places.{Running, own_pairs, running_at, told_at}
+use Rattle.fam_judge.proofs.OverWrites.{writes_in}
+use Rattle.fam_judge.proofs.Places.{own_pairs, running_at, told_at}
 use Rattle.fam_judge.proofs.Replies.{reported_is}
-use Rattle.fam_judge.proofs.Sizes.{acknowledged, effect, ended_is}
+use Rattle.fam_judge.proofs.Sizes.{effect, ended_is}
 
 -- Counts.
 

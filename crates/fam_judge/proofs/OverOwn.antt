@@ -1,23 +1,19 @@
 -- A line of a host's running command that follows what a journal comes to follows a state that allows no less.
-use Rattle.std.proofs.Common.{◌≡◌, ◌≢◌, ◌⊎◌, ◌≤◌, inl, inr, ℕ, List, [], ◌∷◌, length, map, Option, Some, None, refl, ap, sym, ◌∙◌, subst, arith}
-use Rattle.std.specs.Prelude.{⊤, option_map, slice_get}
+use Rattle.std.proofs.Common.{◌≡◌, ℕ, List, Option, Some, None, refl, ap, sym, ◌∙◌, subst}
+use Rattle.std.specs.Prelude.{option_map, slice_get}
 use Rattle.std.proofs.lemmas.Option.{same_Some}
-use Rattle.fam_base.specs.declared.entry.Entry.{Entry}
 use Rattle.fam_base.specs.Image.{Image}
 use Rattle.fam_commands.specs.Appends.{HasWish}
-use Rattle.fam_journal.specs.Legal.{FoundAllowed, WritesAllowed}
-use Rattle.fam_journal.specs.Members.{changed_at}
-use Rattle.fam_journal.specs.Notes.{Note, Mark, Found, Writes}
+use Rattle.fam_journal.specs.Legal.{FoundAllowed}
+use Rattle.fam_journal.specs.Notes.{Note, Mark, Found}
 use Rattle.fam_journal.specs.Past.{HostPast, State, finds, settled_length}
-use Rattle.fam_journal.specs.Shapes.{Begun, CommandStage, HostShape, IsHead, Marked, Met, Named, OfRunning, Pairs, TaskNote, TaskShape, with_stage}
-use Rattle.fam_judge.specs.Covering.{Direct, HasFloor, HostOver, StagesOver, StateOver, TasksOver, same}
-use Rattle.fam_judge.specs.Fitting.{Fits}
-use Rattle.fam_judge.specs.Possible.{Steps, Meets, Possible, Progress, Reaches, StageIs, Wishes, after, after_line, marked, meets, past_in, shapes_in, stands, told_met, unmarked, untold_met, with_mark, without_mark}
-use Rattle.fam_judge.specs.Standing.{MayStand}
+use Rattle.fam_journal.specs.Shapes.{Begun, CommandStage, Marked, Met, Named, OfRunning, TaskNote, TaskShape, with_stage}
+use Rattle.fam_judge.specs.Covering.{Direct, HostOver, StagesOver, StateOver, TasksOver, same}
+use Rattle.fam_judge.specs.Possible.{Steps, Possible, Progress, StageIs, after, after_line, marked, shapes_in, stands, unmarked, with_mark, without_mark}
 use Rattle.fam_judge.proofs.Over.{master_finds, none_finds, over_finds, over_settled, settled_finds}
 use Rattle.fam_judge.proofs.OverHosts.{Later, no_later}
 use Rattle.fam_judge.proofs.Pairing.{paired}
-use Rattle.fam_judge.proofs.Places.{Running, changed_is, once_pairs, own_pairs, running_at, runs_at, told_at, of_told}
+use Rattle.fam_judge.proofs.Places.{Running, changed_is, once_pairs, own_pairs, running_at, runs_at}
 
 -- What follows.
 

@@ -1,23 +1,21 @@
 -- A line that is no reply of a command, behind what a journal comes to, follows a state that allows no less.
-use Rattle.std.proofs.Common.{◌≡◌, ◌⊎◌, ◌≤◌, inl, inr, ℕ, Bool, true, false, List, [], ◌∷◌, ◌++◌, length, map, Option, Some, None, refl, ap, ap₂, sym, ◌∙◌, subst, arith}
+use Rattle.std.proofs.Common.{◌≡◌, ℕ, Bool, true, false, List, [], ◌∷◌, length, map, Option, Some, None, refl, ap, ap₂, sym, ◌∙◌, subst, arith}
 use Rattle.std.specs.Prelude.{⊤, ◌||◌, if◌then◌else◌, is_some, nat_lt, option_map, slice_get}
-use Rattle.std.proofs.lemmas.Option.{same_Some, slice_get-map}
+use Rattle.std.proofs.lemmas.Option.{slice_get-map}
 use Rattle.fam_base.specs.declared.cmd.Cmd.{Cmd}
-use Rattle.fam_base.specs.declared.entry.Params.{Params}
 use Rattle.fam_base.specs.Image.{Image}
 use Rattle.fam_machine.specs.Mkfs.{first_sent}
-use Rattle.fam_journal.specs.declared.refusal.Refusal.{Refusal}
 use Rattle.fam_journal.specs.Members.{changed_at}
-use Rattle.fam_journal.specs.Notes.{Answer, Replied, MediaFault, Note, Host, Made, Cut, Start, Mark, Found, Writes, Answered, Stop, Halt, Umount, Refused}
-use Rattle.fam_journal.specs.Past.{HostPast, Sound, State, halted, settled_length}
-use Rattle.fam_journal.specs.Shapes.{Begun, HostShape, OfRunning, Pairs, TaskNote, TaskShape}
+use Rattle.fam_journal.specs.Notes.{Replied, MediaFault, Note, Host, Made, Cut, Start, Mark, Found, Writes, Answered, Stop, Halt, Umount, Refused}
+use Rattle.fam_journal.specs.Past.{Sound, State, halted, settled_length}
+use Rattle.fam_journal.specs.Shapes.{Pairs, TaskNote, TaskShape}
 use Rattle.fam_journal.proofs.Calls.Declares.{none_passes}
-use Rattle.fam_judge.specs.Covering.{Direct, HostOver, StateOver, TasksOver, dropped, joined, same}
+use Rattle.fam_judge.specs.Covering.{Direct, HostOver, StateOver, TasksOver, same}
 use Rattle.fam_judge.specs.Possible.{Possible, Progress, after, after_line, giver, new_progress, past_in, shapes_in}
 use Rattle.fam_judge.specs.Standing.{Face, MayStand, engaged_in, face, faces, is_own}
 use Rattle.fam_judge.proofs.Folding.{shape_in}
-use Rattle.fam_judge.proofs.OverHosts.{Later, no_later}
-use Rattle.fam_judge.proofs.OverOwn.{Both, FollowsIn, both_run}
+use Rattle.fam_judge.proofs.OverHosts.{no_later}
+use Rattle.fam_judge.proofs.OverOwn.{FollowsIn, both_run}
 use Rattle.fam_judge.proofs.Pairing.{pairs_all, pairs_more}
 use Rattle.fam_judge.proofs.Places.{once_pairs, own_pairs, runs_at}
 use Rattle.fam_judge.proofs.Standing.Alike.{stands_seen}

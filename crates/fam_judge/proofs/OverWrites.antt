@@ -1,6 +1,6 @@
 -- An entry that a host names behind what a journal comes to is named behind a state that allows no less.
-use Rattle.std.proofs.Common.{◌≡◌, ◌≢◌, ◌≤◌, inl, inr, ℕ, List, [], ◌∷◌, length, map, Option, Some, None, refl, ap, ap₂, sym, ◌∙◌, subst, arith}
-use Rattle.std.specs.Prelude.{⊤, option_map, slice_get, Ok}
+use Rattle.std.proofs.Common.{◌≡◌, ◌≢◌, ◌≤◌, ℕ, List, length, Option, Some, None, refl, ap, sym, ◌∙◌, subst, arith}
+use Rattle.std.specs.Prelude.{option_map, slice_get, Ok}
 use Rattle.std.proofs.lemmas.Option.{same_Some, slice_get-map}
 use Rattle.fam_base.specs.declared.cmd.Cmd.{Cmd}
 use Rattle.fam_base.specs.declared.entry.Entry.{Entry}
@@ -10,11 +10,11 @@ use Rattle.fam_commands.specs.Appends.{HasWish}
 use Rattle.fam_rules.specs.Asks.{File}
 use Rattle.fam_journal.specs.Legal.{FoundAllowed, IsDecided, WritesAllowed, master_of}
 use Rattle.fam_journal.specs.Members.{changed_at}
-use Rattle.fam_journal.specs.Notes.{Note, Found, Writes}
+use Rattle.fam_journal.specs.Notes.{Found, Writes}
 use Rattle.fam_journal.specs.Past.{Bad, HostPast, Sound, State, cmd_of, filled_bytes, finds, pends, settled_length}
 use Rattle.fam_journal.specs.Shapes.{Begun, CommandStage, EntryShape, IsHead, Marked, Met, Named, OfRunning, Pairs, TaskNote, TaskShape, with_stage}
 use Rattle.fam_judge.specs.Covering.{Direct, HostOver, StagesOver, StateOver, TasksOver, same}
-use Rattle.fam_judge.specs.Possible.{Meets, NonePends, Possible, Progress, Wrote, after, past_in, shapes_in, told_met, untold_met}
+use Rattle.fam_judge.specs.Possible.{Meets, NonePends, Possible, Progress, after, past_in, shapes_in, shown_met, left_out_met}
 use Rattle.fam_judge.proofs.Folding.{told_in}
 use Rattle.fam_judge.proofs.Over.{over_met, over_none, over_settled, settled_finds}
 use Rattle.fam_judge.proofs.OverHosts.{IsApart, LaterOf, host_later_of, one_place}
@@ -168,7 +168,7 @@ module _ (start : Image) (x c : Possible) (d : Direct x c) (apart : IsApart x) (
         let there : slice_get now.hosts h ≡ Some (found both.host) = changed_is h found x.hosts both.host both.is in
         record {
           met = now;
-          meets = untold_met seq (runs_at x h (λ me t. IsHead t.stage) both.host both.task both.is both.runs head)
+          meets = left_out_met seq (runs_at x h (λ me t. IsHead t.stage) both.host both.task both.is both.runs head)
               (runs_at x h (λ me t. HasWish t.cmd) both.host both.task both.is both.runs (subst HasWish (sym both.cmd) (wish.0, wish.1))) counted.0 refl;
           may = runs_at now h (λ me t. TaskNote h me t (Writes h seq e)) (found both.host) (record both.task { stage = Met seq }) there
               (ap (option_map (λ (t : TaskShape). record t { stage = Met seq })) both.runs) (refl, subst (λ (k : Cmd). EntryShape k e) (sym both.cmd) both.holds.1, refl);
@@ -196,7 +196,7 @@ module _ (start : Image) (x c : Possible) (d : Direct x c) (apart : IsApart x) (
         let state : x.state ≡ c.state = sym (over_none x.state c.state d.state (none master)) in
         record {
           met = x;
-          meets = told_met seq (runs_at x h (λ me t. t.stage ≡ Met seq) both.host both.task both.is both.runs met) refl;
+          meets = shown_met seq (runs_at x h (λ me t. t.stage ≡ Met seq) both.host both.task both.is both.runs met) refl;
           may = runs_at x h (λ me t. TaskNote h me t (Writes h seq e)) both.host both.task both.is both.runs (refl, subst (λ (k : Cmd). EntryShape k e) (sym both.cmd) both.holds.1, met);
           fits = writes_there x both.host both.is refl refl state;
           over = record {

@@ -1,23 +1,21 @@
 -- Lines that lead from a state that some journal comes to.
-use Rattle.std.proofs.Common.{◌≡◌, ◌≢◌, ◌⊎◌, inl, inr, ℕ, Bool, true, false, List, [], ◌∷◌, ◌++◌, length, map, Option, Some, None, refl, ap, ap₂, sym, ◌∙◌, subst}
-use Rattle.std.specs.Prelude.{⊤, IsTrue, is_some, option_map, slice_get}
+use Rattle.std.proofs.Common.{◌≡◌, ◌⊎◌, inl, inr, ℕ, true, false, List, [], ◌∷◌, ◌++◌, length, Option, Some, None, refl, ap, sym, ◌∙◌, subst}
+use Rattle.std.specs.Prelude.{⊤, is_some, option_map, slice_get}
 use Rattle.std.proofs.lemmas.Option.{same_Some, slice_get-map}
 use Rattle.fam_base.specs.declared.cmd.Cmd.{Cmd}
 use Rattle.fam_base.specs.Image.{Image}
-use Rattle.fam_rules.specs.Reply.{Reply}
-use Rattle.fam_journal.specs.Legal.{OfHost, WritesAllowed}
+use Rattle.fam_journal.specs.Legal.{WritesAllowed}
 use Rattle.fam_journal.specs.Members.{changed_at}
-use Rattle.fam_journal.specs.Notes.{Answer, Replied, MediaFault, Note, Host, Made, Cut, Start, Mark, Found, Writes, Answered, Stop, Halt, Umount, Refused}
+use Rattle.fam_journal.specs.Notes.{Replied, MediaFault, Note, Host, Made, Cut, Start, Mark, Found, Writes, Answered, Stop, Halt, Umount, Refused}
 use Rattle.fam_journal.specs.Past.{HostPast, State, settled_length, state_after}
-use Rattle.fam_journal.specs.Shapes.{Begun, CommandStage, HostShape, Marked, Met, Named, OfRunning, Pairs, TaskNote, TaskShape, with_stage}
+use Rattle.fam_journal.specs.Shapes.{Begun, CommandStage, Marked, Met, Named, OfRunning, Pairs, TaskNote, TaskShape, with_stage}
 use Rattle.fam_judge.specs.Fitting.{AnswerFits, Fits}
-use Rattle.fam_judge.specs.Formed.{AnswerPlace, HasPlace}
-use Rattle.fam_judge.specs.Possible.{Leads, LeadsTo, Possible, Progress, Reaches, ReachesFor, Steps, after, after_line, first_possible, giver, new_progress, past_in, progress_after, shapes_in}
+use Rattle.fam_judge.specs.Formed.{AnswerPlace}
+use Rattle.fam_judge.specs.Possible.{Leads, LeadsTo, Possible, Progress, ReachesFor, Steps, after, after_line, giver, new_progress, past_in, shapes_in}
 use Rattle.fam_judge.specs.Standing.{Face, MayStand, OfFace, face, faces, is_own}
 use Rattle.fam_judge.specs.Untold.{untold_note, untold_notes}
 use Rattle.fam_judge.proofs.Choices.{Chosen, IsBegun, as_it_is, at_mark, chosen_back, chosen_begins, chosen_last, faces_chosen, mark_came, no_mark_came}
-use Rattle.fam_judge.proofs.Folding.{shape_in, told_in}
-use Rattle.fam_judge.proofs.Pairing.{paired}
+use Rattle.fam_judge.proofs.Folding.{shape_in}
 use Rattle.fam_journal.proofs.Shapes.Pairs.{pairs_at}
 use Rattle.fam_judge.proofs.Places.{Running, changed_is, changed_twice, running_at, runs_at}
 use Rattle.fam_judge.proofs.Realized.{real_before, real_reaches}

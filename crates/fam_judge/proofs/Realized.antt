@@ -1,28 +1,17 @@
 -- Where a line leads from a state that some journal comes to, it leads to another one.
-use Rattle.std.proofs.Common.{◌≡◌, ◌≢◌, ◌⊎◌, inl, inr, ℕ, Bool, true, false, List, [], ◌∷◌, ◌++◌, length, map, Option, Some, None, refl, ap, ap₂, sym, ◌∙◌, subst}
-use Rattle.std.specs.Prelude.{⊤, IsTrue, is_some, option_map, slice_get}
-use Rattle.std.proofs.lemmas.List.{append_assoc}
-use Rattle.std.proofs.lemmas.Option.{same_Some, slice_get-map}
-use Rattle.fam_base.specs.declared.cmd.Cmd.{Cmd}
-use Rattle.fam_base.specs.declared.entry.Entry.{Entry}
+use Rattle.std.proofs.Common.{◌≡◌, ℕ, List, [], ◌∷◌, Option, Some, None, refl, ap, sym, ◌∙◌, subst}
+use Rattle.std.specs.Prelude.{option_map, slice_get}
+use Rattle.std.proofs.lemmas.Option.{same_Some}
 use Rattle.fam_base.specs.Image.{Image}
 use Rattle.fam_commands.specs.Appends.{HasWish}
-use Rattle.fam_journal.specs.Legal.{FoundAllowed, OfHost, WritesAllowed}
 use Rattle.fam_journal.specs.Members.{changed_at}
-use Rattle.fam_journal.specs.Notes.{Answer, Replied, MediaFault, Note, Host, Made, Cut, Start, Mark, Found, Writes, Answered, Stop, Halt, Umount, Refused}
-use Rattle.fam_journal.specs.Past.{HostPast, State, settled_length, state_after}
-use Rattle.fam_journal.specs.Shapes.{Begun, CommandStage, HostShape, IsHead, Marked, Met, Named, OfRunning, Pairs, TaskNote, TaskShape, with_stage}
-use Rattle.fam_judge.specs.Fitting.{AnswerFits, Fits}
-use Rattle.fam_judge.specs.Formed.{AnswerPlace, HasPlace}
-use Rattle.fam_judge.specs.Possible.{Before, Leads, LeadsTo, Meets, Possible, Progress, Reaches, ReachesFor, StageIs, Steps, Wishes, Wrote, after, after_line, as_is, first_possible, giver, marked, meets, new_progress, past_in, progress_after, shapes_in, stands, told_met, unmarked, untold_met, with_mark, without_mark, written, wrote}
-use Rattle.fam_judge.specs.Standing.{MayStand, faces, is_own}
-use Rattle.fam_judge.specs.Untold.{untold_note}
+use Rattle.fam_journal.specs.Notes.{Note, Found}
+use Rattle.fam_journal.specs.Shapes.{Begun, CommandStage, IsHead, Marked, Met, Named, Pairs, TaskNote, TaskShape, with_stage}
+use Rattle.fam_judge.specs.Possible.{Before, Meets, Possible, Progress, Reaches, StageIs, Wrote, after, as_is, marked, meets, stands, shown_met, unmarked, left_out_met, with_mark, written, wrote}
 use Rattle.fam_judge.proofs.Choices.{Chosen, IsBegun, at_mark, chosen_back, faces_chosen, floorless, mark_came, no_mark_came, as_it_is}
-use Rattle.fam_judge.proofs.Folding.{shape_in, told_in}
 use Rattle.fam_judge.proofs.Members.{changed_same}
 use Rattle.fam_judge.proofs.Places.{Running, changed_is, changed_twice, running_at, runs_at}
-use Rattle.fam_judge.proofs.Realizing.{ComesTo, IsRealized, IsRealizedAt, begun_at, begun_stage, host_here, line_more, real_found, real_line, real_marked, real_stands, real_unmarked, real_writes, runs_here, stage_at, with_hosts}
-use Rattle.fam_judge.proofs.Standing.Alike.{stands_seen}
+use Rattle.fam_judge.proofs.Realizing.{IsRealized, IsRealizedAt, begun_stage, real_found, real_marked, real_stands, real_unmarked, real_writes, stage_at}
 
 met_begun : (n : ℕ) → Met n ≡ Begun → ⊥
 met_begun n e = cc
@@ -71,8 +60,8 @@ module _ (start : Image) (lines : List Note) (h : ℕ) (x : Possible) (real : Is
 
   -- so where its command has found entries
   real_meets : (m : Possible) → Meets start h x m → IsRealizedAt start lines h m
-  real_meets m (told_met n is e) = subst (IsRealizedAt start lines h) (sym e) (real_stands start lines h x real (not_begun (Met n) (met_begun n) is))
-  real_meets m (untold_met n head wish found e) = subst (IsRealizedAt start lines h) (sym e) (by (head_is head))
+  real_meets m (shown_met n is e) = subst (IsRealizedAt start lines h) (sym e) (real_stands start lines h x real (not_begun (Met n) (met_begun n) is))
+  real_meets m (left_out_met n head wish found e) = subst (IsRealizedAt start lines h) (sym e) (by (head_is head))
     where
       wishes : (p : Progress) (t : TaskShape) → slice_get x.hosts h ≡ Some p → p.shape.task ≡ Some t → HasWish t.cmd
       wishes p t is runs =

@@ -1,28 +1,24 @@
 -- Each possible state is one that some journal comes to, whatever marks that weren't told have come.
-use Prim.Native.Nat.{zero, suc}
-use Rattle.std.proofs.Common.{◌≡◌, ◌≢◌, ◌⊎◌, inl, inr, ℕ, Bool, true, false, List, [], ◌∷◌, ◌++◌, length, map, Option, Some, None, refl, ap, ap₂, sym, ◌∙◌, subst}
-use Rattle.std.specs.Prelude.{⊤, IsTrue, option_map, slice_get}
+use Rattle.std.proofs.Common.{◌≡◌, inl, ℕ, List, [], ◌∷◌, ◌++◌, length, Option, Some, refl, ap, ap₂, sym, ◌∙◌, subst}
+use Rattle.std.specs.Prelude.{IsTrue, option_map, slice_get}
 use Rattle.std.proofs.lemmas.List.{append-nil}
 use Rattle.std.proofs.lemmas.Option.{same_Some, slice_get-map}
-use Rattle.fam_base.specs.declared.cmd.Cmd.{Cmd}
 use Rattle.fam_base.specs.declared.entry.Entry.{Entry}
 use Rattle.fam_base.specs.Image.{Image}
-use Rattle.fam_commands.specs.Appends.{HasWish}
 use Rattle.fam_journal.specs.Legal.{FoundAllowed, OfHost, WritesAllowed}
 use Rattle.fam_journal.specs.Members.{changed_at}
-use Rattle.fam_journal.specs.Notes.{Answer, Replied, MediaFault, Note, Host, Made, Cut, Start, Mark, Found, Writes, Answered, Stop, Halt, Umount, Refused}
+use Rattle.fam_journal.specs.Notes.{Note, Found, Writes}
 use Rattle.fam_journal.specs.Past.{HostPast, State, settled_length, state_after}
-use Rattle.fam_journal.specs.Shapes.{Begun, CommandStage, HostShape, IsHead, Marked, Met, Named, OfRunning, Pairs, TaskNote, TaskShape, with_stage}
+use Rattle.fam_journal.specs.Shapes.{Begun, CommandStage, Met, OfRunning, Pairs, TaskNote, TaskShape, with_stage}
 use Rattle.fam_judge.specs.Covering.{AreFitting, behind, state_of}
-use Rattle.fam_judge.specs.Fitting.{AnswerFits, Fits}
-use Rattle.fam_judge.specs.Formed.{HasPlace}
-use Rattle.fam_judge.specs.Possible.{Leads, LeadsTo, Meets, Possible, Progress, Reaches, ReachesFor, StageIs, Steps, Wishes, Wrote, after, after_line, first_possible, giver, marked, meets, new_progress, past_in, progress_after, shapes_in, stands, told_met, unmarked, untold_met, with_mark, without_mark, wrote}
+use Rattle.fam_judge.specs.Fitting.{Fits}
+use Rattle.fam_judge.specs.Possible.{Possible, Progress, StageIs, after, first_possible, past_in, progress_after, shapes_in, with_mark, without_mark}
 use Rattle.fam_judge.specs.Shows.{ShowsJournal, is_inner}
-use Rattle.fam_judge.specs.Standing.{MayStand, faces, is_own}
+use Rattle.fam_judge.specs.Standing.{MayStand}
 use Rattle.fam_judge.specs.Untold.{untold_note, untold_notes}
-use Rattle.fam_judge.proofs.Choices.{Back, ButOne, Chosen, IsBegun, at_mark, but_back, but_chosen, but_here, chosen_but, faces_chosen, floorless, mark_came, no_mark_came, as_it_is, unchanged_but}
-use Rattle.fam_judge.proofs.Folding.{behind_both, behind_more, shape_in, told_in}
-use Rattle.fam_judge.proofs.Places.{Running, changed_is, changed_twice, running_at, runs_at}
+use Rattle.fam_judge.proofs.Choices.{Back, ButOne, Chosen, IsBegun, at_mark, but_back, but_chosen, but_here, chosen_but, floorless, mark_came, no_mark_came, as_it_is, unchanged_but}
+use Rattle.fam_judge.proofs.Folding.{behind_more, told_in}
+use Rattle.fam_judge.proofs.Places.{running_at, runs_at}
 use Rattle.fam_judge.proofs.Showing.{shows_both}
 
 -- Journals.

@@ -1,25 +1,25 @@
 -- Sets of possible states, line by line.
 use Prim.Native.Nat.{zero, suc}
-use Rattle.std.proofs.Common.{◌≡◌, ◌≢◌, ◌⊎◌, ◌+◌, inl, inr, ℕ, List, [], ◌∷◌, ◌++◌, length, map, Option, Some, None, refl, ap, ap₂, sym, ◌∙◌, subst}
-use Rattle.std.specs.Prelude.{⊤, IsTrue, slice_get}
+use Rattle.std.proofs.Common.{◌≡◌, ◌≢◌, ◌⊎◌, ◌+◌, inl, inr, ℕ, List, [], ◌∷◌, ◌++◌, length, Option, Some, None, refl, ap, ap₂, sym, ◌∙◌, subst}
+use Rattle.std.specs.Prelude.{IsTrue, slice_get}
 use Rattle.std.proofs.lemmas.Bool.{cases_eq}
 use Rattle.std.proofs.lemmas.List.{map-append}
 use Rattle.fam_base.specs.Image.{Image}
-use Rattle.fam_journal.specs.Notes.{Answer, Note, Host, Made, Cut, Start, Mark, Found, Writes, Answered, Stop, Halt, Umount, Refused}
+use Rattle.fam_journal.specs.Notes.{Note, Host, Made, Cut, Start, Mark, Found, Writes, Answered, Stop, Halt, Umount, Refused}
 use Rattle.fam_judge.specs.Alike.{told_note}
-use Rattle.fam_judge.specs.Covering.{AreFitting, Direct, GoesOn, IsOf, Judges, Late, Over, behind, direct, late, same, state_of}
+use Rattle.fam_judge.specs.Covering.{AreFitting, GoesOn, HasBelow, IsBelow, IsOf, Judges, Over, behind, direct, late, same, state_of}
 use Rattle.fam_judge.specs.Explained.{IsExplained}
 use Rattle.fam_judge.specs.Fitting.{Fits}
-use Rattle.fam_judge.specs.Possible.{Elsewhere, IsPossible, Leads, LeadsTo, Possible, Steps, Wrote, after, as_is, first_possible, past_in, settled_by, shapes_in, written}
+use Rattle.fam_judge.specs.Possible.{Elsewhere, IsPossible, Leads, LeadsTo, Possible, after, first_possible, past_in, settled_by, shapes_in}
 use Rattle.fam_judge.specs.Shows.{ShowsJournal, is_inner}
 use Rattle.fam_judge.specs.Standing.{MayStand, faces}
 use Rattle.fam_judge.specs.Untold.{untold_note, untold_notes}
 use Rattle.fam_judge.proofs.Completing.{over_apart}
-use Rattle.fam_judge.proofs.Folding.{behind_both, behind_more}
+use Rattle.fam_judge.proofs.Folding.{behind_both}
 use Rattle.fam_judge.proofs.Goodness.{Each, Wishful, apart_after, each_wishes, wishes_after}
-use Rattle.fam_judge.proofs.Judging.{explained_possible, fitting_from, possible_explained, untold_all_again}
+use Rattle.fam_judge.proofs.Judging.{fitting_from, possible_explained, untold_all_again}
 use Rattle.fam_judge.proofs.OverHidden.{late_now}
-use Rattle.fam_judge.proofs.OverHosts.{IsApart}
+use Rattle.fam_judge.proofs.OverHosts.{IsApart, direct_below}
 use Rattle.fam_judge.proofs.OverLate.{inner_over}
 use Rattle.fam_judge.proofs.OverLines.{line_follows}
 use Rattle.fam_judge.proofs.Showing.{first_line, parts, shows_both, skipped}
@@ -180,20 +180,38 @@ module _ (start : Image) (lines : List Note) (xs zs : List Possible) (y : Note) 
     pub is : IsOf zs next
     pub over : Over start next c
 
+  below_over : (z w c : Possible) → (w ≡ z) ⊎ IsBelow w z → Over start z c → Over start w c
+  below_over z w c (inl e) over = subst (λ (x : Possible). Over start x c) (sym e) over
+  below_over z w c (inr below) (direct d) = direct (direct_below w z c below d)
+  below_over z w c (inr below) (late l) = late (record {
+    host = l.host;
+    pre = l.pre;
+    direct = direct_below w z l.pre below l.direct;
+    seq = l.seq;
+    entry = l.entry;
+    may = l.may;
+    fits = l.fits;
+    hosts = l.hosts;
+    state = l.state;
+  })
+
+  below_next : (c z : Possible) → HasBelow zs z → Over start z c → Next c
+  below_next c z has over = record { next = has.state; is = has.is; over = below_over z has.state c has.below over }
+
   by_over : (x c : Possible) → IsOf xs x → IsGood c → MayStand (length start) (shapes_in c) y → Fits (past_in start c) y → Over start x c → Next (after start c y)
   by_over x c is good may fits (direct d) =
       let f = line_follows start x c d (over_apart start x c (direct d) good.apart) (each_wishes c good.wishes) y may fits in
-      record { next = f.next; is = on.own x f.next is f.leads; over = direct f.over }
+      below_next (after start c y) f.next (on.own x f.next is f.leads) (direct f.over)
   by_over x c is good may fits (late l) = by (elsewhere_or l.host l.seq y)
     where
       by : Elsewhere l.host l.seq y ⊎ (Elsewhere l.host l.seq y → ⊥) → Next (after start c y)
       by (inl other) =
           let s = late_stays start x c l good.apart good.wishes y other may fits in
-          record { next = s.next; is = on.own x s.next is s.leads; over = late s.late }
+          below_next (after start c y) s.next (on.own x s.next is s.leads) (late s.late)
       by (inr tells) =
           let now = late_now start x c (over_apart start x c (late l) good.apart) l in
           let f = line_follows start now.now c now.direct (over_apart start now.now c (direct now.direct) good.apart) (each_wishes c good.wishes) y may fits in
-          record { next = f.next; is = on.named x now.now f.next l.host is now.wrote (λ other. tells (subst (λ (n : ℕ). Elsewhere l.host n y) now.number other)) f.leads; over = direct f.over }
+          below_next (after start c y) f.next (on.named x now.now f.next l.host is now.wrote (λ other. tells (subst (λ (n : ℕ). Elsewhere l.host n y) now.number other)) f.leads) (direct f.over)
 
   at_line : (journal : List Note) → LineAt lines y journal → AreFitting start (first_possible start) journal → Next (state_of start journal)
   at_line journal at fitting =

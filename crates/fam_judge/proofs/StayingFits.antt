@@ -14,7 +14,7 @@ use Rattle.fam_rules.specs.Reply.{Reply}
 use Rattle.fam_rules.specs.ReportLaws.{IsSoundReport}
 use Rattle.fam_journal.specs.Legal.{AppendedAllowed, CauseAllowed, DamageAllowed, DecideAllowed, FoundAllowed, IsAcknowledged, IsReportOf, ReportAllowed}
 use Rattle.fam_journal.specs.Notes.{Answer, Replied, MediaFault}
-use Rattle.fam_journal.specs.Past.{BadHeader, BadSlot, Damage, HostPast, NoSuperblock, Sound, State, acknowledges, reported_count, shows, shows_count}
+use Rattle.fam_journal.specs.Past.{BadHeader, BadSlot, Damage, HostPast, NoSuperblock, Sound, State, acknowledges, reported_count, shows_count}
 use Rattle.fam_judge.specs.Covering.{StateOver, dropped, joined, same}
 use Rattle.fam_judge.specs.Fitting.{AnswerFits, AskFits, IsFitting, QuestionFits, ReplyFits}
 use Rattle.fam_judge.specs.Possible.{settled_by, settled_in}

@@ -1,6 +1,6 @@
 -- Which possible state allows no less than what a journal comes to: the one is settled no further, of each command it has told no more,
 -- and its floors are no higher.
-use Rattle.std.specs.Prelude.{ℕ, ⊤, ◌≡◌, ◌+◌, ◌≤◌, List, [], ◌∷◌, ◌++◌, length, slice_get, Option, Some, None}
+use Rattle.std.specs.Prelude.{ℕ, ⊤, ◌≡◌, ◌⊎◌, ◌≤◌, List, [], ◌∷◌, ◌++◌, length, slice_get, Option, Some, None}
 use Rattle.fam_base.specs.declared.entry.Entry.{Entry}
 use Rattle.fam_base.specs.declared.entry.Params.{Params}
 use Rattle.fam_base.specs.Image.{Image}
@@ -25,7 +25,7 @@ pub data StateOver (s t : State) : Type 0 where
 
 -- Floors.
 
--- a command's mark, were it right behind its start, would have settled no more than this
+-- there is a floor, and it is at most what is settled
 abbrev pub HasFloor : ℕ → Option ℕ → Type 0
 HasFloor settled floor = (f : ℕ) × (floor ≡ Some f) × (f ≤ settled)
 
@@ -35,7 +35,8 @@ FloorUnder low high = (f : ℕ) × (g : ℕ) × (low ≡ Some f) × (high ≡ So
 
 -- Stages.
 
--- how far a command has come by what lines tell, and how far it has come; the first state is s
+-- how far a command has come by what lines tell, and how far it has come; the first state is s. While the mark may still be asked for the
+-- floor by the lines is no higher; and a master has found entries only where nothing pends
 abbrev pub StagesOver : State → CommandStage → CommandStage → HostPast → HostPast → Type 0
 StagesOver s Begun Begun p q = HasFloor (settled_length s) p.floor
 StagesOver s Begun Marked p q = FloorUnder p.floor q.floor
@@ -111,21 +112,54 @@ pub data Over (start : Image) (x c : Possible) : Type 0 where
   direct : Direct x c → Over start x c
   late : Late start x c → Over start x c
 
+-- Possible states of which the one allows no less than the other.
+
+-- of a host's command: its floor is no higher while its mark may still be asked for, and it has named the same entry
+abbrev pub StageBelow : CommandStage → HostPast → HostPast → Type 0
+StageBelow Begun p q = FloorUnder p.floor q.floor
+StageBelow Marked p q = FloorUnder p.floor q.floor
+StageBelow (Met n) p q = ⊤
+StageBelow (Named seq) p q = p.wrote ≡ q.wrote
+
+-- so of a running command, if any
+abbrev pub TaskBelow : Option TaskShape → HostPast → HostPast → Type 0
+TaskBelow None p q = ⊤
+TaskBelow (Some t) p q = StageBelow t.stage p q
+
+-- so of a host: of a command that has ended nothing is asked for any more
+pub record HostBelow (p q : Progress) : Type 0 where
+  pub shape : p.shape ≡ q.shape
+  pub uuid : p.told.uuid ≡ q.told.uuid
+  pub cmd : p.told.cmd ≡ q.told.cmd
+  pub task : TaskBelow q.shape.task p.told q.told
+
+-- so of a state
+pub record IsBelow (x y : Possible) : Type 0 where
+  pub state : x.state ≡ y.state
+  pub hosts : Pairs HostBelow x.hosts y.hosts
+
 -- Sets of states.
 
 -- one of these
 abbrev pub IsOf : List Possible → Possible → Type 0
 IsOf xs x = (i : ℕ) × (slice_get xs i ≡ Some x)
 
--- each of these states is possible behind the lines, and whatever journal the lines show comes to what one of them covers
+-- one of these is the state, or allows no less than it
+pub record HasBelow (xs : List Possible) (y : Possible) : Type 0 where
+  pub state : Possible
+  pub is : IsOf xs state
+  pub below : (state ≡ y) ⊎ IsBelow state y
+
+-- each of these states is possible behind the lines; and whatever journal the lines show, of notes that stand and fit and tell nothing that
+-- isn't told, it comes to what one of them covers
 pub record Judges (start : Image) (lines : List Note) (xs : List Possible) : Type 0 where
   pub sound : (x : Possible) → IsOf xs x → IsPossible start lines x
   pub complete : (journal : List Note) → ShowsJournal lines journal → untold_notes journal ≡ journal → AreFitting start (first_possible start) journal
       → (x : Possible) × IsOf xs x × Over start x (state_of start journal)
 
--- the line leads from the first states to the second ones: to no others than it may, and to all that some state, or one that has named an
--- entry of which the line tells, leads to
+-- the line leads from the first states to the second ones: to no others than it may; and for each state to which it leads, from one of the
+-- first ones or from one that has named an entry of which the line tells, to one that allows no less
 pub record GoesOn (start : Image) (line : Note) (xs zs : List Possible) : Type 0 where
   pub sound : (z : Possible) → IsOf zs z → (x : Possible) × IsOf xs x × Leads start x line z
-  pub own : (x z : Possible) → IsOf xs x → Steps start x line z → IsOf zs z
-  pub named : (x w z : Possible) (k : ℕ) → IsOf xs x → (wrote : Wrote start k x w) → (Elsewhere k wrote.seq line → ⊥) → Steps start w line z → IsOf zs z
+  pub own : (x z : Possible) → IsOf xs x → Steps start x line z → HasBelow zs z
+  pub named : (x w z : Possible) (k : ℕ) → IsOf xs x → (wrote : Wrote start k x w) → (Elsewhere k wrote.seq line → ⊥) → Steps start w line z → HasBelow zs z

@@ -1,5 +1,5 @@
 -- Which notes fit what is told before them: as `Allowed` of fam_journal says, but that a byte or an entry of a source, which isn't told,
--- may be any. docs/MODEL.md, "The journal".
+-- may be any. docs/MODEL.md, "Recorded histories".
 use Rattle.std.specs.Prelude.{ℕ, ⊤, ◌≡◌, ◌≢◌, ◌⊎◌, ◌<◌, List, length, take, slice_get, slice_index, Option, Some, None}
 use Rattle.fam_base.specs.declared.cmd.Cmd.{Cmd}
 use Rattle.fam_base.specs.declared.cmd.Cmd.TheVariants.{Logplay, Mount, Mkdir, Creat, Cp, Verify, Read, Check, Fsck}

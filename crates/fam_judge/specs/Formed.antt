@@ -25,7 +25,7 @@ use Rattle.fam_journal.specs.Shapes.{Begun, CommandStage, HasMet, HostShape, Mar
 
 -- Commands.
 
--- a command's mode, count and listing are within their limits, and its path, numbers and bytes fit
+-- a command's mode, count and listing are within their limits; and what it appends has a path, numbers and bytes that fit
 pub record IsSoundCommand (cmd : Cmd) : Type 0 where
   pub limits : IsSoundCmd cmd
   pub fits : IsCommand cmd

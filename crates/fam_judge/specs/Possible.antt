@@ -1,17 +1,16 @@
--- Which states hosts may be in behind the lines of a history, whatever notes it leaves out. A mark that is left out stands best right
+-- States that stand for all in which hosts may be behind the lines of a history, whatever notes it leaves out. A mark that is left out stands best right
 -- behind its command's start, where the least is settled; what a command that appends found and writes stands best where a later line
 -- tells of it.
-use Rattle.std.specs.Prelude.{ℕ, ⊤, ◌≡◌, ◌≢◌, ◌⊎◌, ◌+◌, false, List, [], ◌∷◌, ◌++◌, map, length, slice_get, Option, Some, None}
-use Rattle.fam_base.specs.declared.cmd.Cmd.{Cmd}
+use Rattle.std.specs.Prelude.{ℕ, ⊤, ◌≡◌, ◌≢◌, ◌+◌, false, List, [], ◌∷◌, ◌++◌, map, length, slice_get, Option, Some, None}
 use Rattle.fam_base.specs.declared.entry.Entry.{Entry}
 use Rattle.fam_base.specs.Image.{Image}
 use Rattle.fam_commands.specs.Appends.{HasWish}
 use Rattle.fam_commands.specs.ReplyClasses.{Appending, Declining, Faulty, ReplyClass, Reporting, Showing, reply_class}
-use Rattle.fam_journal.specs.Legal.{FoundAllowed, OfHost, WritesAllowed}
+use Rattle.fam_journal.specs.Legal.{FoundAllowed}
 use Rattle.fam_journal.specs.Members.{changed_at}
 use Rattle.fam_journal.specs.Notes.{Answer, Replied, MediaFault, Note, Host, Made, Cut, Start, Mark, Found, Writes, Answered, Stop, Halt, Umount, Refused}
 use Rattle.fam_journal.specs.Past.{HostPast, Past, State, Bad, Sound, first_state, new_host, reported_count, settled_length, state_after}
-use Rattle.fam_journal.specs.Shapes.{Begun, CommandStage, HostShape, IsHead, Marked, Met, Named, OfRunning, TaskNote, TaskShape, keeps_behind, with_stage}
+use Rattle.fam_journal.specs.Shapes.{Begun, CommandStage, HostShape, IsHead, Marked, Met, Named, OfRunning, TaskNote, keeps_behind, with_stage}
 use Rattle.fam_judge.specs.Fitting.{Fits}
 use Rattle.fam_judge.specs.Standing.{MayStand}
 
@@ -42,10 +41,6 @@ shapes_in x = map (λ (p : Progress). p.shape) x.hosts
 -- a host that is declared
 abbrev pub new_progress : List ℕ → List ℕ → Progress
 new_progress name uuid = record { told = new_host name uuid; shape = record { name = name; uuid = uuid; task = None; keeps = false } }
-
--- a host's command ends, with or without what it keeps
-abbrev pub ended : Progress → Progress
-ended p = record p { shape = record p.shape { task = None } }
 
 -- the hosts after a note; so much is settled before it
 abbrev pub progress_after : ℕ → List Progress → Note → List Progress
@@ -96,18 +91,18 @@ StageIs P h x = OfRunning (slice_get (shapes_in x) h) (λ me t. P t.stage)
 abbrev pub Wishes : ℕ → Possible → Type 0
 Wishes h x = OfRunning (slice_get (shapes_in x) h) (λ me t. HasWish t.cmd)
 
--- the mark of host h's command hasn't come
+-- the state where the mark of host h's command, which wasn't told, hasn't come
 abbrev pub without_mark : ℕ → Possible → Possible
 without_mark h x = record x { hosts = changed_at h (λ p. record p { told = record p.told { floor = None } }) x.hosts }
 
--- or it stands where the command began
+-- the state where it came right behind the command's start
 abbrev pub with_mark : ℕ → Possible → Possible
 with_mark h x = record x { hosts = changed_at h (λ p. record p { shape = with_stage Marked p.shape }) x.hosts }
 
 -- host h's command has found entries by now
 pub data Meets (start : Image) (h : ℕ) (x met : Possible) : Type 0 where
-  told_met : (n : ℕ) → StageIs (λ stage. stage ≡ Met n) h x → met ≡ x → Meets start h x met
-  untold_met : (n : ℕ) → StageIs IsHead h x → Wishes h x → FoundAllowed n x.state → met ≡ after start x (Found h n) → Meets start h x met
+  shown_met : (n : ℕ) → StageIs (λ stage. stage ≡ Met n) h x → met ≡ x → Meets start h x met
+  left_out_met : (n : ℕ) → StageIs IsHead h x → Wishes h x → FoundAllowed n x.state → met ≡ after start x (Found h n) → Meets start h x met
 
 -- it has named an entry by now
 pub record Wrote (start : Image) (h : ℕ) (x wrote : Possible) : Type 0 where
@@ -183,7 +178,7 @@ abbrev pub LeadsTo : Image → Possible → List Note → Possible → Type 0
 LeadsTo start x [] y = y ≡ x
 LeadsTo start x (line ∷ lines) y = (mid : Possible) × Leads start x line mid × LeadsTo start mid lines y
 
--- a state in which hosts may be behind these lines
+-- a state that stands for some in which hosts may be behind these lines
 abbrev pub IsPossible : Image → List Note → Possible → Type 0
 IsPossible start lines x = LeadsTo start (first_possible start) lines x
 
@@ -202,7 +197,8 @@ abbrev pub settled_by : Answer → Option ℕ
 settled_by (Replied given) = settled_in (reply_class given)
 settled_by (MediaFault line) = None
 
--- a line that tells nothing of entry seq, which host k has named: where it ends k's command, or shows or counts the entry, it tells of it
+-- a line that tells nothing of entry seq, which host k has named. It tells of it where it ends k's command, is another one of it, or shows or
+-- counts the entry; a file system that is made, an umount of k and another entry that is named can't stand there
 abbrev pub Elsewhere : ℕ → ℕ → Note → Type 0
 Elsewhere k seq (Host name uuid) = ⊤
 Elsewhere k seq (Made h p) = ⊤

@@ -118,11 +118,11 @@ is_need bytes = list_any (leaves_log bytes) units
 
 -- Commands, by what is told of them.
 
--- a listing may have so many entries: it may have any number below 2 ^ 64
+-- some entries in the order of their paths are so many. They are of any number, as a law says of those below 2 ^ 64
 abbrev pub MayList : ℕ → Type 0
 MayList count = (listing : List Entry) × IsListing listing × (length listing ≡ count)
 
--- path, numbers and bytes of a command are within their limits
+-- the limits of a command: of a verify there are none, and of a read that of its count
 abbrev pub IsSoundPlain : Cmd → Type 0
 IsSoundPlain Logplay = ⊤
 IsSoundPlain Mount = ⊤
@@ -154,7 +154,7 @@ is_told_mount (told.Check count) = false
 abbrev pub MayDeclare : List Face → List ℕ → List ℕ → Type 0
 MayDeclare all name uuid = IsUuid uuid × (same_in name uuid all ≡ None) × (length all < host_limit)
 
--- host h begins a command that tells this: the image has a gate, and the host runs none; and where it mounts keeps nothing
+-- host h begins a command that tells this: the image has a gate, the host runs none, and where it mounts keeps nothing; and the command is sound
 abbrev pub MayStart : ℕ → List Face → ℕ → ToldCommand → Type 0
 MayStart lines all h cmd =
     (least_lines ≤ lines) × OfFace (slice_get all h) (λ f. (f.runs ≡ false) × ((is_told_mount cmd && f.keeps) ≡ false)) × SoundTold cmd
@@ -191,7 +191,7 @@ MayRefuse lines all name (why.MediaFault line) = IsDeclared name all × (line.0 
 
 -- Notes.
 
--- on a media of so many lines, by what the notes before tell of the hosts
+-- the note may stand next, on a media of so many lines, by what the notes before tell of the hosts
 abbrev pub MayStand : ℕ → List HostShape → Note → Type 0
 MayStand lines hosts (Host name uuid) = MayDeclare (faces hosts) name uuid
 MayStand lines hosts (Made h p) = (engaged_in (faces hosts) ≡ None) × OfFace (slice_get (faces hosts) h) (λ f. IsMadeBy f.uuid lines p)

@@ -183,7 +183,7 @@ pub fn hosts_are_told()
 {}
 
 /// Which histories are explained, without a word of events: a journal whose notes stand (`AreStanding`), and are allowed,
-/// explains what it shows (`explains`), and some such journal explains what is explained (`explained`).
+/// explains each history that shows it (`explains`), and some such journal explains what is explained (`explained`).
 pub fn what_stands_explains()
     ensures explains { (start : Image) (history journal : List Note) → ShowsJournal history journal
         → AreStanding (length start) [] journal → AreAllowedForSome start [] journal → IsExplained start history }
@@ -198,7 +198,8 @@ pub fn a_listing_may_have_any_length()
 {}
 
 /// What a check may answer of a listing of which the number of its entries is told (`CheckFits`) is decided by numbers of the tree
-/// (`CountsFit`): what it may answer fits these (`counted`), and for what fits there is such a listing (`listed`).
+/// (`CountsFit`): what it may answer fits these (`counted`), and for what fits there is such a listing, where the entries that are
+/// counted aren't told (`listed`).
 pub fn a_check_is_counted()
     ensures counted { (entries told : List Entry) (counts : Checked) → CheckFits (replay entries) (Check told) counts
         → CountsFit (replay entries) (length told) counts }
@@ -217,8 +218,9 @@ pub fn some_state_is_possible()
 {}
 
 /// A set of states that judges the lines of a history (`Judges`) begins with the one before them (`first`), and goes on by one
-/// line (`line`) to all states to which that leads, but names no entry of which it tells nothing (`GoesOn`). Where no state is
-/// left the history isn't explained (`none`), and where one is left it is (`some`).
+/// line that tells nothing of what isn't told (`line`): to states that allow no less than those to which it leads. It needn't
+/// hold states that have named an entry before a line that tells nothing of it (`GoesOn`). Where no state is left the history
+/// isn't explained (`none`), and where one is left it is (`some`).
 pub fn a_set_of_states_judges()
     ensures first { (start : Image) → Judges start [] (first_possible start ∷ []) }
     ensures line { (start : Image) (lines : List Note) (xs zs : List Possible) (line : Note) → untold_note line ≡ line

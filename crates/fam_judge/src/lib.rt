@@ -3,11 +3,9 @@
 //! `specs/Shows.antt` says what a history may leave out, `specs/Alike.antt` which journals are the same but for bytes,
 //! `specs/Formed.antt` what the form of the tables is, and `specs/Explained.antt` which histories are explained.
 //! `specs/Asks.antt` says which events ask for sound commands, `specs/GivesWay.antt` over which lines a start may be moved up,
-//! and an answer down. `specs/Untold.antt` has notes without what isn't told, and `specs/Fitting.antt` says what fits these.
-//! and an answer down. `specs/Standing.antt` has the form of the tables as a table over the note alone, and
-//! `specs/ToldHosts.antt` what is told of the hosts.
-//! and an answer down. `specs/Untold.antt` has notes without what isn't told, and `specs/Fitting.antt` says what fits these, of a
-//! check by the numbers of `specs/Counting.antt`.
+//! and an answer down. What a program can test is said by `specs/Standing.antt`, the form of the tables without events, with
+//! `specs/ToldHosts.antt`; by `specs/Fitting.antt`, what is allowed, of notes without what isn't told (`specs/Untold.antt`), with
+//! `specs/Counting.antt` for checks; and by `specs/Possible.antt` and `specs/Covering.antt`, the states behind lines.
 #![tactic(auto)]
 
 mod laws;

@@ -1,19 +1,17 @@
 -- Sound commands, by what is told of them.
-use Rattle.std.proofs.Common.{◌≡◌, ◌<◌, ◌≤◌, ◌^◌, inl, inr, ℕ, List, length, Some, None, lit<, refl, ap, sym, ◌∙◌, subst}
-use Rattle.std.specs.Prelude.{All, replicate, slice_index}
+use Rattle.std.proofs.Common.{◌≡◌, ◌<◌, ◌≤◌, ◌^◌, inl, inr, ℕ, length, Some, None, lit<, refl, ap, sym, ◌∙◌, subst}
+use Rattle.std.specs.Prelude.{replicate, slice_index}
 use Rattle.std.proofs.lemmas.Bool.{cases_lt}
 use Rattle.std.proofs.lemmas.List.{get_or-replicate, get_or_past, length-replicate}
 use Rattle.std.proofs.lemmas.Option.{same_Some}
 use Rattle.fam_base.specs.declared.cmd.Cmd.{Cmd}
 use Rattle.fam_base.specs.declared.cmd.Cmd.TheVariants.{Logplay, Mount, Mkdir, Creat, Cp, Verify, Read, Check, Fsck}
 use Rattle.fam_base.specs.declared.cmd.Content.TheVariants as content
-use Rattle.fam_base.specs.declared.entry.Entry.{Entry}
 use Rattle.fam_commands.specs.Classes.{is_mount}
 use Rattle.fam_history.specs.declared.command.ToldCommand.TheVariants as told
 use Rattle.fam_history.specs.Told.{told_of_command}
 use Rattle.fam_rules.specs.Decide.{Wish, wish_of}
 use Rattle.fam_rules.specs.DecideLaws.{IsSoundWish}
-use Rattle.fam_tree.specs.Listings.{IsListed}
 use Rattle.fam_judge.specs.Formed.{IsSoundCommand}
 use Rattle.fam_judge.specs.Standing.{IsSoundPlain, SoundTold, is_told_mount}
 
