@@ -68,7 +68,7 @@ entries_all a b None (Some y) same more = absurd (cc)
 entries_all a b (Some x) None same more = absurd (cc)
 entries_all a b (Some x) (Some y) same more =
     map-append entry_of a (x ∷ []) ∙ ap₂ (λ (l : List Entry) (e : Entry). l ++ e ∷ []) same (same_Some x.entry y.entry more)
-        ∙ sym (map-append entry_of b (y ∷ []))
+    ∙ sym (map-append entry_of b (y ∷ []))
 
 none_too : (x y : Option File) → option_map entry_of x ≡ option_map entry_of y → x ≡ None → y ≡ None
 none_too x None same none = refl
@@ -115,7 +115,7 @@ decided_agrees x y p q a b f g decision agree params same more is =
       told = cmd.told;
       none = none_too f g more is.none;
       is = sym (ap₂ (λ (r : Params) (w : Option Wish). option_map (decide_wish r x.uuid (entries_of a)) w) params
-              (same_wish is.cmd cmd.other cmd.same)
+          (same_wish is.cmd cmd.other cmd.same)
           ∙ ap₂ (λ (me : List ℕ) (l : List Entry). option_map (decide_wish q me l) (wish_of cmd.other)) agree.uuid same) ∙ is.is;
     }
 

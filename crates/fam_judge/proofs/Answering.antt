@@ -74,11 +74,11 @@ module _ (told : List File) (given : Reply) where
       → Picks (GivesAsked told (cmd.Verify path against) given)
   path_pick path against fits =
       let pick = file_pick (λ ch (wanted : Content). (against ≡ untold_content wanted) × IsChosenContent ch.wanted wanted)
-          (λ wanted bytes. verified (length told) bytes wanted) (length told) given
-          (λ bytes. VerifiedFits (length told) bytes against given)
-          (λ bytes is. let one = verify_pick (length told) bytes against given is in
-              record { choice = one.choice; holds = λ wanted own good fill. one.holds own wanted fill good.0 good.1 })
-          (file_at told path) fits in record {
+      (λ wanted bytes. verified (length told) bytes wanted) (length told) given
+      (λ bytes. VerifiedFits (length told) bytes against given)
+      (λ bytes is. let one = verify_pick (length told) bytes against given is in
+      record { choice = one.choice; holds = λ wanted own good fill. one.holds own wanted fill good.0 good.1 })
+      (file_at told path) fits in record {
         choice = pick.choice;
         holds = λ files own fill same chosen.
             let of = is_of (cmd.Verify path against) own same in
@@ -92,15 +92,15 @@ module _ (told : List File) (given : Reply) where
       → Picks (GivesAsked told (cmd.Read path offset most) given)
   bytes_pick path offset most fits =
       let pick = file_pick {D = ⊤} (λ ch d. ⊤) (λ d bytes. reply.Bytes (length told) (file_bytes_from offset most bytes)) (length told) given
-          (λ bytes. ReadFits (length told) bytes offset most given)
-          (λ bytes is. let one = read_pick (length told) bytes offset most given is in
-              record { choice = one.choice; holds = λ d own good fill. one.holds own fill })
-          (file_at told path) fits in record {
+      (λ bytes. ReadFits (length told) bytes offset most given)
+      (λ bytes is. let one = read_pick (length told) bytes offset most given is in
+      record { choice = one.choice; holds = λ d own good fill. one.holds own fill })
+      (file_at told path) fits in record {
         choice = pick.choice;
         holds = λ files own fill same chosen.
             ap (ask files) (is_of (cmd.Read path offset most) own same)
             ∙ ap (λ (n : ℕ). Some (of_file n (file_at files path) (λ bytes. reply.Bytes n (file_bytes_from offset most bytes))))
-                (count pick.choice files fill)
+            (count pick.choice files fill)
             ∙ ap Some (pick.holds tt (file_at files path) tt (at_path (StandsChosen pick.choice) told files path fill));
       }
 

@@ -67,15 +67,15 @@ pub shown_reached : (start : Image) (history notes : List Note) → ShowsJournal
 shown_reached start [] [] shows x c over apart wishes fitting = record { state = x; leads = refl }
 shown_reached start [] (y ∷ notes) shows x c over apart wishes fitting =
     let more = shown_reached start [] notes shows.1 x (after start c (untold_note y)) (inner_over start x c apart over (untold_note y) (inner_is y shows.0) (length start) fitting.0 fitting.1)
-        (apart_after start (length start) c (untold_note y) apart fitting.0) (wishes_after start (length start) c (untold_note y) wishes fitting.0) fitting.2 in
+    (apart_after start (length start) c (untold_note y) apart fitting.0) (wishes_after start (length start) c (untold_note y) wishes fitting.0) fitting.2 in
     record { state = more.state; leads = more.leads }
 shown_reached start (line ∷ history) [] shows x c over apart wishes fitting = absurd shows
 shown_reached start (line ∷ history) (y ∷ notes) (inl here) x c over apart wishes fitting =
     let next = line_over start x c over apart wishes (untold_note y) fitting.0 fitting.1 in
     let more = shown_reached start history notes here.1 next.next (after start c (untold_note y)) (direct next.over)
-        (apart_after start (length start) c (untold_note y) apart fitting.0) (wishes_after start (length start) c (untold_note y) wishes fitting.0) fitting.2 in
+    (apart_after start (length start) c (untold_note y) apart fitting.0) (wishes_after start (length start) c (untold_note y) wishes fitting.0) fitting.2 in
     record { state = more.state; leads = (next.next, subst (λ (z : Note). Leads start x z next.next) (sym (alike_untold line y here.0)) next.leads, more.leads) }
 shown_reached start (line ∷ history) (y ∷ notes) (inr out) x c over apart wishes fitting =
     let more = shown_reached start (line ∷ history) notes out.1 x (after start c (untold_note y)) (inner_over start x c apart over (untold_note y) (inner_is y out.0) (length start) fitting.0 fitting.1)
-        (apart_after start (length start) c (untold_note y) apart fitting.0) (wishes_after start (length start) c (untold_note y) wishes fitting.0) fitting.2 in
+    (apart_after start (length start) c (untold_note y) apart fitting.0) (wishes_after start (length start) c (untold_note y) wishes fitting.0) fitting.2 in
     record { state = more.state; leads = more.leads }

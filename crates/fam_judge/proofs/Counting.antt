@@ -32,9 +32,10 @@ paths_above path (e ∷ es) above = (above.0, paths_above path es above.1)
 
 listing_in_order : (es : List Entry) → IsListing es → InOrder es
 listing_in_order [] listing = tt
-listing_in_order (e ∷ es) listing =
-    (paths_above e.path es (sorted_head path_cmp e.path (own_paths es) listing),
-    listing_in_order es (sorted_tail path_cmp e.path (own_paths es) listing))
+listing_in_order (e ∷ es) listing = (
+  paths_above e.path es (sorted_head path_cmp e.path (own_paths es) listing),
+  listing_in_order es (sorted_tail path_cmp e.path (own_paths es) listing),
+)
 
 same_length : (a b : List Entry) → untold_cmd (Check a) ≡ Check b → length b ≡ length a
 same_length a b alike = let is : replicate (length a) untold_entry ≡ b = cc in ap length (sym is) ∙ length-replicate (length a) untold_entry
@@ -60,10 +61,10 @@ module _ (tree : Tree) (keyed : IsKeyed tree) where
   pub counts_fit : (told : List Entry) (counts : Checked) → CheckFits tree (Check told) counts → CountsFit tree (length told) counts
   counts_fit told counts fits =
       let m : Merged (finmap.values tree) fits.listing =
-          merged (length (finmap.values tree) + length fits.listing) (finmap.values tree) fits.listing (omega arith)
-          (values_in_order tree keyed) (listing_in_order fits.listing fits.sound.limits) in
+      merged (length (finmap.values tree) + length fits.listing) (finmap.values tree) fits.listing (omega arith)
+      (values_in_order tree keyed) (listing_in_order fits.listing fits.sound.limits) in
       let is : checked tree fits.listing ≡ told_of m.rows =
-          ap (checked tree) (sym m.new) ∙ rows_checked tree keyed m.rows m.are (sym m.old) in
+      ap (checked tree) (sym m.new) ∙ rows_checked tree keyed m.rows m.are (sym m.old) in
       subst (λ (c : Checked). CountsFit tree (length told) c) (sym (fits.is ∙ is)) (record {
         size = omega (arith, sizes m.rows, ap length m.new, ap length m.old, values_count tree, same_length fits.listing told fits.alike);
         first = list_counts (told_of m.rows) (first_of m.rows)
@@ -75,10 +76,10 @@ module _ (tree : Tree) (keyed : IsKeyed tree) where
       → CheckFits tree (Check told) counts
   fit_counts told counts untold fits =
       let plan : Plan (finmap.values tree) counts.missing counts.extra counts.changed counts.first (λ p. ⊥) =
-          planned (finmap.values tree) counts (values_in_order tree keyed) counts.first (tree_counts counts counts.first fits.first) in
+      planned (finmap.values tree) counts (values_in_order tree keyed) counts.first (tree_counts counts counts.first fits.first) in
       let listing = filter_map new_of plan.rows in
       let count : length listing ≡ length told =
-          omega (arith, sizes plan.rows, ap length plan.old, plan.missing_are, plan.extra_are, values_count tree, fits.size) in
+      omega (arith, sizes plan.rows, ap length plan.old, plan.missing_are, plan.extra_are, values_count tree, fits.size) in
       record {
         listing = listing;
         alike = ap (λ (n : ℕ). Check (replicate n untold_entry)) count ∙ untold;

@@ -84,7 +84,7 @@ module _ (Stands : ℕ → ℕ → ℕ → Type 0) where
   pub shows_filled : (m : ℕ) (s t : State) → FillsState s t → FillsState (shows m s) (shows m t)
   shows_filled m (Sound p a x) (Sound q b y) is =
       filled_if (m == length a + 1) (m == length b + 1) (ap (λ (n : ℕ). m == n + 1) (filled_length a b is.1)) _ _ _ _
-          (is.0, filled_all a b x y is.1 is.2, tt) is
+      (is.0, filled_all a b x y is.1 is.2, tt) is
   shows_filled m (Sound p a x) (Bad from why count) is = absurd is
   shows_filled m (Bad origin damage gate) (Sound q b y) is = absurd is
   shows_filled m (Bad origin damage gate) (Bad from why count) is = is
@@ -96,7 +96,7 @@ module _ (Stands : ℕ → ℕ → ℕ → Type 0) where
   finds_filled : (n : ℕ) (s t : State) → FillsState s t → FillsState (finds n s) (finds n t)
   finds_filled n (Sound p a x) (Sound q b y) is =
       filled_if (n == length a) (n == length b) (ap (λ (m : ℕ). n == m) (filled_length a b is.1)) _ _ _ _
-          (is.0, is.1, tt) (shows_filled n (Sound p a x) (Sound q b y) is)
+      (is.0, is.1, tt) (shows_filled n (Sound p a x) (Sound q b y) is)
   finds_filled n (Sound p a x) (Bad from why count) is = absurd is
   finds_filled n (Bad origin damage gate) (Sound q b y) is = absurd is
   finds_filled n (Bad origin damage gate) (Bad from why count) is = is
@@ -110,13 +110,13 @@ module _ (Stands : ℕ → ℕ → ℕ → Type 0) where
   ended_filled : (answer : Answer) (s t : State) → FillsState s t → FillsState (ended_state answer s) (ended_state answer t)
   ended_filled answer s t is =
       subst (λ (x : State). FillsState x (ended_state answer t)) (sym (ended_is answer s))
-          (subst (λ (x : State). FillsState (shows_count (effect answer) s) x) (sym (ended_is answer t)) (count_filled (effect answer) s t is))
+      (subst (λ (x : State). FillsState (shows_count (effect answer) s) x) (sym (ended_is answer t)) (count_filled (effect answer) s t is))
 
   -- an entry that is acknowledged
   pub acknowledged_filled : (seq : ℕ) (s t : State) → FillsState s t → FillsState (acknowledges seq s) (acknowledges seq t)
   acknowledged_filled seq s t is =
       subst (λ (x : State). FillsState x (acknowledges seq t)) (sym (acknowledged seq s))
-          (subst (λ (x : State). FillsState (shows (seq + 1) s) x) (sym (acknowledged seq t)) (shows_filled (seq + 1) s t is))
+      (subst (λ (x : State). FillsState (shows (seq + 1) s) x) (sym (acknowledged seq t)) (shows_filled (seq + 1) s t is))
 
   settled_filled : (s t : State) → FillsState s t → settled_length s ≡ settled_length t
   settled_filled (Sound p a x) (Sound q b y) is = filled_length a b is.1
@@ -164,7 +164,7 @@ module _ (Stands : ℕ → ℕ → ℕ → Type 0) where
           let one : get_or (map f (range_with_len 0 n)) i 0 ≡ f i = get_or-map-range_with_len f 0 n i i 0 short (omega arith) in
           let other : get_or (map g (range_with_len 0 n)) i 0 ≡ g i = get_or-map-range_with_len g 0 n i i 0 short (omega arith) in
           subst (λ (b : ℕ). Stands i b (get_or (map g (range_with_len 0 n)) i 0)) (sym one)
-              (subst (λ (b : ℕ). Stands i (f i) b) (sym other) (stands i));
+          (subst (λ (b : ℕ). Stands i (f i) b) (sym other) (stands i));
     }
 
     filled_files : (memory : Lines) (entries : List Entry) → FillFiles (map (held_file memory) entries) (map (held_file memory) entries)

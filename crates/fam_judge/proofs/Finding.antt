@@ -91,9 +91,10 @@ all_in_order : (es : List (List ℕ × Entry)) → AreOwn es → T (is_sorted pa
 all_in_order [] own h = tt
 all_in_order (e ∷ es) own h =
     let parts = both (below_all path_cmp e.0 es) (is_sorted path_cmp es) h in
-    let above = all_above e.0 es (own_rest e es own) parts.0 in
-    (subst (λ (p : List ℕ). AllAbove p (map (λ (e : List ℕ × Entry). e.1) es)) (sym (own_first e es own)) above,
-    all_in_order es (own_rest e es own) parts.1)
+    let above = all_above e.0 es (own_rest e es own) parts.0 in (
+      subst (λ (p : List ℕ). AllAbove p (map (λ (e : List ℕ × Entry). e.1) es)) (sym (own_first e es own)) above,
+      all_in_order es (own_rest e es own) parts.1,
+    )
 
 -- they are in order
 pub values_in_order : (tree : Tree) → IsKeyed tree → InOrder (finmap.values tree)

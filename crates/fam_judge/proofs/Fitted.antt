@@ -72,7 +72,7 @@ module _ (m : ℕ) (told bytes : List ℕ) (fill : FillBytes AnyFits told bytes)
       agree : (i : ℕ) → i < length told → differs i ≡ false → MayAgree told (untold_content against) i
       agree i below same =
           agrees _ _ _ _ (fill.each i below) (told_wanted against (length told) i long below)
-              (test_same (slice_index bytes i) (content_byte against i) same)
+          (test_same (slice_index bytes i) (content_byte against i) same)
 
       by : (o : Option ℕ) → IsSearched differs 0 (length bytes) o → VerifiedFits m told (untold_content against) (compared_at m bytes against o)
       by None none = (refl, long, λ i below. agree i below (none i (omega arith) (omega (arith, fill.count))))
@@ -120,13 +120,13 @@ kind_told m kind.File r given F fits e = fits e
 -- a reply on a file
 file_told : (m : ℕ) (x y : Option File) (given : Reply) (Fits : List ℕ → Type 0) (question : List ℕ → Reply) → Pairs (FillsFile AnyFits) x y
     → ((told bytes : List ℕ) → FillBytes AnyFits told bytes → question bytes ≡ given → Fits told) → of_file m y question ≡ given
-        → FileFits m x given Fits
+    → FileFits m x given Fits
 file_told m None None given Fits question both fits e = sym e
 file_told m None (Some y) given Fits question both fits e = absurd both
 file_told m (Some x) None given Fits question both fits e = absurd both
 file_told m (Some x) (Some y) given Fits question both fits e =
     kind_told m x.entry.kind (question y.bytes) given (Fits x.bytes) (fits x.bytes y.bytes both.bytes)
-        (ap (λ (f : Entry). of_kind m f.kind (question y.bytes)) both.entry ∙ e)
+    (ap (λ (f : Entry). of_kind m f.kind (question y.bytes)) both.entry ∙ e)
 
 -- as many bytes are read of as many
 pub read_length : (told bytes : List ℕ) (offset count : ℕ) → length bytes ≡ length told
@@ -160,10 +160,10 @@ read_told told bytes offset count fill = record {
   count = read_length told bytes offset count fill.count;
   each = λ i below.
       let own : i < length (file_bytes_from offset count bytes) =
-          subst (λ (n : ℕ). i < n) (sym (read_length told bytes offset count fill.count)) below in
+      subst (λ (n : ℕ). i < n) (sym (read_length told bytes offset count fill.count)) below in
       subst (λ (t : ℕ). FitsByte t (get_or (file_bytes_from offset count bytes) i 0)) (sym (read_at told offset count i below))
-          (subst (λ (b : ℕ). FitsByte (get_or told (offset + i) 0) b) (sym (read_at bytes offset count i own))
-              (fill.each (offset + i) (read_inside told offset count i below)));
+      (subst (λ (b : ℕ). FitsByte (get_or told (offset + i) 0) b) (sym (read_at bytes offset count i own))
+      (fill.each (offset + i) (read_inside told offset count i below)));
 }
 
 -- Questions.
@@ -173,20 +173,20 @@ pub ask_told : (told files : List File) (c : Cmd) (given : Reply) → FillFiles 
     → ask files c ≡ Some given → AskFits told (untold_cmd c) given
 ask_told told files cmd.Logplay given both sound e =
     ap₂ (λ (n : ℕ) (l : List Entry). Some (reply.Played n (replay l))) (filled_length AnyFits told files both)
-        (filled_entries AnyFits told files both) ∙ e
+    (filled_entries AnyFits told files both) ∙ e
 ask_told told files cmd.Mount given both sound e = ap (λ (n : ℕ). Some (reply.Mounted n)) (filled_length AnyFits told files both) ∙ e
 ask_told told files (cmd.Verify path against) given both sound e =
     let n = filled_length AnyFits told files both in
     file_told (length told) (file_at told path) (file_at files path) given _ (λ bytes. verified (length told) bytes against)
-        (at_path AnyFits told files path both)
-        (λ x bytes fill is. verified_told (length told) x bytes fill against given is)
-        (ap (λ (m : ℕ). of_file m (file_at files path) (λ bytes. verified m bytes against)) n ∙ same_Some _ given e)
+    (at_path AnyFits told files path both)
+    (λ x bytes fill is. verified_told (length told) x bytes fill against given is)
+    (ap (λ (m : ℕ). of_file m (file_at files path) (λ bytes. verified m bytes against)) n ∙ same_Some _ given e)
 ask_told told files (cmd.Read path offset count) given both sound e =
     let n = filled_length AnyFits told files both in
     file_told (length told) (file_at told path) (file_at files path) given _ (λ bytes. reply.Bytes (length told) (file_bytes_from offset count bytes))
-        (at_path AnyFits told files path both)
-        (λ x bytes fill is. (file_bytes_from offset count bytes, sym is, read_told x bytes offset count fill))
-        (ap (λ (m : ℕ). of_file m (file_at files path) (λ bytes. reply.Bytes m (file_bytes_from offset count bytes))) n ∙ same_Some _ given e)
+    (at_path AnyFits told files path both)
+    (λ x bytes fill is. (file_bytes_from offset count bytes, sym is, read_told x bytes offset count fill))
+    (ap (λ (m : ℕ). of_file m (file_at files path) (λ bytes. reply.Bytes m (file_bytes_from offset count bytes))) n ∙ same_Some _ given e)
 ask_told told files (cmd.Check listing) given both sound e =
     let n = filled_length AnyFits told files both in
     let l = filled_entries AnyFits told files both in (

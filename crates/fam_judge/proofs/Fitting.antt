@@ -72,7 +72,7 @@ chosen_filled start ch notes sound =
     subst (λ (l : List Note). ChosenPast ch (past_of start l) (past_of start (map (chosen_note ch) notes)))
     (sym (alike_notes_untold notes (map (chosen_note ch) notes) (notes_told ch notes)))
     (filled_of (StandsChosen ch) (SuitsChoice ch) (λ i b low. (low, inl refl)) (chosen_fills ch) start (map (chosen_note ch) notes)
-        (starts_suit ch notes sound))
+    (starts_suit ch notes sound))
 
 -- What is allowed fits.
 
@@ -166,7 +166,7 @@ allowed_fits told past (Found h n) is allowed =
 allowed_fits told past (Writes h seq e) is allowed =
     of_host (slice_get told.hosts h) (slice_get past.hosts h) (pairs_get AnyHost told.hosts past.hosts h is.hosts) _ _
     (λ x y one. writes_agrees seq e y x past.state told.state (back_host x y told.state past.state one is.state)
-        (back_state x y told.state past.state one is.state)) allowed
+    (back_state x y told.state past.state one is.state)) allowed
 allowed_fits told past (Answered h answer) is allowed =
     of_host (slice_get told.hosts h) (slice_get past.hosts h) (pairs_get AnyHost told.hosts past.hosts h is.hosts) _ _
     (λ x y one. answer_fits x y told.state past.state one is.state answer) allowed
@@ -190,7 +190,7 @@ module _ (start : Image) (before : List Note) (sound : AreSoundNotes before) whe
   question_allowed : (h m : ℕ) (given : Reply) (note : Note)
       → OfHost (slice_get (past_of start (untold_notes before)).hosts h) (λ host. QuestionFits m given host (past_of start (untold_notes before)).state)
       → ((past : Past) → OfHost (slice_get past.hosts h) (λ host. AskAllowed m given host past.state) → Allowed past note)
-          → IsAllowedForSome start before note
+      → IsAllowedForSome start before note
   question_allowed h m given note fits allows =
       let told = past_of start (untold_notes before) in
       let pick = answer_pick m given (slice_get told.hosts h) told.state fits in
@@ -217,7 +217,7 @@ module _ (start : Image) (before : List Note) (sound : AreSoundNotes before) whe
       → IsAllowedForSome start before (Answered h (Replied given))
   reply_allowed h (reply.Appended seq) fits = as_before _
       (host_allowed h _ _ (λ x y host state. appended_agrees seq x y _ _ host
-          (states_agree _ _ (acknowledged_filled AnyFits seq _ _ own_filled.state))) fits)
+      (states_agree _ _ (acknowledged_filled AnyFits seq _ _ own_filled.state))) fits)
   reply_allowed h (reply.NotAppended why) fits = as_before _ (host_allowed h _ _ (λ x y host state. cause_agrees why x y _ _ host state) fits)
   reply_allowed h (reply.Reports report) fits = as_before _ (host_allowed h _ _ (λ x y host state. report_agrees report x y _ _ host state) fits)
   reply_allowed h (reply.NoSuperblock fault) fits =

@@ -56,9 +56,9 @@ new_uuid c name uuid none k is = by (slice_get c.hosts k) refl (sym (slice_get-m
     by None e same = absurd cc
     by (Some p) e same =
         let seen : slice_get (faces (shapes_in c)) k ≡ Some (face p.shape) =
-            slice_get-map face (shapes_in c) k ∙ ap (option_map face) (slice_get-map shape_in c.hosts k ∙ ap (option_map shape_in) e) in
+        slice_get-map face (shapes_in c) k ∙ ap (option_map face) (slice_get-map shape_in c.hosts k ∙ ap (option_map shape_in) e) in
         let other : path_eq p.shape.uuid uuid ≡ false =
-            or_other (path_eq p.shape.name name) (path_eq p.shape.uuid uuid) (none_passes (λ (f : Face). path_eq f.name name || path_eq f.uuid uuid) (faces (shapes_in c)) 0 none k (face p.shape) seen) in
+        or_other (path_eq p.shape.name name) (path_eq p.shape.uuid uuid) (none_passes (λ (f : Face). path_eq f.name name || path_eq f.uuid uuid) (faces (shapes_in c)) 0 none k (face p.shape) seen) in
         let one : path_eq p.shape.uuid uuid ≡ true = text_same p.shape.uuid uuid (same_Some p.shape.uuid uuid same) in
         cc
 

@@ -85,7 +85,7 @@ module _ (start : Image) where
   explained_possible history is =
       let j = explained_stands start history is in
       let reached = shown_reached start history j.0 j.1 (first_possible start) (first_possible start) (direct (record { state = same refl; hosts = tt })) (λ k l u a b. absurd cc)
-          (λ k p at. absurd cc) (fitting_from [] j.0 j.2 j.3) in
+      (λ k p at. absurd cc) (fitting_from [] j.0 j.2 j.3) in
       (reached.state, reached.leads)
 
   -- A journal that fits explains.
@@ -141,8 +141,7 @@ module _ (start : Image) where
       let real = all_real start [] (first_possible start) first (untold_notes history) (untold_all_again history) x leads in
       let choice = some_choices x.hosts in
       let come = real choice.0 choice.1 in
-      let formed = journal_formed (length start) come.journal (standing_from (first_possible start) come.journal come.fitting) in
-      (
+      let formed = journal_formed (length start) come.journal (standing_from (first_possible start) come.journal come.fitting) in (
         formed.0,
         record {
           shown = same_shown (untold_notes history) history formed.0 (alike_of_untold history) (shows_alike (untold_notes history) come.journal formed.0 formed.1 come.shows);

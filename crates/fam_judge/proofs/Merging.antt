@@ -82,7 +82,7 @@ merged (suc n) (o ∷ olds) (e ∷ news) count first second =
 -- how many there are on either side
 pub sizes : (rows : List Row)
     → length (filter_map new_of rows) + length (filter_map missing_of rows)
-      ≡ length (filter_map old_of rows) + length (filter_map extra_of rows)
+    ≡ length (filter_map old_of rows) + length (filter_map extra_of rows)
 sizes [] = refl
 sizes (Same old new ∷ rows) = let rest = sizes rows in omega arith
 sizes (Missing old ∷ rows) = let rest = sizes rows in omega arith

@@ -55,9 +55,11 @@ module _ (start : Image) (x c : Possible) (d : Direct x c) (h : ℕ) (given : Re
       (runs : (f both.host).shape.task ≡ Some task) (cmd : task.cmd ≡ both.task.cmd) where
     shape_there : ReplyShape me both.other_task.cmd task.stage given → OfRunning (slice_get (shapes_in now) h) (λ me t. TaskNote h me t (Answered h (Replied given)))
     shape_there shape =
-        runs_at now h (λ me t. TaskNote h me t (Answered h (Replied given))) (f both.host) task there runs
-        (refl, subst (λ (k : Cmd). ReplyShape (f both.host).shape.uuid k task.stage given) (sym (cmd ∙ both.cmd))
-        (subst (λ (u : List ℕ). ReplyShape u both.other_task.cmd task.stage given) (sym (like.uuids both.host ∙ both.over.uuid)) shape))
+        runs_at now h (λ me t. TaskNote h me t (Answered h (Replied given))) (f both.host) task there runs (
+          refl,
+          subst (λ (k : Cmd). ReplyShape (f both.host).shape.uuid k task.stage given) (sym (cmd ∙ both.cmd))
+              (subst (λ (u : List ℕ). ReplyShape u both.other_task.cmd task.stage given) (sym (like.uuids both.host ∙ both.over.uuid)) shape),
+        )
 
     place_there : ReplyPlace both.other_task.cmd task.stage given → HasPlace (shapes_in now) (Answered h (Replied given))
     place_there place =

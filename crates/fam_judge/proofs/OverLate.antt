@@ -136,7 +136,7 @@ module _ (start : Image) (x c : Possible) where
           let s = says start x c l in
           let b : settled_length l.pre.state ≡ length s.history = ap settled_length s.is in
           let d : settled_length (after start l.pre (Writes l.host l.seq l.entry)).state ≡ length s.history =
-              ap (λ (u : State). settled_length (pends (named_file (cmd_of (slice_get (past_in start l.pre).hosts l.host)) l.entry) u)) s.is in
+          ap (λ (u : State). settled_length (pends (named_file (cmd_of (slice_get (past_in start l.pre).hosts l.host)) l.entry) u)) s.is in
           let e = over_settled (after start l.pre (Writes l.host l.seq l.entry)).state c.state l.state in
           omega (arith, a, b, d, e)
 

@@ -110,8 +110,8 @@ module _ (start : Image) (x c : Possible) (d : Direct x c) where
           (subst (λ (t : State). StateOver (shows_count (effect (Replied given)) come.now.state) t) (sym (ended_is (Replied given) c.state))
           (over_shows (effect (Replied given)) come.now.state c.state come.state bound));
       hosts = subst (λ (l : List Progress). Pairs (HostOver (ended_state (Replied given) come.now.state))
-              (changed_at h (λ (p : Progress). record p { shape = record p.shape { task = None; keeps = keeps_behind (Replied given) p.shape.keeps } }) l)
-              (changed_at h (λ (p : Progress). record p { shape = record p.shape { task = None; keeps = keeps_behind (Replied given) p.shape.keeps } }) c.hosts)) (sym come.hosts)
+          (changed_at h (λ (p : Progress). record p { shape = record p.shape { task = None; keeps = keeps_behind (Replied given) p.shape.keeps } }) l)
+          (changed_at h (λ (p : Progress). record p { shape = record p.shape { task = None; keeps = keeps_behind (Replied given) p.shape.keeps } }) c.hosts)) (sym come.hosts)
           (own_pairs x c d h (ended_state (Replied given) come.now.state) come.change _ _ (answer_later (Replied given) x.state come.now.state come.later)
           (λ p q is other over. record {
             name = come.same.names p ∙ over.name;

@@ -110,7 +110,7 @@ not_begun x h host task is runs ne begun =
 module _ (start : Image) (x c : Possible) (d : Direct x c) (h : ℕ) where
   marked_both : (p q : Progress) → HostOver x.state p q → (a b : Option TaskShape) → TasksOver x.state a b p.told q.told
       → TasksOver x.state (option_map (λ (t : TaskShape). record t { stage = Marked }) a) (option_map (λ (t : TaskShape). record t { stage = Marked }) b)
-          (record p.told { floor = Some (settled_length x.state) }) (record q.told { floor = Some (settled_length c.state) })
+      (record p.told { floor = Some (settled_length x.state) }) (record q.told { floor = Some (settled_length c.state) })
   marked_both p q over None None tasks = tt
   marked_both p q over None (Some b) tasks = absurd tasks
   marked_both p q over (Some a) None tasks = absurd tasks
@@ -121,7 +121,7 @@ module _ (start : Image) (x c : Possible) (d : Direct x c) (h : ℕ) where
   own_mark may =
       let both = both_run x c d h (λ me t. TaskNote h me t (Mark h)) may in
       let begun : both.task.stage ≡ Begun =
-          begun_first x.state both.task.stage both.host.told both.other.told (subst (λ (b : CommandStage). StagesOver x.state both.task.stage b both.host.told both.other.told) both.holds.1 both.stages) in
+      begun_first x.state both.task.stage both.host.told both.other.told (subst (λ (b : CommandStage). StagesOver x.state both.task.stage b both.host.told both.other.told) both.holds.1 both.stages) in
       let now = without_mark h x in
       let there : slice_get now.hosts h ≡ Some (record both.host { told = record both.host.told { floor = None } }) = changed_is h _ x.hosts both.host both.is in
       record {
@@ -202,7 +202,7 @@ module _ (start : Image) (x c : Possible) (d : Direct x c) (h n : ℕ) (found : 
   own_found may =
       let both = both_run x c d h (λ me t. TaskNote h me t (Found h n)) may in
       by both (marked_first x.state both.task.stage both.host.told both.other.told
-          (subst (λ (b : CommandStage). StagesOver x.state both.task.stage b both.host.told both.other.told) both.holds.2 both.stages))
+      (subst (λ (b : CommandStage). StagesOver x.state both.task.stage b both.host.told both.other.told) both.holds.2 both.stages))
     where
       by : (both : Both x c h (λ me t. TaskNote h me t (Found h n))) → MarkedFirst both.task.stage both.host.told both.other.told → FollowsIn start x c (Found h n)
       by both (no_mark begun) =

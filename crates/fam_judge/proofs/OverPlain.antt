@@ -133,35 +133,44 @@ module _ (start : Image) (x c : Possible) (d : Direct x c) where
   plain_follows (Start h cmd) none may =
       plain_leads (Start h cmd) refl refl tt may (record { state = d.state; hosts = started_over h cmd })
   plain_follows (Stop h) none may =
-      plain_leads (Stop h) refl refl tt may (record { state = d.state; hosts = ended_over _ _ (λ p q over. record {
-        name = over.name;
-        uuid = over.uuid;
-        keeps = over.keeps;
-        own = over.own;
-        told_uuid = over.told_uuid;
-        told_cmd = over.told_cmd;
-        task = tt;
-      }) h })
+      plain_leads (Stop h) refl refl tt may (record {
+        state = d.state;
+        hosts = ended_over _ _ (λ p q over. record {
+          name = over.name;
+          uuid = over.uuid;
+          keeps = over.keeps;
+          own = over.own;
+          told_uuid = over.told_uuid;
+          told_cmd = over.told_cmd;
+          task = tt;
+        }) h;
+      })
   plain_follows (Halt h) none may =
-      plain_leads (Halt h) refl refl tt may (record { state = d.state; hosts = ended_over _ _ (λ p q over. record {
-        name = over.name;
-        uuid = over.uuid;
-        keeps = refl;
-        own = over.own;
-        told_uuid = over.told_uuid;
-        told_cmd = over.told_cmd;
-        task = tt;
-      }) h })
+      plain_leads (Halt h) refl refl tt may (record {
+        state = d.state;
+        hosts = ended_over _ _ (λ p q over. record {
+          name = over.name;
+          uuid = over.uuid;
+          keeps = refl;
+          own = over.own;
+          told_uuid = over.told_uuid;
+          told_cmd = over.told_cmd;
+          task = tt;
+        }) h;
+      })
   plain_follows (Umount h) none may =
-      plain_leads (Umount h) refl refl tt may (record { state = d.state; hosts = ended_over _ _ (λ p q over. record {
-        name = over.name;
-        uuid = over.uuid;
-        keeps = refl;
-        own = over.own;
-        told_uuid = over.told_uuid;
-        told_cmd = over.told_cmd;
-        task = over.task;
-      }) h })
+      plain_leads (Umount h) refl refl tt may (record {
+        state = d.state;
+        hosts = ended_over _ _ (λ p q over. record {
+          name = over.name;
+          uuid = over.uuid;
+          keeps = refl;
+          own = over.own;
+          told_uuid = over.told_uuid;
+          told_cmd = over.told_cmd;
+          task = over.task;
+        }) h;
+      })
   plain_follows (Refused name cause) none may = plain_leads (Refused name cause) refl refl tt may (record { state = d.state; hosts = d.hosts })
   plain_follows (Answered h (MediaFault line)) none may =
       let both = both_run x c d h (λ me t. TaskNote h me t (Answered h (MediaFault line))) may.0 in
@@ -170,20 +179,25 @@ module _ (start : Image) (x c : Possible) (d : Direct x c) where
         leads = record {
           now = x;
           reaches = refl;
-          may = (runs_at x h (λ me t. TaskNote h me t (Answered h (MediaFault line))) both.host both.task both.is both.runs (refl, tt),
-              runs_at x h (λ me t. Rattle.fam_judge.specs.Formed.AnswerPlace t.cmd t.stage (MediaFault line)) both.host both.task both.is both.runs tt);
+          may = (
+            runs_at x h (λ me t. TaskNote h me t (Answered h (MediaFault line))) both.host both.task both.is both.runs (refl, tt),
+            runs_at x h (λ me t. Rattle.fam_judge.specs.Formed.AnswerPlace t.cmd t.stage (MediaFault line)) both.host both.task both.is both.runs tt,
+          );
           fits = Rattle.fam_judge.proofs.Places.of_told start x h (λ host. ⊤) both.host both.is tt;
           is = refl;
         };
-        over = record { state = d.state; hosts = ended_over _ _ (λ p q over. record {
-          name = over.name;
-          uuid = over.uuid;
-          keeps = over.keeps;
-          own = over.own;
-          told_uuid = over.told_uuid;
-          told_cmd = over.told_cmd;
-          task = tt;
-        }) h };
+        over = record {
+          state = d.state;
+          hosts = ended_over _ _ (λ p q over. record {
+            name = over.name;
+            uuid = over.uuid;
+            keeps = over.keeps;
+            own = over.own;
+            told_uuid = over.told_uuid;
+            told_cmd = over.told_cmd;
+            task = tt;
+          }) h;
+        };
       }
   plain_follows (Answered h (Replied given)) none may = absurd cc
   plain_follows (Mark h) none may = absurd cc

@@ -52,13 +52,15 @@ write_says seq e host (Sound p history pending) is = says_by seq e host p histor
 -- and what allows it
 pub may_write : (seq : ℕ) (e : Entry) (host other : HostPast) (t : State) → host.uuid ≡ other.uuid → host.cmd ≡ other.cmd → WriteSays seq e other t → WritesAllowed seq e host t
 may_write seq e host other t uuid cmd says =
-    subst (WritesAllowed seq e host) (sym says.is)
-    (says.count, record {
-      cmd = says.decided.cmd;
-      told = cmd ∙ says.decided.told;
-      none = refl;
-      is = ap (λ (u : List ℕ). Rattle.fam_rules.specs.Decide.decide says.params u (Rattle.fam_rules.specs.Asks.entries_of says.history) says.decided.cmd) uuid ∙ says.decided.is;
-    })
+    subst (WritesAllowed seq e host) (sym says.is) (
+      says.count,
+      record {
+        cmd = says.decided.cmd;
+        told = cmd ∙ says.decided.told;
+        none = refl;
+        is = ap (λ (u : List ℕ). Rattle.fam_rules.specs.Decide.decide says.params u (Rattle.fam_rules.specs.Asks.entries_of says.history) says.decided.cmd) uuid ∙ says.decided.is;
+      },
+    )
 
 -- the command of a host
 pub cmd_at : (start : Image) (x : Possible) (h : ℕ) (p : Progress) → slice_get x.hosts h ≡ Some p → cmd_of (slice_get (past_in start x).hosts h) ≡ p.told.cmd
@@ -147,7 +149,7 @@ module _ (start : Image) (x c : Possible) (d : Direct x c) (apart : IsApart x) (
         → ((a : Progress) → option_map (λ (t : TaskShape). record t { stage = Named seq }) (f a).shape.task ≡ option_map (λ (t : TaskShape). record t { stage = Named seq }) a.shape.task)
         → (s : State) (a b : Progress) → HostOver x.state a b
         → HostOver s (record (f a) { told = record (f a).told { wrote = Some (record { seq = seq; entry = e }) }; shape = with_stage (Named seq) (f a).shape })
-            (record b { told = record b.told { wrote = Some (record { seq = seq; entry = e }) }; shape = with_stage (Named seq) b.shape })
+        (record b { told = record b.told { wrote = Some (record { seq = seq; entry = e }) }; shape = with_stage (Named seq) b.shape })
     host_written f names uuids keeps tolds tasks s a b over = record {
       name = names a ∙ over.name;
       uuid = uuids a ∙ over.uuid;
@@ -156,7 +158,7 @@ module _ (start : Image) (x c : Possible) (d : Direct x c) (apart : IsApart x) (
       told_uuid = ap (λ (t : HostPast). t.uuid) (tolds a) ∙ over.told_uuid;
       told_cmd = ap (λ (t : HostPast). t.cmd) (tolds a) ∙ over.told_cmd;
       task = subst (λ (o : Option TaskShape). TasksOver s o (option_map (λ (t : TaskShape). record t { stage = Named seq }) b.shape.task)
-              (record (f a).told { wrote = Some (record { seq = seq; entry = e }) }) (record b.told { wrote = Some (record { seq = seq; entry = e }) })) (sym (tasks a))
+          (record (f a).told { wrote = Some (record { seq = seq; entry = e }) }) (record b.told { wrote = Some (record { seq = seq; entry = e }) })) (sym (tasks a))
           (written x.state s seq a.shape.task b.shape.task a.told b.told _ _ over.task refl);
     }
 
@@ -192,7 +194,7 @@ module _ (start : Image) (x c : Possible) (d : Direct x c) (apart : IsApart x) (
     from_met : both.task.stage ≡ Met seq → (master_of x.state ≡ Some both.host.told.uuid → NonePends x.state) → WritesIn
     from_met met none =
         let master : master_of x.state ≡ Some both.host.told.uuid =
-            Rattle.fam_judge.proofs.Over.over_master x.state c.state d.state ∙ ap master_of says.is ∙ ap Some (sym says.master ∙ sym both.over.told_uuid) in
+        Rattle.fam_judge.proofs.Over.over_master x.state c.state d.state ∙ ap master_of says.is ∙ ap Some (sym says.master ∙ sym both.over.told_uuid) in
         let state : x.state ≡ c.state = sym (over_none x.state c.state d.state (none master)) in
         record {
           met = x;

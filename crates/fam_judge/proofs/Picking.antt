@@ -107,7 +107,7 @@ verified_compared m bytes (content.Bytes given) long = by (length given == lengt
   where
     by : (b : Bool) → (length given == length bytes) ≡ b
         → (if b then compared m bytes (content.Bytes given) else reply.Length m (length bytes) (length given))
-            ≡ compared m bytes (content.Bytes given)
+        ≡ compared m bytes (content.Bytes given)
     by true e = refl
     by false e =
         let count : length given ≡ length bytes = sym (length-replicate (length given) untold) ∙ long in absurd (grind (arith, nat_tests))
@@ -189,7 +189,7 @@ module _ (m : ℕ) (told : List ℕ) (content : Content) where
         → IsWanted (wanted i) (content_byte content i) (content_byte against i)
     wants wanted chosen i below =
         subst (λ (c : Content). IsWanted (wanted i) (content_byte c i) (content_byte against i)) (sym is)
-            (content_is wanted against chosen (length told) i (long_own (length told) refl) below)
+        (content_is wanted against chosen (length told) i (long_own (length told) refl) below)
 
     all_same : ChosenBytes same_choice told bytes → IsChosenContent both against → MayBeSame told content
         → verified m bytes against ≡ reply.Same m
@@ -201,14 +201,14 @@ module _ (m : ℕ) (told : List ℕ) (content : Content) where
         same o below =
             let inside : o < length told = omega (arith, below, fill.count) in
             same_passes _ _ (same_picked (slice_index told o) (slice_index bytes o) (content_byte content o) (content_byte against o)
-                (fill.each o inside) (wants both chosen o inside) (may o inside))
+            (fill.each o inside) (wants both chosen o inside) (may o inside))
 
     one_differs : (o f w : ℕ) (may : MayDiffer told content o f w) → ChosenBytes (differs_choice o f w may.found_fits.0) told bytes
         → IsChosenContent (except o w) against → verified m bytes against ≡ reply.Differs m o f w
     one_differs o f w may fill chosen =
         compares fill.count
         ∙ ap (compared_at m bytes against) (first_is _ (length bytes) o (omega (arith, may.within, fill.count)) passes before
-            (first_difference bytes against) (searched _ (length bytes) 0))
+        (first_difference bytes against) (searched _ (length bytes) 0))
         ∙ ap₂ (λ (x y : ℕ). reply.Differs m o x y) found wanted
       where
         found : slice_index bytes o ≡ f
@@ -218,7 +218,7 @@ module _ (m : ℕ) (told : List ℕ) (content : Content) where
         wanted : content_byte against o ≡ w
         wanted = wanted_is w (content_byte content o) (content_byte against o)
             (subst (λ (x : ℕ). IsWanted x (content_byte content o) (content_byte against o)) (except_here o w)
-                (wants (except o w) chosen o may.within)) may.wanted_fits
+            (wants (except o w) chosen o may.within)) may.wanted_fits
 
         passes : not (slice_index bytes o == content_byte against o) ≡ true
         passes = other_passes _ _ (λ same. may.other (sym found ∙ same ∙ wanted))
@@ -227,10 +227,10 @@ module _ (m : ℕ) (told : List ℕ) (content : Content) where
         before i below =
             let inside : i < length told = omega (arith, below, may.within) in
             same_passes _ _ (same_picked (slice_index told i) (slice_index bytes i) (content_byte content i) (content_byte against i)
-                (subst (λ (x : ℕ). IsSource x (slice_index told i) (slice_index bytes i)) (except_other o f i below) (fill.each i inside))
-                (subst (λ (x : ℕ). IsWanted x (content_byte content i) (content_byte against i)) (except_other o w i below)
-                    (wants (except o w) chosen i inside))
-                (may.before i below))
+            (subst (λ (x : ℕ). IsSource x (slice_index told i) (slice_index bytes i)) (except_other o f i below) (fill.each i inside))
+            (subst (λ (x : ℕ). IsWanted x (content_byte content i) (content_byte against i)) (except_other o w i below)
+            (wants (except o w) chosen i inside))
+            (may.before i below))
 
   -- a verify's reply is given by some bytes where it fits
   pub verify_pick : (given : Reply) → VerifiedFits m told content given → Picks (GivesVerified m told content given)
@@ -265,14 +265,14 @@ read_same told bytes found offset count ch is fit fill = ext_get_or 0 (file_byte
     each i below =
         let inside : i < length (file_bytes_from offset count told) = subst (λ (n : ℕ). i < n) same below in
         let fits : FitsByte (get_or told (offset + i) 0) (get_or found i 0) =
-            subst (λ (t : ℕ). FitsByte t (get_or found i 0)) (read_at told offset count i inside) (fit.each i inside) in
+        subst (λ (t : ℕ). FitsByte t (get_or found i 0)) (read_at told offset count i inside) (fit.each i inside) in
         let place : offset + i - offset ≡ i = omega arith in
         let chosen : ch.source (offset + i) ≡ get_or found i 0 =
-            is (offset + i) ∙ ap (λ (k : ℕ). pick (get_or found k 0) 0) place ∙ pick_first (get_or found i 0) 0 fits.0 in
+        is (offset + i) ∙ ap (λ (k : ℕ). pick (get_or found k 0) 0) place ∙ pick_first (get_or found i 0) 0 fits.0 in
         read_at bytes offset count i below
         ∙ found_is (get_or found i 0) (get_or told (offset + i) 0) (get_or bytes (offset + i) 0)
-            (subst (λ (x : ℕ). IsSource x (get_or told (offset + i) 0) (get_or bytes (offset + i) 0)) chosen
-                (fill.each (offset + i) (read_inside told offset count i inside))) fits
+        (subst (λ (x : ℕ). IsSource x (get_or told (offset + i) 0) (get_or bytes (offset + i) 0)) chosen
+        (fill.each (offset + i) (read_inside told offset count i inside))) fits
 
 -- a read's reply is given by some bytes where it fits
 pub read_pick : (m : ℕ) (told : List ℕ) (offset count : ℕ) (given : Reply) → ReadFits m told offset count given
@@ -290,7 +290,7 @@ read_pick m told offset count given fits =
 
 module _ {D : Type 0} (Good : Choice → D → Type 0) (question : D → List ℕ → Reply) (m : ℕ) (given : Reply) (Fits : List ℕ → Type 0)
     (picks : (told : List ℕ) → Fits told
-        → Picks (λ ch. (d : D) (bytes : List ℕ) → Good ch d → ChosenBytes ch told bytes → question d bytes ≡ given)) where
+    → Picks (λ ch. (d : D) (bytes : List ℕ) → Good ch d → ChosenBytes ch told bytes → question d bytes ≡ given)) where
   kind_pick : (k : Kind) (told : List ℕ) → KindFits m k given (Fits told)
       → Picks (λ ch. (d : D) (bytes : List ℕ) → Good ch d → ChosenBytes ch told bytes → of_kind m k (question d bytes) ≡ given)
   kind_pick kind.Directory told fits = record { choice = any; holds = λ d bytes good fill. sym fits }

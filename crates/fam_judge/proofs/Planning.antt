@@ -85,7 +85,7 @@ with_plan : (r : Row) → IsRow r → (olds : List Entry) (missing extra changed
     → Plan olds missing extra changed first Low → AllAbove (row_path r) olds → Low (row_path r)
     → ((p : List ℕ) → AllAbove p (cons_option (old_of r) olds) → Lower p → path_cmp p (row_path r) ≡ Less)
     → Plan (cons_option (old_of r) olds) (count_with (missing_of r) missing) (count_with (extra_of r) extra)
-      (count_with (changed_of r) changed) (first_with r first) Lower
+    (count_with (changed_of r) changed) (first_with r first) Lower
 with_plan r is olds missing extra changed first Low Lower plan above low lower = record {
   rows = r ∷ plan.rows;
   are = (is, plan.low (row_path r) above low, plan.are);
@@ -117,7 +117,14 @@ first_end b (suc extra) = Some (b ∷ [])
 
 ends : (b extra : ℕ) → Plan [] 0 extra 0 (first_end b extra) (IsShort b)
 ends b zero = record {
-  rows = []; are = tt; old = refl; missing_are = refl; extra_are = refl; changed_are = refl; first_is = refl; low = λ p a l. tt
+  rows = [];
+  are = tt;
+  old = refl;
+  missing_are = refl;
+  extra_are = refl;
+  changed_are = refl;
+  first_is = refl;
+  low = λ p a l. tt;
 }
 ends b (suc extra) =
     with_plan (Extra (blank (b ∷ []))) tt [] 0 extra 0 (first_end (suc b) extra) (IsShort (suc b)) (IsShort b) (ends (suc b) extra) tt
@@ -208,9 +215,9 @@ module _ (b : ℕ) (q : List ℕ) (q_short : IsShort b q) where
         let own : e.path ≡ q = path_cmp-IsAntisymmetric e.path q is in
         let above : AllAbove q es = subst (λ (p : List ℕ). AllAbove p es) own order.0 in
         let here : FirstCounts true (length es) counts =
-            counts_as true (is_some (at (e ∷ es) q)) (length es) (count_behind q (own_paths (e ∷ es))) counts
-            (ap is_some (sym (at_here q e es own)))
-            (sym (count_other q e es (ap is_lt (ap (path_cmp q) own ∙ itself q)) ∙ count_all q es above)) fits in
+        counts_as true (is_some (at (e ∷ es) q)) (length es) (count_behind q (own_paths (e ∷ es))) counts
+        (ap is_some (sym (at_here q e es own)))
+        (sym (count_other q e es (ap is_lt (ap (path_cmp q) own ∙ itself q)) ∙ count_all q es above)) fits in
         plan_as (e ∷ es) counts.missing counts.extra counts.changed (first_taken b counts.extra (e ∷ es) counts.missing counts.changed)
         (Some q) (IsShort b) (IsLow q) (takes b counts.extra (e ∷ es) counts.missing counts.changed order short (omega (arith, here.1)))
         (first_is_taken b counts.extra e es counts.missing counts.changed here.0 ∙ ap Some own) short_low
@@ -218,8 +225,8 @@ module _ (b : ℕ) (q : List ℕ) (q_short : IsShort b q) where
         let less : path_cmp q e.path ≡ Less = before e.path q is in
         let above : AllAbove q (e ∷ es) = (less, above_weaker q e.path es less order.0) in
         let here : FirstCounts false (length (e ∷ es)) counts =
-            counts_as false (is_some (at (e ∷ es) q)) (length (e ∷ es)) (count_behind q (own_paths (e ∷ es))) counts
-            (ap is_some (sym (at_above q (e ∷ es) above))) (sym (count_all q (e ∷ es) above)) fits in
+        counts_as false (is_some (at (e ∷ es) q)) (length (e ∷ es)) (count_behind q (own_paths (e ∷ es))) counts
+        (ap is_some (sym (at_above q (e ∷ es) above))) (sym (count_all q (e ∷ es) above)) fits in
         extra_first (e ∷ es) counts.missing counts.extra counts.changed order short above here.1 here.0
 
     planned_at : (es : List Entry) → InOrder es → AreShort b es → ListCounts es counts (Some q)

@@ -111,7 +111,7 @@ real_written start lines k x w real is =
     none p at begun =
         let r = running_at is.met k _ is.may in
         let there : slice_get w.hosts k ≡ Some (record r.host { told = record r.host.told { wrote = Some (record { seq = is.seq; entry = is.entry }) }; shape = with_stage (Named is.seq) r.host.shape }) =
-            ap (λ (z : Possible). slice_get z.hosts k) is.is ∙ changed_is k _ is.met.hosts r.host r.is in
+        ap (λ (z : Possible). slice_get z.hosts k) is.is ∙ changed_is k _ is.met.hosts r.host r.is in
         let one = same_Some p _ (sym at ∙ there) in
         begun_stage p (record r.task { stage = Named is.seq }) (Named is.seq)
         (ap (λ (z : Progress). z.shape.task) one ∙ ap (option_map (λ (t : TaskShape). record t { stage = Named is.seq })) r.runs) refl (named_begun is.seq) begun

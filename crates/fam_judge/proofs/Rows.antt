@@ -180,9 +180,10 @@ module _ (f : Row → Option Entry) (on : IsSide f) where
   -- at its path stands what a row has
   side_found : (rows : List Row) → AreRows rows → AllByRecursion (λ r. at (filter_map f rows) (row_path r) ≡ f r) rows
   side_found [] are = tt
-  side_found (r ∷ rows) are =
-      (kept_at (row_path r) (f r) (filter_map f rows) (on r are.0) (side_above (row_path r) rows are.2 are.1),
-      later_found (row_path r) (f r) (filter_map f rows) (on r are.0) rows are.1 (side_found rows are.2))
+  side_found (r ∷ rows) are = (
+    kept_at (row_path r) (f r) (filter_map f rows) (on r are.0) (side_above (row_path r) rows are.2 are.1),
+    later_found (row_path r) (f r) (filter_map f rows) (on r are.0) rows are.1 (side_found rows are.2),
+  )
 
 -- the tree's entries behind a path
 pub olds_above : (p : List ℕ) (rows : List Row) → AreRows rows → AreBehind p rows → AllAbove p (filter_map old_of rows)
@@ -288,7 +289,7 @@ first_least (Extra new ∷ rows) are =
     let c = filter_map changed_of rows in
     ap least_path (append_assoc m (new ∷ x) c)
     ∙ least_of new m (x ++ c) (missing_above new.path rows are.2 are.1)
-      (joined_above new.path x c (extra_above new.path rows are.2 are.1) (changed_above new.path rows are.2 are.1))
+    (joined_above new.path x c (extra_above new.path rows are.2 are.1) (changed_above new.path rows are.2 are.1))
 first_least (Changed old new ∷ rows) are =
     let m = filter_map missing_of rows in
     let x = filter_map extra_of rows in
@@ -317,9 +318,9 @@ module _ (tree : Tree) (keyed : IsKeyed tree) (rows : List Row) (are : AreRows r
   missing_are =
       ap (filter (is_lacked (replay (filter_map new_of rows)))) olds
       ∙ side_filter (is_lacked (replay (filter_map new_of rows))) old_of missing_of rows
-        (each_row (λ r. at (filter_map new_of rows) (row_path r) ≡ new_of r)
-        (λ r. passed (is_lacked (replay (filter_map new_of rows))) (old_of r) ≡ missing_of r)
-        (is_missing (filter_map new_of rows)) rows are (side_found new_of new_side rows are))
+      (each_row (λ r. at (filter_map new_of rows) (row_path r) ≡ new_of r)
+      (λ r. passed (is_lacked (replay (filter_map new_of rows))) (old_of r) ≡ missing_of r)
+      (is_missing (filter_map new_of rows)) rows are (side_found new_of new_side rows are))
 
   extra_are : filter (is_lacked tree) (filter_map new_of rows) ≡ filter_map extra_of rows
   extra_are =

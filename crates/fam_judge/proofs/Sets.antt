@@ -102,7 +102,7 @@ split_at lines y journal shows told_y told = by (parts lines (y ∷ []) journal 
     by_line : (part : Rattle.fam_judge.proofs.Showing.Parts lines (y ∷ []) journal) → Rattle.fam_judge.proofs.Showing.FirstLine y [] part.back → LineAt lines y journal
     by_line part line =
         let whole : journal ≡ (part.front ++ line.out) ++ line.note ∷ line.back =
-            part.whole ∙ ap (λ (l : List Note). part.front ++ l) line.whole ∙ append_is part.front line.out line.note line.back in
+        part.whole ∙ ap (λ (l : List Note). part.front ++ l) line.whole ∙ append_is part.front line.out line.note line.back in
         let both = untold_parts (part.front ++ line.out) (line.note ∷ line.back) (subst (λ (l : List Note). untold_notes l ≡ l) whole told) in
         let one : line.note ≡ y = sym (head_told line.note line.back both.1) ∙ sym (alike_untold y line.note line.told) ∙ told_y in
         record {
@@ -243,8 +243,11 @@ module _ (start : Image) (lines : List Note) (xs zs : List Possible) (y : Note) 
 pub judges_first : (start : Image) → Judges start [] (first_possible start ∷ [])
 judges_first start = record {
   sound = λ x is. first x is.0 is.1;
-  complete = λ journal shows told fitting. (first_possible start, (0, refl),
-      inner_all start (first_possible start) (first_possible start) journal (direct (record { state = same refl; hosts = tt })) (good_first start) shows fitting);
+  complete = λ journal shows told fitting. (
+    first_possible start,
+    (0, refl),
+    inner_all start (first_possible start) (first_possible start) journal (direct (record { state = same refl; hosts = tt })) (good_first start) shows fitting,
+  );
 }
   where
     first : (x : Possible) (i : ℕ) → slice_get (first_possible start ∷ []) i ≡ Some x → IsPossible start [] x

@@ -163,7 +163,7 @@ module _ (start : Image) (x c : Possible) (l : Late start x c) where
   unmounted_not : OfFace (slice_get (faces (shapes_in c)) l.host) (λ f. (f.runs ≡ false) × (f.keeps ≡ true)) → ⊥
   unmounted_not is =
       let here : slice_get (faces (shapes_in c)) l.host ≡ Some (face (naming start x c l (runs_pre start x c l).host).shape) =
-          slice_get-map face (shapes_in c) l.host ∙ ap (option_map face) (slice_get-map shape_in c.hosts l.host ∙ ap (option_map shape_in) (there start x c l)) in
+      slice_get-map face (shapes_in c) l.host ∙ ap (option_map face) (slice_get-map shape_in c.hosts l.host ∙ ap (option_map shape_in) (there start x c l)) in
       let idle = (subst (λ (o : Option Face). OfFace o (λ f. (f.runs ≡ false) × (f.keeps ≡ true))) here is).0 in
       let runs : is_some (naming start x c l (runs_pre start x c l).host).shape.task ≡ true = ap is_some (task_there start x c l) in
       cc
@@ -269,13 +269,14 @@ module _ (start : Image) (x c : Possible) (l : Late start x c) where
         let fit : AnswerFits answer q.host.told c.state = told_at start c j (λ host. AnswerFits answer host c.state) q.host q.is fits in
         let first = answer_first p history file q.host.told (not_master apart j ne q.host q.is) c.state came answer more fit in
         let none : (s : State) → shows_count (settled_by answer) s ≡ s → ended_state answer s ≡ s =
-            (λ s e. ended_is answer s ∙ ap (λ (o : Option ℕ). shows_count o s) (sym (settled_is answer)) ∙ e) in
+        (λ s e. ended_is answer s ∙ ap (λ (o : Option ℕ). shows_count o s) (sym (settled_is answer)) ∙ e) in
         moves (Answered j answer) j _ ne refl refl
         (none l.pre.state (ap (shows_count (settled_by answer)) before ∙ counts_none (settled_by answer) p history ∙ sym before))
         (subst (StateOver named_state) (sym (none c.state (settles_none p history file c.state came (settled_by answer) more))) l.state)
-        (follows (Answered j answer)
-        (other_runs start x c l j ne (λ me t. TaskNote j me t (Answered j answer)) may.0,
-        other_runs start x c l j ne (λ me t. AnswerPlace t.cmd t.stage answer) may.1)
+        (follows (Answered j answer) (
+          other_runs start x c l j ne (λ me t. TaskNote j me t (Answered j answer)) may.0,
+          other_runs start x c l j ne (λ me t. AnswerPlace t.cmd t.stage answer) may.1,
+        )
         (of_told start l.pre j (λ host. AnswerFits answer host l.pre.state) q.host (sym (at_other start x c l j ne) ∙ q.is)
         (subst (λ (s : State). AnswerFits answer q.host.told s) (sym before) first)))
 

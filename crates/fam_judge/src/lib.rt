@@ -11,5 +11,11 @@
 mod laws;
 
 pub use laws::{
-    a_check_is_counted, a_listing_may_have_any_length, a_run_is_explained, a_script_is_explained, a_set_of_states_judges, a_start_moves_up, a_task_is_formed, an_answer_moves_down, answers_stand_at_their_places, commands_that_begin_are_sound, first_lines_are_explained, hosts_are_told, some_state_is_possible, the_same_but_for_bytes, what_fits_is_allowed, what_follows_is_formed, what_is_allowed_fits, what_is_formed_stands, what_is_legal_is_explained, what_stands_explains, what_stands_is_formed, what_stands_is_told, where_no_line_is_left_out,
+    a_check_is_counted, a_listing_may_have_any_length, a_run_is_explained, a_script_is_explained,
+    a_set_of_states_judges, a_start_moves_up, a_task_is_formed, an_answer_moves_down,
+    answers_stand_at_their_places, commands_that_begin_are_sound, first_lines_are_explained,
+    hosts_are_told, some_state_is_possible, the_same_but_for_bytes, what_fits_is_allowed,
+    what_follows_is_formed, what_is_allowed_fits, what_is_formed_stands,
+    what_is_legal_is_explained, what_stands_explains, what_stands_is_formed, what_stands_is_told,
+    where_no_line_is_left_out,
 };

@@ -100,7 +100,7 @@ module _ (lines : ℕ) (hosts : List HostShape) where
         by None = (
           free.may.1,
           of_face (slice_get (faces hosts) k) _ (face host) seen
-          (record { format = valid.format; geometry = free.geometry; slots = refl; need = free.fits; device = refl; fs = valid.fs; master = refl }),
+              (record { format = valid.format; geometry = free.geometry; slots = refl; need = free.fits; device = refl; fs = valid.fs; master = refl }),
         )
         by (Some n) = (free.may, of_face (slice_get (faces hosts) k) _ (face host) seen tt)
 
@@ -133,10 +133,10 @@ module _ (lines : ℕ) (hosts : List HostShape) where
         by_refusal name (on_host (number_of name (m lines hosts)) (λ k. idle_refusal k (m lines hosts))) (FreeShape (call.Stops name) lines hosts (y ∷ []))
         (on_row lines hosts name (λ k. idle_refusal k (m lines hosts)) (λ k at. idle_row lines hosts name k at))
         (λ e acts.
-          let at = on_free lines hosts name (λ k. idle_refusal k (m lines hosts)) e in
-          let did = acted name (λ k host. ActsShape (call.Stops name) k host lines hosts (y ∷ [])) at.number at.is acts in
-          noted (Stop at.number) [] did.acts
-          (of_face (slice_get (faces hosts) at.number) _ at.at.host at.at.is (runs_asked lines hosts name at.number at.at true (not_false _ (no_when _ _ at.free))))) is
+        let at = on_free lines hosts name (λ k. idle_refusal k (m lines hosts)) e in
+        let did = acted name (λ k host. ActsShape (call.Stops name) k host lines hosts (y ∷ [])) at.number at.is acts in
+        noted (Stop at.number) [] did.acts
+        (of_face (slice_get (faces hosts) at.number) _ at.at.host at.at.is (runs_asked lines hosts name at.number at.at true (not_false _ (no_when _ _ at.free))))) is
 
     halt_stands : (name : List ℕ) → EventShape (event.Halt name) lines hosts (y ∷ []) → MayStand lines hosts y
     unfolding refusal_of
@@ -144,9 +144,9 @@ module _ (lines : ℕ) (hosts : List HostShape) where
         by_refusal name (on_host (number_of name (m lines hosts)) (λ k. None)) (FreeShape (call.Halts name) lines hosts (y ∷ []))
         (on_row lines hosts name (λ k. None) (λ k at w e. absurd cc))
         (λ e acts.
-          let at = on_free lines hosts name (λ k. None) e in
-          let did = acted name (λ k host. ActsShape (call.Halts name) k host lines hosts (y ∷ [])) at.number at.is acts in
-          noted (Halt at.number) [] did.acts (of_face (slice_get (faces hosts) at.number) _ at.at.host at.at.is tt)) is
+        let at = on_free lines hosts name (λ k. None) e in
+        let did = acted name (λ k host. ActsShape (call.Halts name) k host lines hosts (y ∷ [])) at.number at.is acts in
+        noted (Halt at.number) [] did.acts (of_face (slice_get (faces hosts) at.number) _ at.at.host at.at.is tt)) is
 
     umount_stands : (name : List ℕ) → EventShape (event.Umount name) lines hosts (y ∷ []) → MayStand lines hosts y
     unfolding refusal_of
@@ -154,10 +154,10 @@ module _ (lines : ℕ) (hosts : List HostShape) where
         by_refusal name (on_host (number_of name (m lines hosts)) (λ k. umounts_refusal k (m lines hosts))) (FreeShape (call.Umounts name) lines hosts (y ∷ []))
         (on_row lines hosts name (λ k. umounts_refusal k (m lines hosts)) (λ k at. umounts_row lines hosts name k at))
         (λ e acts.
-          let at = on_free lines hosts name (λ k. umounts_refusal k (m lines hosts)) e in
-          let did = acted name (λ k host. ActsShape (call.Umounts name) k host lines hosts (y ∷ [])) at.number at.is acts in
-          noted (Umount at.number) [] did.acts
-          (of_face (slice_get (faces hosts) at.number) _ at.at.host at.at.is (umounts_free lines hosts name at.number at.at at.free))) is
+        let at = on_free lines hosts name (λ k. umounts_refusal k (m lines hosts)) e in
+        let did = acted name (λ k host. ActsShape (call.Umounts name) k host lines hosts (y ∷ [])) at.number at.is acts in
+        noted (Umount at.number) [] did.acts
+        (of_face (slice_get (faces hosts) at.number) _ at.at.host at.at.is (umounts_free lines hosts name at.number at.at at.free))) is
 
     move_stands : (name : List ℕ) (line : ℕ) (move : Move) → DoesShape (call.Moves name line move) lines hosts (y ∷ []) → MayStand lines hosts y
     unfolding refusal_of
@@ -165,9 +165,9 @@ module _ (lines : ℕ) (hosts : List HostShape) where
         by_refusal name (on_host (number_of name (m lines hosts)) (λ k. line_refusal line (m lines hosts))) (FreeShape (call.Moves name line move) lines hosts (y ∷ []))
         (on_row lines hosts name (λ k. line_refusal line (m lines hosts)) (λ k at. line_row lines hosts name k at line))
         (λ e acts.
-          let at = on_free lines hosts name (λ k. line_refusal line (m lines hosts)) e in
-          let did = acted name (λ k host. ActsShape (call.Moves name line move) k host lines hosts (y ∷ [])) at.number at.is acts in
-          by (declared lines hosts name at.number at.at) (line_free lines hosts name at.number at.at line at.free) did.acts) is
+        let at = on_free lines hosts name (λ k. line_refusal line (m lines hosts)) e in
+        let did = acted name (λ k host. ActsShape (call.Moves name line move) k host lines hosts (y ∷ [])) at.number at.is acts in
+        by (declared lines hosts name at.number at.at) (line_free lines hosts name at.number at.at line at.free) did.acts) is
       where
         by : AtNamed name (faces hosts) (λ k f. ⊤) → line < lines → (y ∷ [] ≡ []) ⊎ (y ∷ [] ≡ Refused name (why.MediaFault (record { 0 = line })) ∷ []) → MayStand lines hosts y
         by named low (inl none) = absurd (none_one y none)
@@ -186,7 +186,7 @@ module _ (lines : ℕ) (hosts : List HostShape) where
       starts Q name what e (inr start) =
           let at = asked lines hosts name start.host start.number in
           let free = begins_free lines hosts name start.host at (mounts what)
-              (sym (ap (λ (o : Option ℕ). on_host o (λ k. begins_refusal k (mounts what) (m lines hosts))) start.number) ∙ e) in
+          (sym (ap (λ (o : Option ℕ). on_host o (λ k. begins_refusal k (mounts what) (m lines hosts))) start.number) ∙ e) in
           let own : IsSoundNote (Start start.host start.cmd) = subst IsSoundNote (one_note y (Start start.host start.cmd) start.rest start.notes_are) sound in
           noted (Start start.host start.cmd) start.rest start.notes_are (
             free.0,
@@ -214,9 +214,9 @@ module _ (lines : ℕ) (hosts : List HostShape) where
           by_refusal name (on_host (number_of name (m lines hosts)) (λ k. idle_refusal k (m lines hosts))) (FreeShape (call.Finishes name) lines hosts (y ∷ []))
           (on_row lines hosts name (λ k. idle_refusal k (m lines hosts)) (λ k at. idle_row lines hosts name k at))
           (λ e acts.
-            let at = on_free lines hosts name (λ k. idle_refusal k (m lines hosts)) e in
-            let did = acted name (λ k host. CompletesShape k hosts (y ∷ [])) at.number at.is acts in
-            gives y at.number placed did.acts.operations.0) is
+          let at = on_free lines hosts name (λ k. idle_refusal k (m lines hosts)) e in
+          let did = acted name (λ k host. CompletesShape k hosts (y ∷ [])) at.number at.is acts in
+          gives y at.number placed did.acts.operations.0) is
 
       -- whichever event adds it
       event_stands : (e : Event) → IsValidEvent e → HasPlace hosts y → EventShape e lines hosts (y ∷ []) → MayStand lines hosts y

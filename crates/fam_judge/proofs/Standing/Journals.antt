@@ -65,7 +65,7 @@ all_formed lines [] a b alike distinct is = ([], refl, tt)
 all_formed lines (y ∷ notes) a b alike distinct is =
     let one = stands_formed lines b distinct y (stands_alike lines a b alike y is.0) in
     let behind : told_hosts (shapes_after a y) ≡ told_hosts (shapes_after b one.chosen) =
-        after_told a y ∙ ap₂ (λ (l : List ToldHost) (t : ToldNote). told_after l t) alike (sym one.alike) ∙ sym (after_told b one.chosen) in
+    after_told a y ∙ ap₂ (λ (l : List ToldHost) (t : ToldNote). told_after l t) alike (sym one.alike) ∙ sym (after_told b one.chosen) in
     let rest = all_formed lines notes (shapes_after a y) (shapes_after b one.chosen) behind (distinct_after lines b one.chosen distinct one.formed) is.1 in
     (one.chosen ∷ rest.0, both (sym one.alike) rest.1, (one.formed, rest.2))
 

@@ -276,11 +276,11 @@ module _ (lines : ℕ) (hosts : List HostShape) where
     declares_row w e =
         or_cause _ _ w e (λ e. same (same_in name uuid all) refl (sym (ap same_refusal (same_faced lines hosts name uuid)) ∙ e))
         (λ none e.
-          let is = when_some _ _ w e in
-          row name why.TooManyHosts w is.1 (
-            not_named (sym (same_faced lines hosts name uuid) ∙ no_same _ none),
-            subst (λ (n : ℕ). host_limit ≤ n) (count_faced lines hosts) (passes_le _ _ is.0),
-          ))
+        let is = when_some _ _ w e in
+        row name why.TooManyHosts w is.1 (
+          not_named (sym (same_faced lines hosts name uuid) ∙ no_same _ none),
+          subst (λ (n : ℕ). host_limit ≤ n) (count_faced lines hosts) (passes_le _ _ is.0),
+        ))
       where
         same : (o : Option ℕ) → same_in name uuid all ≡ o → same_refusal o ≡ Some w → MayRefuse lines all name w
         same None first e = absurd cc

@@ -92,9 +92,9 @@ module _ (lines : ℕ) (hosts : List HostShape) (name : List ℕ) where
     too_many none many =
         let new = fresh_uuid (faces hosts) distinct.few in
         let first : same_in name new.uuid (faces hosts) ≡ None =
-            index_none (test new.uuid) (faces hosts) 0
-            (λ k f at. either_false (path_eq f.name name) (path_eq f.uuid new.uuid) (none_passes (λ (g : Face). path_eq g.name name) (faces hosts) 0 none k f at)
-            (other_text f.uuid new.uuid (new.other k f at))) in
+        index_none (test new.uuid) (faces hosts) 0
+        (λ k f at. either_false (path_eq f.name name) (path_eq f.uuid new.uuid) (none_passes (λ (g : Face). path_eq g.name name) (faces hosts) 0 none k f at)
+        (other_text f.uuid new.uuid (new.other k f at))) in
         refused_by lines hosts name why.TooManyHosts (event.Host name new.uuid) new.valid
         (refused_shape name (refusal_told (call.Declares name new.uuid) lines hosts) why.TooManyHosts _
         (ap₂ (λ (o : Option ℕ) (b : Bool). or_else (same_refusal o) (when b why.TooManyHosts)) (same_faced lines hosts name new.uuid ∙ first)
