@@ -59,7 +59,8 @@ uuids_at start before chosen alike k =
     sym (slice_get-map past_uuid (past_of start chosen).hosts k) ∙ ap (λ (l : List (List ℕ)). slice_get l k) (uuids_alike before chosen alike (first_past start) [] refl)
     ∙ slice_get-map shape_uuid (shapes_of before) k
 
-own_uuid : (o : Option HostPast) (q : Option HostShape) (x : HostPast) (y : HostShape) → option_map past_uuid o ≡ option_map shape_uuid q → o ≡ Some x → q ≡ Some y → x.uuid ≡ y.uuid
+own_uuid : (o : Option HostPast) (q : Option HostShape) (x : HostPast) (y : HostShape) → option_map past_uuid o ≡ option_map shape_uuid q → o ≡ Some x → q ≡ Some y
+    → x.uuid ≡ y.uuid
 own_uuid o q x y same first second = same_Some x.uuid y.uuid (sym (ap (option_map past_uuid) first) ∙ same ∙ ap (option_map shape_uuid) second)
 
 -- Hosts that run.
@@ -209,7 +210,8 @@ module _ (start : Image) (h : ℕ) (answer : Answer) where
     named_own = named_size me run.note.task size answer (task_fits hosts size keeps h (Answered h answer) run.note) run.note.is.1
 
     -- a note that is allowed behind the answer is allowed before it
-    note_before : (y : Note) → IsFormedNote lines hosts y → (chosen : List Note) → AreAlikeNotes before chosen → Allowed (past_after (past_of start chosen) (Answered h answer)) y
+    note_before : (y : Note) → IsFormedNote lines hosts y → (chosen : List Note) → AreAlikeNotes before chosen
+        → Allowed (past_after (past_of start chosen) (Answered h answer)) y
         → Allowed (past_of start chosen) y
     note_before (Found k n) formed chosen alike is =
         finds_before (effect answer) n (past_of start chosen).state (subst (FoundAllowed n) (ended_is answer (past_of start chosen).state) is)
@@ -266,7 +268,8 @@ module _ (start : Image) (h : ℕ) (answer : Answer) where
     count_at chosen alike = sym (counts_alike before chosen alike (first_past start) [] refl)
 
     -- behind both
-    down_swaps : (y : Note) → Apart h (length hosts) (told_note y) → NoteFits me (effect answer) y size → BoundSize (effect answer) size → Swaps start before (Answered h answer) y
+    down_swaps : (y : Note) → Apart h (length hosts) (told_note y) → NoteFits me (effect answer) y size → BoundSize (effect answer) size
+        → Swaps start before (Answered h answer) y
     down_swaps y way fits bound z front first second back fronts firsts seconds allowed =
         let past = past_of start front in
         let one : first ≡ Answered h answer = note_back first (Answered h answer) (ap whole_note (sym firsts)) in
@@ -297,7 +300,8 @@ module _ (start : Image) (h : ℕ) (answer : Answer) where
         )
 
   -- the answer is moved down over a line
-  under_line : (before : List Note) (y : Note) (notes : List Note) → Keeps (shapes_of before) (sizes start before) → GivesWay h (shapes_after (shapes_of before) (Answered h answer)) y
+  under_line : (before : List Note) (y : Note) (notes : List Note) → Keeps (shapes_of before) (sizes start before)
+      → GivesWay h (shapes_after (shapes_of before) (Answered h answer)) y
       → Stands start before (Answered h answer ∷ y ∷ notes) → Stands start before (y ∷ Answered h answer ∷ notes)
   under_line before y notes keeps way is =
       let hosts = shapes_of before in

@@ -56,7 +56,8 @@ module _ (h : ℕ) (hosts : List HostShape) where
   shape_aside (Refused name cause) way = refl
 
   -- a change of host h comes in either order
-  pub shape_order : (f : HostShape → HostShape) (y : Note) → Apart h (length hosts) (told_note y) → changed_at h f (shapes_after hosts y) ≡ shapes_after (changed_at h f hosts) y
+  pub shape_order : (f : HostShape → HostShape) (y : Note) → Apart h (length hosts) (told_note y)
+      → changed_at h f (shapes_after hosts y) ≡ shapes_after (changed_at h f hosts) y
   shape_order f (Host name uuid) way = changed_append h f hosts _ way
   shape_order f (Made k p) way = absurd way
   shape_order f (Cut k n) way = absurd way

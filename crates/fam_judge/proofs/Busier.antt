@@ -168,7 +168,8 @@ module _ (lines h : ℕ) (old new : List HostShape) (busier : IsBusier h old new
         by None is = is
         by (Some host) is = none host is
 
-    at_kept : (name : List ℕ) (R : ℕ → HostShape → Type 0) (k : ℕ) → number_of name before ≡ Some k → k ≢ h → AtShape (number_of name before) old R → AtShape (number_of name after) new R
+    at_kept : (name : List ℕ) (R : ℕ → HostShape → Type 0) (k : ℕ) → number_of name before ≡ Some k → k ≢ h → AtShape (number_of name before) old R
+        → AtShape (number_of name after) new R
     at_kept name R k number ne is =
         subst (λ (o : Option ℕ). AtShape o new R) (sym (busier.number name ∙ number))
         (subst (λ (o : Option HostShape). OfHostShape o (R k)) (sym (busier.others k ne)) (subst (λ (o : Option ℕ). AtShape o old R) number is))
@@ -324,7 +325,8 @@ module _ (lines h : ℕ) (old new : List HostShape) (busier : IsBusier h old new
       not_free (inr dirty) = subst (GivesWay h old) (one_note y _ [] dirty.notes_are) way
 
       -- a refusal that stays
-      stays : (k : ℕ) → number_of name before ≡ Some k → (w : Refusal) → makes_told request.unit request.log after ≡ Some w → y ∷ [] ≡ Refused name w ∷ [] → IsFormedNote lines new y
+      stays : (k : ℕ) → number_of name before ≡ Some k → (w : Refusal) → makes_told request.unit request.log after ≡ Some w → y ∷ [] ≡ Refused name w ∷ []
+          → IsFormedNote lines new y
       stays k number w told is =
           formed (event.Mkfs name request) valid
           (subst (λ (o : Option Refusal). ShapeByRefusal name o (y ∷ []) (Free new))
@@ -349,7 +351,8 @@ module _ (lines h : ℕ) (old new : List HostShape) (busier : IsBusier h old new
       by_numbers k number (Some w) e is =
           stays k number w (ap (λ (q : Option Refusal). or_else q (busy_refusal (index_of is_engaged (map shown_shape new)))) e) is
 
-      by_number : (o : Option ℕ) → number_of name before ≡ o → ShapeByRefusal name (on_host o (λ k. makes_told request.unit request.log before)) (y ∷ []) (Free old) → IsFormedNote lines new y
+      by_number : (o : Option ℕ) → number_of name before ≡ o → ShapeByRefusal name (on_host o (λ k. makes_told request.unit request.log before)) (y ∷ []) (Free old)
+          → IsFormedNote lines new y
       by_number None number is =
           formed (event.Mkfs name request) valid
           (subst (λ (o : Option ℕ). ShapeByRefusal name (on_host o (λ n. makes_told request.unit request.log after)) (y ∷ []) (Free new)) (sym (busier.number name ∙ number)) is)

@@ -36,7 +36,8 @@ ButOne zero (p ∷ ps) (q ∷ qs) = (q ≡ p) × Pairs Chosen ps qs
 ButOne (suc h) (p ∷ ps) (q ∷ qs) = Chosen p q × ButOne h ps qs
 
 -- that one may be chosen so
-pub but_chosen : (h : ℕ) (f : Progress → Progress) (ps qs : List Progress) → ButOne h (changed_at h f ps) qs → ((p : Progress) → slice_get ps h ≡ Some p → Chosen p (f p)) → Pairs Chosen ps qs
+pub but_chosen : (h : ℕ) (f : Progress → Progress) (ps qs : List Progress) → ButOne h (changed_at h f ps) qs → ((p : Progress) → slice_get ps h ≡ Some p → Chosen p (f p))
+    → Pairs Chosen ps qs
 but_chosen h f [] [] but choose = tt
 but_chosen h f [] (q ∷ qs) but choose = absurd but
 but_chosen zero f (p ∷ ps) [] but choose = absurd but
@@ -51,7 +52,8 @@ pub record Back (h : ℕ) (g k : Progress → Progress) (ps qs : List Progress) 
   pub is : changed_at h k old ≡ qs
 
 -- where the change is made of another one
-pub but_back : (h : ℕ) (f g k : Progress → Progress) (ps qs : List Progress) → ((p : Progress) → slice_get ps h ≡ Some p → k (g p) ≡ f p) → ButOne h (changed_at h f ps) qs → Back h g k ps qs
+pub but_back : (h : ℕ) (f g k : Progress → Progress) (ps qs : List Progress) → ((p : Progress) → slice_get ps h ≡ Some p → k (g p) ≡ f p) → ButOne h (changed_at h f ps) qs
+    → Back h g k ps qs
 but_back h f g k [] [] same but = record { old = []; but = tt; is = refl }
 but_back h f g k [] (q ∷ qs) same but = absurd but
 but_back zero f g k (p ∷ ps) [] same but = absurd but
@@ -63,7 +65,8 @@ but_back (suc h) f g k (p ∷ ps) (q ∷ qs) same but =
     record { old = q ∷ more.old; but = (but.0, more.but); is = ap (λ (l : List Progress). q ∷ l) more.is }
 
 -- one that hasn't just begun is as it is
-pub chosen_but : (h : ℕ) (f : Progress → Progress) (ps qs : List Progress) → ((p : Progress) → slice_get ps h ≡ Some p → IsBegun (f p) → ⊥) → Pairs Chosen (changed_at h f ps) qs
+pub chosen_but : (h : ℕ) (f : Progress → Progress) (ps qs : List Progress) → ((p : Progress) → slice_get ps h ≡ Some p → IsBegun (f p) → ⊥)
+    → Pairs Chosen (changed_at h f ps) qs
     → ButOne h (changed_at h f ps) qs
 chosen_but h f [] [] none pairs = tt
 chosen_but h f [] (q ∷ qs) none pairs = absurd pairs
@@ -180,7 +183,8 @@ pub record Begins (h : ℕ) (begin mark : Progress → Progress) (ps qs : List P
   pub chosen : Pairs Chosen ps old
   pub is : (changed_at h begin old ≡ qs) ⊎ (changed_at h mark (changed_at h begin old) ≡ qs)
 
-pub chosen_begins : (h : ℕ) (begin mark f : Progress → Progress) (ps qs : List Progress) → ((p : Progress) → slice_get ps h ≡ Some p → IsBegun p → ⊥) → ((p : Progress) → IsBegun (f p))
+pub chosen_begins : (h : ℕ) (begin mark f : Progress → Progress) (ps qs : List Progress) → ((p : Progress) → slice_get ps h ≡ Some p → IsBegun p → ⊥)
+    → ((p : Progress) → IsBegun (f p))
     → ((p : Progress) → floorless (f p) ≡ begin p) → ((p : Progress) → at_mark (f p) ≡ mark (begin p)) → Pairs Chosen (changed_at h f ps) qs → Begins h begin mark ps qs
 chosen_begins h begin mark f [] [] idle begun floor came pairs = record { old = []; chosen = tt; is = inl refl }
 chosen_begins h begin mark f [] (q ∷ qs) idle begun floor came pairs = absurd pairs

@@ -42,7 +42,8 @@ pub record LeadsIn (start : Image) (x c : Possible) (line : Note) : Type 0 where
   pub over : Direct next (after start c line)
 
 -- a line that follows the journal's notes follows the state
-pub line_over : (start : Image) (x c : Possible) → Over start x c → IsApart c → Each Wishful c.hosts → (y : Note) → MayStand (length start) (shapes_in c) y → Fits (past_in start c) y
+pub line_over : (start : Image) (x c : Possible) → Over start x c → IsApart c → Each Wishful c.hosts → (y : Note) → MayStand (length start) (shapes_in c) y
+    → Fits (past_in start c) y
     → LeadsIn start x c y
 line_over start x c (direct d) apart wishes y may fits =
     let next = line_follows start x c d (direct_apart x c d apart) (each_wishes c wishes) y may fits in

@@ -59,7 +59,8 @@ lower_changed k f g both (x ∷ xs) [] all = absurd all
 lower_changed zero f g both (x ∷ xs) (y ∷ ys) all = (both x y all.0, all.1)
 lower_changed (suc k) f g both (x ∷ xs) (y ∷ ys) all = (all.0, lower_changed k f g both xs ys all.1)
 
-lower_at : (P Q : HostPast → Type 0) → ((x y : HostPast) → Lower x y → P x → Q y) → (k : ℕ) (xs ys : List HostPast) → Pairs Lower xs ys → OfHost (slice_get xs k) P → OfHost (slice_get ys k) Q
+lower_at : (P Q : HostPast → Type 0) → ((x y : HostPast) → Lower x y → P x → Q y) → (k : ℕ) (xs ys : List HostPast) → Pairs Lower xs ys → OfHost (slice_get xs k) P
+    → OfHost (slice_get ys k) Q
 lower_at P Q next k [] [] all is = is
 lower_at P Q next k [] (y ∷ ys) all is = absurd all
 lower_at P Q next k (x ∷ xs) [] all is = absurd all
@@ -76,7 +77,8 @@ lower_cmd (suc k) (x ∷ xs) (y ∷ ys) all = lower_cmd k xs ys all.1
 -- What is allowed of one host.
 
 module _ (x y : HostPast) (lower : Lower x y) where
-  decided_lower : (p : Params) (history : List File) (pending : Option File) (decision : Result Entry Cause) → IsDecided p x history pending decision → IsDecided p y history pending decision
+  decided_lower : (p : Params) (history : List File) (pending : Option File) (decision : Result Entry Cause) → IsDecided p x history pending decision
+      → IsDecided p y history pending decision
   decided_lower p history pending decision d =
       record { cmd = d.cmd; told = lower.cmd ∙ d.told; none = d.none; is = ap (λ (u : List ℕ). decide p u (entries_of history) d.cmd) lower.uuid ∙ d.is }
 

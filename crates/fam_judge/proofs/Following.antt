@@ -49,7 +49,8 @@ task_runs h hosts note host declared None runs is = absurd is
 task_runs h hosts note host declared (Some t) runs is = record { host = host; declared = declared; task = t; runs = runs; is = is }
 
 -- so it is of a note that may come next
-pub note_runs : (h : ℕ) (hosts : List HostShape) (note : Note) (o : Option HostShape) → slice_get hosts h ≡ o → OfRunning o (λ me t. TaskNote h me t note) → RunsNote h hosts note
+pub note_runs : (h : ℕ) (hosts : List HostShape) (note : Note) (o : Option HostShape) → slice_get hosts h ≡ o → OfRunning o (λ me t. TaskNote h me t note)
+    → RunsNote h hosts note
 note_runs h hosts note None declared is = absurd is
 note_runs h hosts note (Some host) declared is = task_runs h hosts note host declared host.task refl is
 
@@ -84,7 +85,8 @@ few_at : (o : Option ℕ) (hosts : List HostShape) (P : ℕ → HostShape → Ty
 few_at None hosts P notes each is = absurd is
 few_at (Some h) hosts P notes each is = few_of (slice_get hosts h) (P h) notes (each h) is
 
-few_does : (lines : ℕ) (hosts : List HostShape) (notes : List Note) (c : Call) → (FreeShape c lines hosts notes → length notes ≤ 1) → DoesShape c lines hosts notes → length notes ≤ 1
+few_does : (lines : ℕ) (hosts : List HostShape) (notes : List Note) (c : Call) → (FreeShape c lines hosts notes → length notes ≤ 1) → DoesShape c lines hosts notes
+    → length notes ≤ 1
 few_does lines hosts notes c each is = few_by (asked_name c) (refusal_told c lines hosts) notes (FreeShape c lines hosts notes) each is
 
 few_acting : (lines : ℕ) (hosts : List HostShape) (notes : List Note) (c : Call) → ((h : ℕ) (host : HostShape) → ActsShape c h host lines hosts notes → length notes ≤ 1)

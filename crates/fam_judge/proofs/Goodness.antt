@@ -28,7 +28,8 @@ use Rattle.fam_judge.proofs.Standing.Faces.{text_same}
 abbrev pub Each : (Progress → Type 0) → List Progress → Type 0
 Each P xs = (k : ℕ) (p : Progress) → slice_get xs k ≡ Some p → P p
 
-each_changed : (P : Progress → Type 0) (h : ℕ) (f : Progress → Progress) (xs : List Progress) → Each P xs → ((p : Progress) → slice_get xs h ≡ Some p → P p → P (f p)) → Each P (changed_at h f xs)
+each_changed : (P : Progress → Type 0) (h : ℕ) (f : Progress → Progress) (xs : List Progress) → Each P xs → ((p : Progress) → slice_get xs h ≡ Some p → P p → P (f p))
+    → Each P (changed_at h f xs)
 each_changed P h f xs each mine k p is =
     elim (cases_eq k h) [
       | inl e ↦ here (slice_get xs h) refl (sym (changed_here h f xs) ∙ ap (slice_get (changed_at h f xs)) (sym e) ∙ is)
@@ -41,7 +42,8 @@ each_changed P h f xs each mine k p is =
 
 -- UUIDs.
 
-same_uuids : (hosts : List Progress) (h : ℕ) (f : Progress → Progress) → ((p : Progress) → uuid_in (f p) ≡ uuid_in p) → AreApart (map uuid_in hosts) → AreApart (map uuid_in (changed_at h f hosts))
+same_uuids : (hosts : List Progress) (h : ℕ) (f : Progress → Progress) → ((p : Progress) → uuid_in (f p) ≡ uuid_in p) → AreApart (map uuid_in hosts)
+    → AreApart (map uuid_in (changed_at h f hosts))
 same_uuids hosts h f same apart = subst AreApart (sym (kept_uuids uuid_in h f same hosts)) apart
 
 -- no host has the UUID of one that is declared
@@ -91,7 +93,8 @@ each_wishes c each h p t n is runs met = each h p is t n runs met
 no_task : (p : Progress) (t : TaskShape) (n : ℕ) → None ≡ Some t → HasWish t.cmd
 no_task p t n e = absurd cc
 
-staged_wish : (stage : CommandStage) → ((n : ℕ) → stage ≡ Met n → ⊥) → (o : Option TaskShape) (t : TaskShape) (n : ℕ) → option_map (λ (t : TaskShape). record t { stage = stage }) o ≡ Some t → t.stage ≡ Met n → HasWish t.cmd
+staged_wish : (stage : CommandStage) → ((n : ℕ) → stage ≡ Met n → ⊥) → (o : Option TaskShape) (t : TaskShape) (n : ℕ)
+    → option_map (λ (t : TaskShape). record t { stage = stage }) o ≡ Some t → t.stage ≡ Met n → HasWish t.cmd
 staged_wish stage ne None t n e met = absurd cc
 staged_wish stage ne (Some k) t n e met = absurd (ne n (ap (λ (z : TaskShape). z.stage) (same_Some (record k { stage = stage }) t e) ∙ met))
 

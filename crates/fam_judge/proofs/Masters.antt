@@ -142,7 +142,8 @@ finds_goes n (Sized p m more) is = on p m n more refl (low more is) (finds_is n 
 -- Hosts of which one changes.
 
 module _ (hosts : List HostShape) (k : ℕ) (f : HostShape → HostShape) (t : Size) where
-  tasks_changed : ((x : HostShape) → slice_get hosts k ≡ Some x → TaskFits (f x).uuid (f x).task t) → ((l : ℕ) (x : HostShape) → l ≢ k → slice_get hosts l ≡ Some x → TaskFits x.uuid x.task t)
+  tasks_changed : ((x : HostShape) → slice_get hosts k ≡ Some x → TaskFits (f x).uuid (f x).task t)
+      → ((l : ℕ) (x : HostShape) → l ≢ k → slice_get hosts l ≡ Some x → TaskFits x.uuid x.task t)
       → (l : ℕ) (x : HostShape) → slice_get (changed_at k f hosts) l ≡ Some x → TaskFits x.uuid x.task t
   tasks_changed mine others l x is =
       elim (cases_eq l k) [
@@ -209,7 +210,8 @@ met_fits me n (Some t) (Lost origin damage gate) is = tt
 met_fits me n (Some t) (Sized p m more) is =
     subst (TaskFits me (Some (record t { stage = Met n }))) (sym (finds_is n p m more is)) (let low : n ≤ n = omega arith in (low, λ e. refl))
 
-named_fits : (me : List ℕ) (seq : ℕ) (o : Option TaskShape) (s : Size) → WriteSize me seq s → TaskFits me (option_map (λ (t : TaskShape). record t { stage = Named seq }) o) (pends_size s)
+named_fits : (me : List ℕ) (seq : ℕ) (o : Option TaskShape) (s : Size) → WriteSize me seq s
+    → TaskFits me (option_map (λ (t : TaskShape). record t { stage = Named seq }) o) (pends_size s)
 named_fits me seq None s is = tt
 named_fits me seq (Some t) (Lost origin damage gate) is = tt
 named_fits me seq (Some t) (Sized p n more) is = (is.2, λ e. sym is.0)

@@ -46,7 +46,8 @@ front_member zero (x ∷ xs) y below = refl
 front_member (suc i) (x ∷ xs) y below = front_member i xs y (omega (arith, below))
 
 -- a change that is seen as a change of what is seen
-pub map_changed : {A B : Type 0} (g : A → B) (i : ℕ) (f : A → A) (k : B → B) → ((x : A) → g (f x) ≡ k (g x)) → (xs : List A) → map g (changed_at i f xs) ≡ changed_at i k (map g xs)
+pub map_changed : {A B : Type 0} (g : A → B) (i : ℕ) (f : A → A) (k : B → B) → ((x : A) → g (f x) ≡ k (g x)) → (xs : List A)
+    → map g (changed_at i f xs) ≡ changed_at i k (map g xs)
 map_changed g i f k same [] = refl
 map_changed g zero f k same (x ∷ xs) = ap (λ y. y ∷ map g xs) (same x)
 map_changed g (suc i) f k same (x ∷ xs) = ap (λ l. g x ∷ l) (map_changed g i f k same xs)

@@ -85,7 +85,8 @@ module _ (lines : ℕ) (hosts : List HostShape) (y : Note) where
   by_refusal name (Some w) free next is = plainly (Refused name w) [] tt is
   by_refusal name None free next is = next refl is
 
-  by_host : (R : ℕ → HostShape → Type 0) → (o : Option ℕ) → ((k : ℕ) (host : HostShape) → o ≡ Some k → R k host → Origin lines hosts y) → AtShape o hosts R → Origin lines hosts y
+  by_host : (R : ℕ → HostShape → Type 0) → (o : Option ℕ) → ((k : ℕ) (host : HostShape) → o ≡ Some k → R k host → Origin lines hosts y) → AtShape o hosts R
+      → Origin lines hosts y
   by_host R None next is = absurd is
   by_host R (Some k) next is = by (slice_get hosts k) is
     where
@@ -103,7 +104,8 @@ module _ (lines : ℕ) (hosts : List HostShape) (y : Note) where
   by_move : (name : List ℕ) (line : ℕ) (move : Move) → DoesShape (call.Moves name line move) lines hosts (y ∷ []) → Origin lines hosts y
   by_move name line move is = by_call (call.Moves name line move) (by_host _ (number_of name (shown_shapes lines hosts)) moved) is
     where
-      moved : (k : ℕ) (host : HostShape) → number_of name (shown_shapes lines hosts) ≡ Some k → ActsShape (call.Moves name line move) k host lines hosts (y ∷ []) → Origin lines hosts y
+      moved : (k : ℕ) (host : HostShape) → number_of name (shown_shapes lines hosts) ≡ Some k → ActsShape (call.Moves name line move) k host lines hosts (y ∷ [])
+          → Origin lines hosts y
       moved k host number (inl none) = absurd (none_one y none)
       moved k host number (inr fault) = plainly _ [] tt fault
 
@@ -132,7 +134,8 @@ module _ (lines : ℕ) (hosts : List HostShape) (y : Note) where
       at e k host number (inl are) = makes name request (subst IsMaking (sym (one_note y _ [] are)) (made request.halt k _)) e
       at e k host number (inr stands) = plainly _ [] tt stands.notes_are
 
-      making : refusal_told (call.Makes name request) lines hosts ≡ None → HostActsShape (call.Makes name request) lines hosts (y ∷ []) ⊎ DirtyShape name lines hosts (y ∷ []) → Origin lines hosts y
+      making : refusal_told (call.Makes name request) lines hosts ≡ None → HostActsShape (call.Makes name request) lines hosts (y ∷ []) ⊎ DirtyShape name lines hosts (y ∷ [])
+          → Origin lines hosts y
       making e (inl acts) = by_host _ (number_of name (shown_shapes lines hosts)) (at e) acts
       making e (inr dirty) = plainly _ [] tt dirty.notes_are
   by_event (event.Begin name what) is = by_refusal name (may_begin name (mounts what) (shown_shapes lines hosts)) _ (by_start NoMore name what) is
@@ -161,7 +164,8 @@ task_way h n hosts ne me t (Writes k seq entry) is = λ e. ne (sym is.0 ∙ e)
 task_way h n hosts ne me t (Answered k answer) is = λ e. ne (sym is.0 ∙ e)
 task_way h n hosts ne me t y is = absurd is
 
-running_way : (h n : ℕ) (hosts : List HostShape) (y : Note) (o : Option HostShape) → (runs_shape o ≡ true → n ≢ h) → OfRunning o (λ me t. TaskNote n me t y) → GivesWay h hosts y
+running_way : (h n : ℕ) (hosts : List HostShape) (y : Note) (o : Option HostShape) → (runs_shape o ≡ true → n ≢ h) → OfRunning o (λ me t. TaskNote n me t y)
+    → GivesWay h hosts y
 running_way h n hosts y None ne is = absurd is
 running_way h n hosts y (Some host) ne is = by host.task ne is
   where
@@ -187,7 +191,8 @@ start_inner : (h : ℕ) (cmd : Cmd) → IsTrue (is_inner (Start h cmd)) → ⊥
 start_inner h cmd inner = cc
 
 -- so an idle host gives none that is left out
-pub inner_way : (lines : ℕ) (hosts : List HostShape) (h : ℕ) (y : Note) → IsTrue (is_inner y) → runs_shape (slice_get hosts h) ≡ false → IsFormedNote lines hosts y → GivesWay h hosts y
+pub inner_way : (lines : ℕ) (hosts : List HostShape) (h : ℕ) (y : Note) → IsTrue (is_inner y) → runs_shape (slice_get hosts h) ≡ false → IsFormedNote lines hosts y
+    → GivesWay h hosts y
 inner_way lines hosts h y inner idle is = by (by_event lines hosts y is.event is.shape)
   where
     apart : (n : ℕ) → runs_shape (slice_get hosts n) ≡ true → n ≢ h

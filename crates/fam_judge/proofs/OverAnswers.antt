@@ -66,7 +66,8 @@ module _ (start : Image) (x c : Possible) (d : Direct x c) (h : ℕ) (given : Re
         runs_at now h (λ me t. AnswerPlace t.cmd t.stage (Replied given)) (f both.host) task there runs
         (subst (λ (k : Cmd). ReplyPlace k task.stage given) (sym (cmd ∙ both.cmd)) place)
 
-    fits_there : StateOver now.state c.state → ReplyOver (f both.host).told both.other.told ((like.cmds both.host) ∙ both.over.told_cmd) given now.state c.state → Fits (past_in start now) (Answered h (Replied given))
+    fits_there : StateOver now.state c.state → ReplyOver (f both.host).told both.other.told ((like.cmds both.host) ∙ both.over.told_cmd) given now.state c.state
+        → Fits (past_in start now) (Answered h (Replied given))
     fits_there over needs =
         of_told start now h (λ host. AnswerFits (Replied given) host now.state) (f both.host) there
         (reply_over (f both.host).told both.other.told (like.cmds both.host ∙ both.over.told_cmd) given now.state c.state over (like.own both.host ∙ both.over.told_uuid) needs fits)
@@ -75,7 +76,8 @@ module _ (start : Image) (x c : Possible) (d : Direct x c) (h : ℕ) (given : Re
   shape = both.holds.1
 
   -- nothing is decided before entries are found
-  no_decline : (stage : CommandStage) → both.other_task.stage ≡ stage → (HasMet stage → ⊥) → (why : Cause) → given ≡ reply.NotAppended why → IsDecline why → c.state ≡ c.state → ⊥
+  no_decline : (stage : CommandStage) → both.other_task.stage ≡ stage → (HasMet stage → ⊥) → (why : Cause) → given ≡ reply.NotAppended why → IsDecline why → c.state ≡ c.state
+      → ⊥
   no_decline stage is none why e decline same_state =
       none (subst HasMet is (decided_met me both.other_task.stage why decline (subst (λ (r : Reply). ReplyShape me both.other_task.cmd both.other_task.stage r) e shape).1))
 
@@ -152,7 +154,8 @@ module _ (start : Image) (x c : Possible) (d : Direct x c) (h : ℕ) (given : Re
   }
 
   -- it has found entries
-  from_met : (n : ℕ) (now : Possible) (f : Progress → Progress) → Same f → now.hosts ≡ changed_at h f x.hosts → now.state ≡ c.state → Later x.state now.state → slice_get now.hosts h ≡ Some (f both.host)
+  from_met : (n : ℕ) (now : Possible) (f : Progress → Progress) → Same f → now.hosts ≡ changed_at h f x.hosts → now.state ≡ c.state → Later x.state now.state
+      → slice_get now.hosts h ≡ Some (f both.host)
       → (task : TaskShape) → (f both.host).shape.task ≡ Some task → task.cmd ≡ both.task.cmd → (m : ℕ) → task.stage ≡ Met m → Reaches start h x now
       → both.other_task.stage ≡ Met n → Comes start x c h me (Replied given)
   from_met n now f like hosts state later there task runs cmd m met reaches is =
@@ -181,7 +184,8 @@ module _ (start : Image) (x c : Possible) (d : Direct x c) (h : ℕ) (given : Re
       (subst (λ (s : CommandStage). ReplyPlace both.other_task.cmd s given) is place) fits d.state
 
   -- it wants to append, since it found entries: what it is answered says so
-  met_wishes : (n : ℕ) → both.other_task.stage ≡ Met n → Rattle.fam_commands.specs.Appends.HasWish both.other_task.cmd → both.task.stage ≡ Begun ⊎ (both.task.stage ≡ Marked) → Comes start x c h me (Replied given)
+  met_wishes : (n : ℕ) → both.other_task.stage ≡ Met n → Rattle.fam_commands.specs.Appends.HasWish both.other_task.cmd → both.task.stage ≡ Begun ⊎ (both.task.stage ≡ Marked)
+      → Comes start x c h me (Replied given)
   met_wishes n is wish head =
       let t = target n is in
       let f : Progress → Progress = λ p. record p { shape = with_stage (Met t.count) p.shape } in
@@ -222,13 +226,15 @@ module _ (start : Image) (x c : Possible) (d : Direct x c) (h : ℕ) (given : Re
       unchanged : (h : ℕ) (xs : List Progress) → changed_at h (λ p. p) xs ≡ xs
       unchanged h xs = Rattle.fam_judge.proofs.Members.changed_same h (λ p. p) xs (λ p is. refl)
 
-  at_begun : (a : CommandStage) → both.task.stage ≡ a → both.other_task.stage ≡ Begun → StagesOver x.state a Begun both.host.told both.other.told → Comes start x c h me (Replied given)
+  at_begun : (a : CommandStage) → both.task.stage ≡ a → both.other_task.stage ≡ Begun → StagesOver x.state a Begun both.host.told both.other.told
+      → Comes start x c h me (Replied given)
   at_begun Begun e is stages = from_begun e is
   at_begun Marked e is stages = absurd stages
   at_begun (Met n) e is stages = absurd stages
   at_begun (Named seq) e is stages = absurd stages
 
-  at_marked : (a : CommandStage) → both.task.stage ≡ a → both.other_task.stage ≡ Marked → StagesOver x.state a Marked both.host.told both.other.told → Comes start x c h me (Replied given)
+  at_marked : (a : CommandStage) → both.task.stage ≡ a → both.other_task.stage ≡ Marked → StagesOver x.state a Marked both.host.told both.other.told
+      → Comes start x c h me (Replied given)
   at_marked Begun e is stages =
       let f : Progress → Progress = λ p. record p { shape = with_stage Marked p.shape } in
       let like : Same f = record { names = λ p. refl; uuids = λ p. refl; keeps = λ p. refl; own = λ p. refl; cmds = λ p. refl } in
@@ -251,7 +257,8 @@ module _ (start : Image) (x c : Possible) (d : Direct x c) (h : ℕ) (given : Re
       (stands_by (λ begun. met_begun m (sym e ∙ begun))) is
   at_met n (Named k) e is wish stages = absurd stages
 
-  at_named : (k : ℕ) (a : CommandStage) → both.task.stage ≡ a → both.other_task.stage ≡ Named k → StagesOver x.state a (Named k) both.host.told both.other.told → Comes start x c h me (Replied given)
+  at_named : (k : ℕ) (a : CommandStage) → both.task.stage ≡ a → both.other_task.stage ≡ Named k → StagesOver x.state a (Named k) both.host.told both.other.told
+      → Comes start x c h me (Replied given)
   at_named k Begun e is stages = absurd stages
   at_named k Marked e is stages = absurd stages
   at_named k (Met n) e is stages = absurd stages

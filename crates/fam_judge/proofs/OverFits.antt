@@ -68,7 +68,8 @@ module _ (host other : HostPast) (cmd_is : host.cmd ≡ other.cmd) where
       params (joined r history f es et) = cc
       params (dropped r history f es et) = cc
 
-  pub report_over : (r : Report) (s t : State) → StateOver s t → ((m : ℕ) → reported_count r.log ≡ Some m → FloorUnder host.floor other.floor) → ReportAllowed r other t → ReportAllowed r host s
+  pub report_over : (r : Report) (s t : State) → StateOver s t → ((m : ℕ) → reported_count r.log ≡ Some m → FloorUnder host.floor other.floor) → ReportAllowed r other t
+      → ReportAllowed r host s
   report_over r (Bad origin damage gate) (Bad origin2 damage2 gate2) (same e) under is = let one : origin2 ≡ origin = cc in subst (λ (o : Rattle.fam_journal.specs.Past.Origin). ReportAllowed r host (Bad o damage gate)) one is
   report_over r (Sound p a x) (Sound q b y) over under is = report r p q a b x y over (under is.m (reported_is q other (with_pending b y) r is)) is
   report_over r (Bad origin damage gate) t (joined p history f es et) under is = absurd cc
@@ -90,7 +91,8 @@ module _ (host other : HostPast) (cmd_is : host.cmd ≡ other.cmd) where
   appended_same seq (Sound p a x) t wrote e is = acknowledges_over seq a a wrote refl (subst (AppendedAllowed seq other) (sym e) is)
 
   -- the entry that a host named is acknowledged
-  pub appended_over : (seq : ℕ) (s t : State) → StateOver s t → host.wrote ≡ other.wrote → AppendedAllowed seq other (acknowledges seq t) → AppendedAllowed seq host (acknowledges seq s)
+  pub appended_over : (seq : ℕ) (s t : State) → StateOver s t → host.wrote ≡ other.wrote → AppendedAllowed seq other (acknowledges seq t)
+      → AppendedAllowed seq host (acknowledges seq s)
   appended_over seq s t (same e) wrote is = appended_same seq (acknowledges seq s) (acknowledges seq t) wrote (ap (acknowledges seq) (sym e)) is
   appended_over seq s t (joined p history f es et) wrote is = by (goes p history f (Some (seq + 1)))
     where

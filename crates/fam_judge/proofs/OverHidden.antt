@@ -17,7 +17,8 @@ use Rattle.fam_judge.proofs.OverWrites.{writes_in}
 use Rattle.fam_judge.proofs.Places.{once_pairs, running_at}
 
 -- of the host's command this holds
-pub task_of : (c : Possible) (h : ℕ) (P : List ℕ → TaskShape → Type 0) (q : Progress) (t : TaskShape) → OfRunning (slice_get (shapes_in c) h) P → slice_get c.hosts h ≡ Some q → q.shape.task ≡ Some t → P q.shape.uuid t
+pub task_of : (c : Possible) (h : ℕ) (P : List ℕ → TaskShape → Type 0) (q : Progress) (t : TaskShape) → OfRunning (slice_get (shapes_in c) h) P → slice_get c.hosts h ≡ Some q
+    → q.shape.task ≡ Some t → P q.shape.uuid t
 task_of c h P q t may is runs =
     let r = running_at c h P may in
     let one : r.host ≡ q = same_Some r.host q (sym r.is ∙ is) in
@@ -26,7 +27,8 @@ task_of c h P q t may is runs =
 
 module _ (x c : Possible) (d : Direct x c) (h : ℕ) where
   -- the second state changes alone
-  pub one_side : (k : Progress → Progress) → ((p q : Progress) → slice_get c.hosts h ≡ Some q → HostOver x.state p q → HostOver x.state p (k q)) → Pairs (HostOver x.state) x.hosts (changed_at h k c.hosts)
+  pub one_side : (k : Progress → Progress) → ((p q : Progress) → slice_get c.hosts h ≡ Some q → HostOver x.state p q → HostOver x.state p (k q))
+      → Pairs (HostOver x.state) x.hosts (changed_at h k c.hosts)
   one_side k mine =
       subst (λ (xs : List Progress). Pairs (HostOver x.state) xs (changed_at h k c.hosts)) (changed_same h (λ p. p) x.hosts (λ p is. refl))
       (once_pairs x c d h x.state (λ p. p) k (no_later x.state) (λ p q is other over. mine p q other over))

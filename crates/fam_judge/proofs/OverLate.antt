@@ -106,7 +106,8 @@ module _ (start : Image) (x c : Possible) (l : Late start x c) where
     own_at i q is = let p = paired (HostOver x.state) x.hosts l.pre.hosts i q l.direct.hosts is in sym p.2.told_uuid ∙ p.2.own ∙ p.2.uuid
 
     -- it isn't the master, so it names no entry
-    pub no_other : IsApart c → (seq : ℕ) (e : Entry) → OfRunning (slice_get (shapes_in c) j) (λ me t. TaskNote j me t (Writes j seq e)) → Fits (past_in start c) (Writes j seq e) → ⊥
+    pub no_other : IsApart c → (seq : ℕ) (e : Entry) → OfRunning (slice_get (shapes_in c) j) (λ me t. TaskNote j me t (Writes j seq e))
+        → Fits (past_in start c) (Writes j seq e) → ⊥
     no_other apart seq e may fits =
         let q = running_at c j (λ me t. TaskNote j me t (Writes j seq e)) may in
         let other = write_says seq e q.host.told c.state (told_at start c j (λ host. WritesAllowed seq e host c.state) q.host q.is fits) in
@@ -119,11 +120,13 @@ module _ (start : Image) (x c : Possible) (l : Late start x c) where
 -- Notes that are left out.
 
 module _ (start : Image) (x c : Possible) where
-  late_mark : (l : Late start x c) (j : ℕ) → OfRunning (slice_get (shapes_in c) j) (λ me t. TaskNote j me t (Mark j)) → (j ≡ l.host) ⊎ (j ≢ l.host) → Late start x (after start c (Mark j))
+  late_mark : (l : Late start x c) (j : ℕ) → OfRunning (slice_get (shapes_in c) j) (λ me t. TaskNote j me t (Mark j)) → (j ≡ l.host) ⊎ (j ≢ l.host)
+      → Late start x (after start c (Mark j))
   late_mark l j may (inl e) =
       absurd (named_begun l.seq (stage_is start x c l (λ s. s ≡ Begun) (subst (λ (k : ℕ). OfRunning (slice_get (shapes_in c) k) (λ me t. t.stage ≡ Begun)) e (begins c j may))))
     where
-      begins : (c : Possible) (j : ℕ) → OfRunning (slice_get (shapes_in c) j) (λ me t. TaskNote j me t (Mark j)) → OfRunning (slice_get (shapes_in c) j) (λ me t. t.stage ≡ Begun)
+      begins : (c : Possible) (j : ℕ) → OfRunning (slice_get (shapes_in c) j) (λ me t. TaskNote j me t (Mark j))
+          → OfRunning (slice_get (shapes_in c) j) (λ me t. t.stage ≡ Begun)
       begins c j may = let r = running_at c j (λ me t. TaskNote j me t (Mark j)) may in runs_at c j (λ me t. t.stage ≡ Begun) r.host r.task r.is r.runs r.holds.1
   late_mark l j may (inr ne) =
       late_moved start x c l j ne x (after start c (Mark j)) _
@@ -140,12 +143,14 @@ module _ (start : Image) (x c : Possible) where
           let e = over_settled (after start l.pre (Writes l.host l.seq l.entry)).state c.state l.state in
           omega (arith, a, b, d, e)
 
-  late_found : (l : Late start x c) (j n : ℕ) → OfRunning (slice_get (shapes_in c) j) (λ me t. TaskNote j me t (Found j n)) → FoundAllowed n c.state → (j ≡ l.host) ⊎ (j ≢ l.host)
+  late_found : (l : Late start x c) (j n : ℕ) → OfRunning (slice_get (shapes_in c) j) (λ me t. TaskNote j me t (Found j n)) → FoundAllowed n c.state
+      → (j ≡ l.host) ⊎ (j ≢ l.host)
       → Late start x (after start c (Found j n))
   late_found l j n may found (inl e) =
       absurd (named_marked l.seq (stage_is start x c l (λ s. s ≡ Marked) (subst (λ (k : ℕ). OfRunning (slice_get (shapes_in c) k) (λ me t. t.stage ≡ Marked)) e (finds_it c j may))))
     where
-      finds_it : (c : Possible) (j : ℕ) → OfRunning (slice_get (shapes_in c) j) (λ me t. TaskNote j me t (Found j n)) → OfRunning (slice_get (shapes_in c) j) (λ me t. t.stage ≡ Marked)
+      finds_it : (c : Possible) (j : ℕ) → OfRunning (slice_get (shapes_in c) j) (λ me t. TaskNote j me t (Found j n))
+          → OfRunning (slice_get (shapes_in c) j) (λ me t. t.stage ≡ Marked)
       finds_it c j may = let r = running_at c j (λ me t. TaskNote j me t (Found j n)) may in runs_at c j (λ me t. t.stage ≡ Marked) r.host r.task r.is r.runs r.holds.2
   late_found l j n may found (inr ne) =
       late_moved start x c l j ne x (after start c (Found j n)) _
@@ -153,17 +158,20 @@ module _ (start : Image) (x c : Possible) where
       refl (over_hidden n _ c.state l.state found)
 
   -- no entry is named behind it
-  pub late_writes : (l : Late start x c) → IsApart c → (j seq : ℕ) (e : Entry) → OfRunning (slice_get (shapes_in c) j) (λ me t. TaskNote j me t (Writes j seq e)) → Fits (past_in start c) (Writes j seq e)
+  pub late_writes : (l : Late start x c) → IsApart c → (j seq : ℕ) (e : Entry) → OfRunning (slice_get (shapes_in c) j) (λ me t. TaskNote j me t (Writes j seq e))
+      → Fits (past_in start c) (Writes j seq e)
       → (j ≡ l.host) ⊎ (j ≢ l.host) → ⊥
   late_writes l apart j seq e may fits (inl same) =
       named_met l.seq seq (stage_is start x c l (λ s. s ≡ Met seq) (subst (λ (k : ℕ). OfRunning (slice_get (shapes_in c) k) (λ me t. t.stage ≡ Met seq)) same (met_it c j may)))
     where
-      met_it : (c : Possible) (j : ℕ) → OfRunning (slice_get (shapes_in c) j) (λ me t. TaskNote j me t (Writes j seq e)) → OfRunning (slice_get (shapes_in c) j) (λ me t. t.stage ≡ Met seq)
+      met_it : (c : Possible) (j : ℕ) → OfRunning (slice_get (shapes_in c) j) (λ me t. TaskNote j me t (Writes j seq e))
+          → OfRunning (slice_get (shapes_in c) j) (λ me t. t.stage ≡ Met seq)
       met_it c j may = let r = running_at c j (λ me t. TaskNote j me t (Writes j seq e)) may in runs_at c j (λ me t. t.stage ≡ Met seq) r.host r.task r.is r.runs r.holds.2
   late_writes l apart j seq e may fits (inr ne) = no_other start x c l j ne apart seq e may fits
 
   -- a note that a history leaves out is passed over
-  pub inner_over : IsApart c → Over start x c → (y : Note) → IsTrue (is_inner y) → (lines : ℕ) → MayStand lines (shapes_in c) y → Fits (past_in start c) y → Over start x (after start c y)
+  pub inner_over : IsApart c → Over start x c → (y : Note) → IsTrue (is_inner y) → (lines : ℕ) → MayStand lines (shapes_in c) y → Fits (past_in start c) y
+      → Over start x (after start c y)
   inner_over apart (direct d) (Mark j) inner lines may fits = direct (over_mark start x c d j may)
   inner_over apart (direct d) (Found j n) inner lines may fits = direct (over_found start x c d j n may fits)
   inner_over apart (direct d) (Writes j seq e) inner lines may fits =

@@ -41,7 +41,8 @@ asked_within m given host t is p history pending e k same =
     let high : m ≤ length (with_pending history pending) = one.bounds.high in
     let m_is : m ≡ k = same_Some m k same in subst (λ (n : ℕ). n ≤ length (with_pending history pending)) m_is high
 
-reported_within : (report : Rattle.fam_rules.specs.declared.answers.Report.Report) (host : HostPast) (t : State) → ReportAllowed report host t → Within (Rattle.fam_journal.specs.Past.reported_count report.log) t
+reported_within : (report : Rattle.fam_rules.specs.declared.answers.Report.Report) (host : HostPast) (t : State) → ReportAllowed report host t
+    → Within (Rattle.fam_journal.specs.Past.reported_count report.log) t
 reported_within report host t is p history pending e k same =
     let one = subst (ReportAllowed report host) e is in
     let m_is : one.m ≡ k = same_Some one.m k (sym (reported_is p host (with_pending history pending) report one) ∙ same) in
@@ -94,14 +95,16 @@ abbrev pub MetWish : Possible → Type 0
 MetWish c = (h : ℕ) (p : Progress) (t : TaskShape) (n : ℕ) → slice_get c.hosts h ≡ Some p → p.shape.task ≡ Some t → t.stage ≡ Met n → HasWish t.cmd
 
 module _ (start : Image) (x c : Possible) (d : Direct x c) where
-  place_at : (h : ℕ) (answer : Answer) (q : Progress) (t : TaskShape) → slice_get c.hosts h ≡ Some q → q.shape.task ≡ Some t → HasPlace (shapes_in c) (Answered h answer) → AnswerPlace t.cmd t.stage answer
+  place_at : (h : ℕ) (answer : Answer) (q : Progress) (t : TaskShape) → slice_get c.hosts h ≡ Some q → q.shape.task ≡ Some t → HasPlace (shapes_in c) (Answered h answer)
+      → AnswerPlace t.cmd t.stage answer
   place_at h answer q t is runs place =
       let r = running_at c h (λ me t. AnswerPlace t.cmd t.stage answer) place in
       let one : r.host ≡ q = same_Some r.host q (sym r.is ∙ is) in
       let task : r.task ≡ t = same_Some r.task t (sym r.runs ∙ ap (λ (p : Progress). p.shape.task) one ∙ runs) in
       subst (λ (k : TaskShape). AnswerPlace k.cmd k.stage answer) task r.holds
 
-  from_comes : (h : ℕ) (given : Reply) (me : List ℕ) → Comes start x c h me (Replied given) → Within (effect (Replied given)) c.state → FollowsIn start x c (Answered h (Replied given))
+  from_comes : (h : ℕ) (given : Reply) (me : List ℕ) → Comes start x c h me (Replied given) → Within (effect (Replied given)) c.state
+      → FollowsIn start x c (Answered h (Replied given))
   from_comes h given me come bound = record {
     next = after_line start come.now (Answered h (Replied given));
     leads = record { now = come.now; reaches = come.reaches; may = (come.may, come.placed); fits = come.fits; is = refl };
@@ -135,7 +138,8 @@ module _ (start : Image) (x c : Possible) (d : Direct x c) where
       (λ n is. wishes h both.other both.other_task n both.other_is both.other_runs is))
       (reply_within given both.other.told c.state fit)
 
-  writes_follows : IsApart x → (h seq : ℕ) (e : Entry) → MayStand (length start) (shapes_in c) (Writes h seq e) → Fits (past_in start c) (Writes h seq e) → FollowsIn start x c (Writes h seq e)
+  writes_follows : IsApart x → (h seq : ℕ) (e : Entry) → MayStand (length start) (shapes_in c) (Writes h seq e) → Fits (past_in start c) (Writes h seq e)
+      → FollowsIn start x c (Writes h seq e)
   writes_follows apart h seq e may fits =
       let is = writes_in start x c d apart h seq e may fits in
       record {

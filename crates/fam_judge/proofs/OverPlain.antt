@@ -68,7 +68,8 @@ all_idle x none k p is =
 
 module _ (start : Image) (x c : Possible) (d : Direct x c) where
   -- a line that speaks of faces leads on, where what it leaves allows no less
-  plain_leads : (y : Note) → giver y ≡ None → is_own y ≡ false → Rattle.fam_judge.specs.Fitting.Fits (past_in start x) y → MayStand (length start) (shapes_in c) y → Direct (after_line start x y) (after start c y) → FollowsIn start x c y
+  plain_leads : (y : Note) → giver y ≡ None → is_own y ≡ false → Rattle.fam_judge.specs.Fitting.Fits (past_in start x) y → MayStand (length start) (shapes_in c) y
+      → Direct (after_line start x y) (after start c y) → FollowsIn start x c y
   plain_leads y none plain fits may over = record {
     next = after_line start x y;
     leads = record {
@@ -82,7 +83,8 @@ module _ (start : Image) (x c : Possible) (d : Direct x c) where
   }
 
   -- one host changes, which runs no command then
-  ended_over : (f g : Progress → Progress) → ((p q : Progress) → HostOver x.state p q → HostOver x.state (f p) (g q)) → (h : ℕ) → Pairs (HostOver x.state) (changed_at h f x.hosts) (changed_at h g c.hosts)
+  ended_over : (f g : Progress → Progress) → ((p q : Progress) → HostOver x.state p q → HostOver x.state (f p) (g q)) → (h : ℕ)
+      → Pairs (HostOver x.state) (changed_at h f x.hosts) (changed_at h g c.hosts)
   ended_over f g each h = once_pairs x c d h x.state f g (no_later x.state) (λ p q is other over. each p q over)
 
   made_over : (s : State) → engaged_in (faces (shapes_in c)) ≡ None → Pairs (HostOver s) x.hosts c.hosts

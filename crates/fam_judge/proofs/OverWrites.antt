@@ -73,7 +73,8 @@ named_file cmd e = record { entry = e; bytes = filled_bytes cmd e.size }
 -- Hosts.
 
 -- so of one that isn't the master
-pended_later : (s : State) (p : Params) (history : List File) (f : File) (u : List ℕ) → settled_length s ≤ length history → u ≢ p.master → LaterOf u s (Sound p history (Some f))
+pended_later : (s : State) (p : Params) (history : List File) (f : File) (u : List ℕ) → settled_length s ≤ length history → u ≢ p.master
+    → LaterOf u s (Sound p history (Some f))
 pended_later s p history f u low ne = record { settled = low; none = λ was e. absurd (ne (sym (same_Some p.master u e))) }
 
 -- a command that has named an entry
@@ -87,7 +88,8 @@ written s left seq (Some a) (Some b) p q told_p told_q tasks wrote = (tasks.0, (
 module _ (x c : Possible) (d : Direct x c) (apart : IsApart x) (h : ℕ) (seq : ℕ) (e : Entry) (p q : Progress) (p_is : slice_get x.hosts h ≡ Some p) (q_is : slice_get c.hosts h ≡ Some q)
     (over : HostOver x.state p q) (says : WriteSays seq e q.told c.state) (low : settled_length x.state ≤ length says.history) where
   -- the other hosts aren't the master
-  others : (f : File) (i : ℕ) (a b : Progress) → i ≢ h → slice_get x.hosts i ≡ Some a → slice_get c.hosts i ≡ Some b → HostOver x.state a b → HostOver (Sound says.params says.history (Some f)) a b
+  others : (f : File) (i : ℕ) (a b : Progress) → i ≢ h → slice_get x.hosts i ≡ Some a → slice_get c.hosts i ≡ Some b → HostOver x.state a b
+      → HostOver (Sound says.params says.history (Some f)) a b
   others f i a b ne a_is b_is there =
       host_later_of x.state (Sound says.params says.history (Some f)) a b
       (pended_later x.state says.params says.history f a.told.uuid low
@@ -95,7 +97,8 @@ module _ (x c : Possible) (d : Direct x c) (apart : IsApart x) (h : ℕ) (seq : 
       there
 
   -- all hosts behind it
-  pub written_pairs : (f : File) (g k : Progress → Progress) → ((a b : Progress) → slice_get x.hosts h ≡ Some a → slice_get c.hosts h ≡ Some b → HostOver x.state a b → HostOver (Sound says.params says.history (Some f)) (g a) (k b))
+  pub written_pairs : (f : File) (g k : Progress → Progress)
+      → ((a b : Progress) → slice_get x.hosts h ≡ Some a → slice_get c.hosts h ≡ Some b → HostOver x.state a b → HostOver (Sound says.params says.history (Some f)) (g a) (k b))
       → Pairs (HostOver (Sound says.params says.history (Some f))) (changed_at h g x.hosts) (changed_at h k c.hosts)
   written_pairs f g k mine = pairs_step (HostOver x.state) (HostOver (Sound says.params says.history (Some f))) x.hosts c.hosts h g k d.hosts (others f) mine
 
@@ -218,7 +221,8 @@ module _ (start : Image) (x c : Possible) (d : Direct x c) (apart : IsApart x) (
     by_stage (Named k) is stages = absurd stages
 
   -- an entry that is named behind the second state is named behind the first one
-  pub writes_in : OfRunning (slice_get (shapes_in c) h) (λ me t. TaskNote h me t (Writes h seq e)) → Rattle.fam_judge.specs.Fitting.Fits (past_in start c) (Writes h seq e) → WritesIn
+  pub writes_in : OfRunning (slice_get (shapes_in c) h) (λ me t. TaskNote h me t (Writes h seq e)) → Rattle.fam_judge.specs.Fitting.Fits (past_in start c) (Writes h seq e)
+      → WritesIn
   writes_in may fits =
       let both = both_run x c d h (λ me t. TaskNote h me t (Writes h seq e)) may in
       let says = write_says seq e both.other.told c.state (told_at start c h (λ host. WritesAllowed seq e host c.state) both.other both.other_is fits) in

@@ -44,11 +44,13 @@ runs_at x h P host t is runs holds =
     (subst (λ (o : Option TaskShape). OfTask o (P host.shape.uuid)) (sym runs) holds)
 
 -- what is known of a host
-pub told_at : (start : Image) (x : Possible) (h : ℕ) (P : HostPast → Type 0) (host : Progress) → slice_get x.hosts h ≡ Some host → OfHost (slice_get (past_in start x).hosts h) P → P host.told
+pub told_at : (start : Image) (x : Possible) (h : ℕ) (P : HostPast → Type 0) (host : Progress) → slice_get x.hosts h ≡ Some host
+    → OfHost (slice_get (past_in start x).hosts h) P → P host.told
 told_at start x h P host is all = subst (λ (o : Option HostPast). OfHost o P) (slice_get-map told_in x.hosts h ∙ ap (option_map told_in) is) all
 
 -- and the other way about
-pub of_told : (start : Image) (x : Possible) (h : ℕ) (P : HostPast → Type 0) (host : Progress) → slice_get x.hosts h ≡ Some host → P host.told → OfHost (slice_get (past_in start x).hosts h) P
+pub of_told : (start : Image) (x : Possible) (h : ℕ) (P : HostPast → Type 0) (host : Progress) → slice_get x.hosts h ≡ Some host → P host.told
+    → OfHost (slice_get (past_in start x).hosts h) P
 of_told start x h P host is holds = subst (λ (o : Option HostPast). OfHost o P) (sym (slice_get-map told_in x.hosts h ∙ ap (option_map told_in) is)) holds
 
 -- a host that changes twice

@@ -22,7 +22,8 @@ use Rattle.fam_judge.proofs.Realized.{real_before, real_reaches}
 use Rattle.fam_judge.proofs.Realizing.{ComesTo, IsRealized, IsRealizedAt, hidden_more, host_here, line_more, real_line, runs_here, told_here, with_hosts}
 use Rattle.fam_judge.proofs.Standing.Alike.{stands_seen}
 
-staged_begun : (stage : CommandStage) → (stage ≡ Begun → ⊥) → (o : Option TaskShape) (t : TaskShape) → option_map (λ (t : TaskShape). record t { stage = stage }) o ≡ Some t → t.stage ≡ Begun → ⊥
+staged_begun : (stage : CommandStage) → (stage ≡ Begun → ⊥) → (o : Option TaskShape) (t : TaskShape) → option_map (λ (t : TaskShape). record t { stage = stage }) o ≡ Some t
+    → t.stage ≡ Begun → ⊥
 staged_begun stage ne None t e begun = absurd cc
 staged_begun stage ne (Some k) t e begun = ne (ap (λ (z : TaskShape). z.stage) (same_Some (record k { stage = stage }) t e) ∙ begun)
 
@@ -41,7 +42,8 @@ named_begun n e = cc
 module _ (start : Image) (lines : List Note) where
   -- Lines of a running command.
 
-  own_line : (h : ℕ) (now : Possible) (y : Note) → giver y ≡ Some h → untold_note y ≡ y → IsRealizedAt start lines h now → MayStand (length start) (shapes_in now) y → Fits (past_in start now) y
+  own_line : (h : ℕ) (now : Possible) (y : Note) → giver y ≡ Some h → untold_note y ≡ y → IsRealizedAt start lines h now → MayStand (length start) (shapes_in now) y
+      → Fits (past_in start now) y
       → IsRealized start (lines ++ y ∷ []) (after_line start now y)
   own_line h now (Mark k) is told real may fits =
       let same : h ≡ k = same_Some h k (sym is) in
@@ -76,7 +78,8 @@ module _ (start : Image) (lines : List Note) where
   -- Lines that speak of faces.
 
   module _ (x : Possible) (real : IsRealized start lines x) where
-    stands_chosen : (old : List Progress) → Pairs Chosen x.hosts old → (y : Note) → is_own y ≡ false → MayStand (length start) (shapes_in x) y → MayStand (length start) (shapes_in (with_hosts x old)) y
+    stands_chosen : (old : List Progress) → Pairs Chosen x.hosts old → (y : Note) → is_own y ≡ false → MayStand (length start) (shapes_in x) y
+        → MayStand (length start) (shapes_in (with_hosts x old)) y
     stands_chosen old pairs y plain is = stands_seen (length start) (shapes_in x) (shapes_in (with_hosts x old)) y (sym (faces_chosen x.hosts old pairs)) plain is
 
     -- hosts stay as they are
@@ -86,7 +89,8 @@ module _ (start : Image) (lines : List Note) where
         subst (ComesTo start (lines ++ y ∷ [])) (is hosts) (line_more start lines (with_hosts x hosts) y (real hosts pairs) told (stands_chosen hosts pairs y plain may) (fits (past_in start (with_hosts x hosts))))
 
     -- a host's command ends, or what it keeps
-    ended_host : (h : ℕ) (y : Note) (f : Progress → Progress) → untold_note y ≡ y → ((old : List Progress) → Pairs Chosen x.hosts old → MayStand (length start) (shapes_in (with_hosts x old)) y)
+    ended_host : (h : ℕ) (y : Note) (f : Progress → Progress) → untold_note y ≡ y
+        → ((old : List Progress) → Pairs Chosen x.hosts old → MayStand (length start) (shapes_in (with_hosts x old)) y)
         → ((old : List Progress) → Pairs Chosen x.hosts old → Fits (past_in start (with_hosts x old)) y)
         → ((old : List Progress) → after start (with_hosts x old) y ≡ record { state = x.state; hosts = changed_at h f old })
         → ((p : Progress) → slice_get x.hosts h ≡ Some p → IsBegun (f p) → ⊥) → ((p : Progress) → slice_get x.hosts h ≡ Some p → IsBegun p → f (at_mark p) ≡ f p)
@@ -105,14 +109,16 @@ module _ (start : Image) (lines : List Note) where
     host_of : (h : ℕ) (P : Face → Type 0) → OfFace (slice_get (faces (shapes_in x)) h) P → (p : Progress) × (slice_get x.hosts h ≡ Some p) × P (face p.shape)
     host_of h P is = by (slice_get x.hosts h) refl (subst (λ (o : Option Face). OfFace o P) (slice_get-map face (shapes_in x) h ∙ ap (option_map face) (slice_get-map shape_in x.hosts h)) is)
       where
-        by : (o : Option Progress) → slice_get x.hosts h ≡ o → OfFace (option_map face (option_map shape_in o)) P → (p : Progress) × (slice_get x.hosts h ≡ Some p) × P (face p.shape)
+        by : (o : Option Progress) → slice_get x.hosts h ≡ o → OfFace (option_map face (option_map shape_in o)) P
+            → (p : Progress) × (slice_get x.hosts h ≡ Some p) × P (face p.shape)
         by None e is = absurd is
         by (Some p) e is = (p, e, is)
 
     idle_begun : (p : Progress) → is_some p.shape.task ≡ false → IsBegun p → ⊥
     idle_begun p e begun = let some : is_some p.shape.task ≡ true = ap is_some begun.1 in cc
 
-    started : (h : ℕ) (cmd : Cmd) → untold_note (Start h cmd) ≡ Start h cmd → MayStand (length start) (shapes_in x) (Start h cmd) → IsRealized start (lines ++ Start h cmd ∷ []) (after_line start x (Start h cmd))
+    started : (h : ℕ) (cmd : Cmd) → untold_note (Start h cmd) ≡ Start h cmd → MayStand (length start) (shapes_in x) (Start h cmd)
+        → IsRealized start (lines ++ Start h cmd ∷ []) (after_line start x (Start h cmd))
     started h cmd told may hosts pairs = by begins
       where
         begin : Progress → Progress
@@ -159,7 +165,8 @@ module _ (start : Image) (lines : List Note) where
         runs_still p q t e (no_mark_came begun is) = (t, ap (λ (z : Progress). z.shape.task) is ∙ e)
         runs_still p q t e (mark_came begun is) = (record t { stage = Marked }, ap (λ (z : Progress). z.shape.task) is ∙ ap (option_map (λ (t : TaskShape). record t { stage = Marked })) e)
 
-    media_fits : (h line : ℕ) → MayStand (length start) (shapes_in x) (Answered h (MediaFault line)) → (old : List Progress) → Pairs Chosen x.hosts old → Fits (past_in start (with_hosts x old)) (Answered h (MediaFault line))
+    media_fits : (h line : ℕ) → MayStand (length start) (shapes_in x) (Answered h (MediaFault line)) → (old : List Progress) → Pairs Chosen x.hosts old
+        → Fits (past_in start (with_hosts x old)) (Answered h (MediaFault line))
     media_fits h line may old pairs =
         let r = running_at x h (λ me t. TaskNote h me t (Answered h (MediaFault line))) may.0 in
         let q = pairs_at Chosen x.hosts old h r.host pairs r.is in
@@ -210,7 +217,8 @@ append_one [] y lines = refl
 append_one (first ∷ before) y lines = ap (λ (l : List Note). first ∷ l) (append_one before y lines)
 
 -- lines that lead on
-pub all_real : (start : Image) (before : List Note) (x : Possible) → IsRealized start before x → (lines : List Note) → untold_notes lines ≡ lines → (z : Possible) → LeadsTo start x lines z → IsRealized start (before ++ lines) z
+pub all_real : (start : Image) (before : List Note) (x : Possible) → IsRealized start before x → (lines : List Note) → untold_notes lines ≡ lines → (z : Possible)
+    → LeadsTo start x lines z → IsRealized start (before ++ lines) z
 all_real start before x real [] told z leads =
     subst (λ (l : List Note). IsRealized start l z) (sym (Rattle.std.proofs.lemmas.List.append-nil before)) (subst (IsRealized start before) (sym leads) real)
 all_real start before x real (y ∷ lines) told z leads =

@@ -96,7 +96,8 @@ module _ (start : Image) (lines : List Note) (h : ℕ) (x : Possible) (real : Is
   real_reaches now (wrote is) = real_wrote now is
 
 -- a host that is as it is may be chosen so
-real_any : (start : Image) (lines : List Note) (h : ℕ) (x : Possible) → ((p : Progress) → slice_get x.hosts h ≡ Some p → IsBegun p → ⊥) → IsRealizedAt start lines h x → IsRealized start lines x
+real_any : (start : Image) (lines : List Note) (h : ℕ) (x : Possible) → ((p : Progress) → slice_get x.hosts h ≡ Some p → IsBegun p → ⊥) → IsRealizedAt start lines h x
+    → IsRealized start lines x
 real_any start lines h x none real hosts pairs =
     real hosts
     (subst (λ (l : List Progress). Rattle.fam_judge.proofs.Choices.ButOne h l hosts) (changed_same h (λ p. p) x.hosts (λ p is. refl))

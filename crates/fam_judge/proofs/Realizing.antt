@@ -32,7 +32,8 @@ pub record ComesTo (start : Image) (lines : List Note) (c : Possible) : Type 0 w
   pub is : state_of start journal ≡ c
 
 -- notes more fit
-fitting_more : (start : Image) (c : Possible) (notes : List Note) (y : Note) → AreFitting start c notes → MayStand (length start) (shapes_in (behind start c notes)) y → Fits (past_in start (behind start c notes)) y
+fitting_more : (start : Image) (c : Possible) (notes : List Note) (y : Note) → AreFitting start c notes → MayStand (length start) (shapes_in (behind start c notes)) y
+    → Fits (past_in start (behind start c notes)) y
     → AreFitting start c (notes ++ y ∷ [])
 fitting_more start c [] y fitting may fits = (may, fits, tt)
 fitting_more start c (first ∷ notes) y fitting may fits = (fitting.0, fitting.1, fitting_more start (after start c first) notes y fitting.2 may fits)
@@ -41,7 +42,8 @@ untold_more : (notes : List Note) (y : Note) → untold_notes notes ≡ notes �
 untold_more notes y all one = Rattle.std.proofs.lemmas.List.map-append untold_note notes (y ∷ []) ∙ ap₂ (λ (a : List Note) (b : Note). a ++ b ∷ []) all one
 
 -- a note that the lines leave out
-pub hidden_more : (start : Image) (lines : List Note) (c : Possible) (y : Note) → ComesTo start lines c → IsTrue (is_inner y) → untold_note y ≡ y → MayStand (length start) (shapes_in c) y → Fits (past_in start c) y
+pub hidden_more : (start : Image) (lines : List Note) (c : Possible) (y : Note) → ComesTo start lines c → IsTrue (is_inner y) → untold_note y ≡ y
+    → MayStand (length start) (shapes_in c) y → Fits (past_in start c) y
     → ComesTo start lines (after start c y)
 hidden_more start lines c y come inner told may fits = record {
   journal = come.journal ++ y ∷ [];
@@ -53,7 +55,8 @@ hidden_more start lines c y come inner told may fits = record {
 }
 
 -- a note that is a line more
-pub line_more : (start : Image) (lines : List Note) (c : Possible) (y : Note) → ComesTo start lines c → untold_note y ≡ y → MayStand (length start) (shapes_in c) y → Fits (past_in start c) y
+pub line_more : (start : Image) (lines : List Note) (c : Possible) (y : Note) → ComesTo start lines c → untold_note y ≡ y → MayStand (length start) (shapes_in c) y
+    → Fits (past_in start c) y
     → ComesTo start (lines ++ y ∷ []) (after start c y)
 line_more start lines c y come told may fits = record {
   journal = come.journal ++ y ∷ [];
@@ -79,7 +82,8 @@ abbrev pub IsRealizedAt : Image → List Note → ℕ → Possible → Type 0
 IsRealizedAt start lines h x = (hosts : List Progress) → ButOne h x.hosts hosts → ComesTo start lines (with_hosts x hosts)
 
 -- a host that runs at this stage
-pub stage_at : (x : Possible) (h : ℕ) (P : CommandStage → Type 0) → StageIs P h x → (p : Progress) → slice_get x.hosts h ≡ Some p → (t : TaskShape) × (p.shape.task ≡ Some t) × P t.stage
+pub stage_at : (x : Possible) (h : ℕ) (P : CommandStage → Type 0) → StageIs P h x → (p : Progress) → slice_get x.hosts h ≡ Some p
+    → (t : TaskShape) × (p.shape.task ≡ Some t) × P t.stage
 stage_at x h P is p at =
     let r = running_at x h (λ me t. P t.stage) is in
     let one : r.host ≡ p = same_Some r.host p (sym r.is ∙ at) in
@@ -116,7 +120,8 @@ module _ (start : Image) (lines : List Note) where
     own_back : (hosts : List Progress) → ButOne h (progress_after (settled_length m.state) m.hosts y) hosts → Back h (λ p. p) g m.hosts hosts
     own_back hosts but = but_back h g (λ p. p) g m.hosts hosts (λ p is. refl) (subst (λ (l : List Progress). ButOne h l hosts) (prog m.hosts) but)
 
-    own_is : (hosts : List Progress) (back : Back h (λ p. p) g m.hosts hosts) → slice_get back.old h ≡ slice_get m.hosts h → after start (with_hosts m back.old) y ≡ with_hosts (after start m y) hosts
+    own_is : (hosts : List Progress) (back : Back h (λ p. p) g m.hosts hosts) → slice_get back.old h ≡ slice_get m.hosts h
+        → after start (with_hosts m back.old) y ≡ with_hosts (after start m y) hosts
     own_is hosts back here =
         ap₂ (λ (s : State) (l : List Progress). let x : Possible = record { state = s; hosts = l } in x) (state back.old here) (prog back.old ∙ back.is)
 
@@ -139,27 +144,32 @@ module _ (start : Image) (lines : List Note) where
 
   -- Where hosts are the same at one place.
 
-  pub runs_here : (h : ℕ) (m : Possible) (old : List Progress) → slice_get old h ≡ slice_get m.hosts h → (P : List ℕ → TaskShape → Type 0) → OfRunning (slice_get (shapes_in m) h) P
+  pub runs_here : (h : ℕ) (m : Possible) (old : List Progress) → slice_get old h ≡ slice_get m.hosts h → (P : List ℕ → TaskShape → Type 0)
+      → OfRunning (slice_get (shapes_in m) h) P
       → OfRunning (slice_get (shapes_in (with_hosts m old)) h) P
   runs_here h m old same P is =
       let r = running_at m h P is in runs_at (with_hosts m old) h P r.host r.task (same ∙ r.is) r.runs r.holds
 
-  pub told_here : (h : ℕ) (m : Possible) (old : List Progress) → slice_get old h ≡ slice_get m.hosts h → slice_get (past_in start (with_hosts m old)).hosts h ≡ slice_get (past_in start m).hosts h
+  pub told_here : (h : ℕ) (m : Possible) (old : List Progress) → slice_get old h ≡ slice_get m.hosts h
+      → slice_get (past_in start (with_hosts m old)).hosts h ≡ slice_get (past_in start m).hosts h
   told_here h m old same = slice_get-map told_in old h ∙ ap (option_map told_in) same ∙ sym (slice_get-map told_in m.hosts h)
 
-  pub host_here : (h : ℕ) (m : Possible) (old : List Progress) → slice_get old h ≡ slice_get m.hosts h → (P : HostPast → Type 0) → OfHost (slice_get (past_in start m).hosts h) P
+  pub host_here : (h : ℕ) (m : Possible) (old : List Progress) → slice_get old h ≡ slice_get m.hosts h → (P : HostPast → Type 0)
+      → OfHost (slice_get (past_in start m).hosts h) P
       → OfHost (slice_get (past_in start (with_hosts m old)).hosts h) P
   host_here h m old same P is = subst (λ (o : Option HostPast). OfHost o P) (sym (told_here h m old same)) is
 
   -- a count that is found
-  pub real_found : (h n : ℕ) (m : Possible) → IsRealizedAt start lines h m → OfRunning (slice_get (shapes_in m) h) (λ me t. TaskNote h me t (Found h n)) → FoundAllowed n m.state
+  pub real_found : (h n : ℕ) (m : Possible) → IsRealizedAt start lines h m → OfRunning (slice_get (shapes_in m) h) (λ me t. TaskNote h me t (Found h n))
+      → FoundAllowed n m.state
       → IsRealizedAt start lines h (after start m (Found h n))
   real_found h n m real may found =
       real_hidden h m (Found h n) (λ p. record p { shape = with_stage (Met n) p.shape }) refl (λ old. refl) (λ old same. refl)
       (λ old same. runs_here h m old same (λ me t. TaskNote h me t (Found h n)) may) (λ old same. found) refl real
 
   -- an entry that is named
-  pub real_writes : (h seq : ℕ) (e : Entry) (m : Possible) → IsRealizedAt start lines h m → OfRunning (slice_get (shapes_in m) h) (λ me t. TaskNote h me t (Writes h seq e)) → Fits (past_in start m) (Writes h seq e)
+  pub real_writes : (h seq : ℕ) (e : Entry) (m : Possible) → IsRealizedAt start lines h m → OfRunning (slice_get (shapes_in m) h) (λ me t. TaskNote h me t (Writes h seq e))
+      → Fits (past_in start m) (Writes h seq e)
       → IsRealizedAt start lines h (after start m (Writes h seq e))
   real_writes h seq e m real may fits =
       real_hidden h m (Writes h seq e) _ refl (λ old. refl)

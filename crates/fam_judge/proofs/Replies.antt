@@ -35,19 +35,22 @@ IsMasters (Ok e) = ⊤
 IsMasters (Err (cause.NotMaster me master)) = ⊥
 IsMasters (Err why) = ⊤
 
-stopped : (p : Params) (me : List ℕ) (w : Wish) (rest decision : Result Entry Cause) → EarlyCases p me w.path → stop (early_refusal p me w.path) rest ≡ decision → IsMasters decision → me ≡ p.master
+stopped : (p : Params) (me : List ℕ) (w : Wish) (rest decision : Result Entry Cause) → EarlyCases p me w.path → stop (early_refusal p me w.path) rest ≡ decision
+    → IsMasters decision → me ≡ p.master
 stopped p me w rest decision (may_ask same fits none) e is = same
 stopped p me w rest decision (another other refused) e is =
     absurd (subst IsMasters (sym (sym (ap (λ (o : Option Cause). stop o rest) refused) ∙ e)) is)
 stopped p me w rest decision (too_long first same long refused) e is = same
 
-wished : (p : Params) (me : List ℕ) (list : List Entry) (o : Option Wish) (decision : Result Entry Cause) → option_map (decide_wish p me list) o ≡ Some decision → IsMasters decision → me ≡ p.master
+wished : (p : Params) (me : List ℕ) (list : List Entry) (o : Option Wish) (decision : Result Entry Cause) → option_map (decide_wish p me list) o ≡ Some decision
+    → IsMasters decision → me ≡ p.master
 unfolding decide_wish
 wished p me list None decision e is = absurd cc
 wished p me list (Some w) decision e is = stopped p me w _ decision (early_cases p me w.path) (same_Some _ decision e) is
 
 -- who is decided on is the master
-pub decided_master : (p : Params) (me : List ℕ) (list : List Entry) (cmd : Cmd) (decision : Result Entry Cause) → decide p me list cmd ≡ Some decision → IsMasters decision → me ≡ p.master
+pub decided_master : (p : Params) (me : List ℕ) (list : List Entry) (cmd : Cmd) (decision : Result Entry Cause) → decide p me list cmd ≡ Some decision → IsMasters decision
+    → me ≡ p.master
 decided_master p me list cmd decision e is = wished p me list (wish_of cmd) decision e is
 
 -- Classes.
@@ -110,7 +113,8 @@ masters why is = tt
 
 -- Entries.
 
-asked_of : (host : HostPast) (m : ℕ) (all other : List File) (given : Reply) → take m other ≡ take m all → m ≤ length other → IsAskedOf host m all given → IsAskedOf host m other given
+asked_of : (host : HostPast) (m : ℕ) (all other : List File) (given : Reply) → take m other ≡ take m all → m ≤ length other → IsAskedOf host m all given
+    → IsAskedOf host m other given
 asked_of host m all other given same high is = record {
   bounds = record { floor = is.bounds.floor; marked = is.bounds.marked; low = is.bounds.low; high = high };
   cmd = is.cmd;
@@ -256,7 +260,8 @@ class_bound p history given host Faulty is m e = absurd cc
 -- Answers.
 
 -- so of an answer: it is allowed before another one where it is behind it
-pub answer_before : (answer : Answer) (host : HostPast) (o : Option ℕ) (s : State) → DeclineSize (declines answer) host.uuid (size_of s) → AnswerAllowed answer host (shows_count o s)
+pub answer_before : (answer : Answer) (host : HostPast) (o : Option ℕ) (s : State) → DeclineSize (declines answer) host.uuid (size_of s)
+    → AnswerAllowed answer host (shows_count o s)
     → AnswerAllowed answer host s
 answer_before (MediaFault line) host o s decline is = tt
 answer_before (Replied given) host o (Bad origin damage gate) decline is = subst (ReplyAllowed given host) (counts_bad o origin damage gate) is
@@ -312,6 +317,7 @@ behind_pends (Replied given) host f p history other is =
     from_class given host (waits p history f) (class_pends p history f given host (reply_class given) other (to_class given host (Sound p history None) is))
 
 -- and where nothing pends it shows no more than is settled
-pub answer_bound : (answer : Answer) (host : HostPast) (p : Params) (history : List File) → AnswerAllowed answer host (Sound p history None) → (m : ℕ) → effect answer ≡ Some m → m ≤ length history
+pub answer_bound : (answer : Answer) (host : HostPast) (p : Params) (history : List File) → AnswerAllowed answer host (Sound p history None) → (m : ℕ) → effect answer ≡ Some m
+    → m ≤ length history
 answer_bound (MediaFault line) host p history is m e = absurd cc
 answer_bound (Replied given) host p history is m e = class_bound p history given host (reply_class given) (to_class given host (Sound p history None) is) m e

@@ -78,10 +78,12 @@ module _ (S : Cmd → Type 0) (lines : ℕ) (files : Files) where
         (fit_both S hosts x.first x.rest (begun name what starts x.first x.mid x.begun)
         (each x.host x.mid.machines (shapes_behind hosts x.first) behind x.rest new.machines x.does))
 
-    completes : (h : ℕ) (m : Machines) (hosts : List HostShape) → AreShaped lines m hosts → (notes : List Note) (new : Machines) → Completes h m notes new → AreFit S hosts notes
+    completes : (h : ℕ) (m : Machines) (hosts : List HostShape) → AreShaped lines m hosts → (notes : List Note) (new : Machines) → Completes h m notes new
+        → AreFit S hosts notes
     completes h m hosts shaped notes new x = operates_fit S lines h x.count m hosts shaped notes new x.does
 
-    unfinished : (h : ℕ) (m : Machines) (hosts : List HostShape) → AreShaped lines m hosts → (notes : List Note) (new : Machines) → Unfinished h m notes new → AreFit S hosts notes
+    unfinished : (h : ℕ) (m : Machines) (hosts : List HostShape) → AreShaped lines m hosts → (notes : List Note) (new : Machines) → Unfinished h m notes new
+        → AreFit S hosts notes
     unfinished h m hosts shaped notes new x = operates_fit S lines h x.count m hosts shaped notes new x.does
 
     -- a call, which begins no command

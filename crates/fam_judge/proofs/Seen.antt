@@ -35,7 +35,8 @@ looked_runs : (o : Option HostShape) → runs_shape o ≡ runs_look (option_map 
 looked_runs None = refl
 looked_runs (Some host) = refl
 
-looked_place : (name : List ℕ) (i : ℕ) (hosts : List HostShape) → index_from i (has_name name) (map shown_shape hosts) ≡ index_from i (λ (l : Look). path_eq l.name name) (map look hosts)
+looked_place : (name : List ℕ) (i : ℕ) (hosts : List HostShape)
+    → index_from i (has_name name) (map shown_shape hosts) ≡ index_from i (λ (l : Look). path_eq l.name name) (map look hosts)
 looked_place name i [] = refl
 looked_place name i (x ∷ hosts) = ap (λ (o : Option ℕ). if path_eq x.name name then Some i else o) (looked_place name (i + 1) hosts)
 

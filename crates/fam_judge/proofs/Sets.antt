@@ -54,7 +54,8 @@ good_behind start c (y ∷ notes) good fitting =
     }) fitting.2
 
 -- notes that are left out, one behind another
-inner_all : (start : Image) (x c : Possible) (notes : List Note) → Over start x c → IsGood c → ShowsJournal [] notes → AreFitting start c notes → Over start x (behind start c notes)
+inner_all : (start : Image) (x c : Possible) (notes : List Note) → Over start x c → IsGood c → ShowsJournal [] notes → AreFitting start c notes
+    → Over start x (behind start c notes)
 inner_all start x c [] over good shows fitting = over
 inner_all start x c (y ∷ notes) over good shows fitting =
     inner_all start x (after start c y) notes (inner_over start x c good.apart over y shows.0 (length start) fitting.0 fitting.1)
@@ -72,7 +73,8 @@ untold_parts (y ∷ a) b told = let more = untold_parts a b (tails told) in (ap�
 
 -- Lines.
 
-leads_more : (start : Image) (x : Possible) (lines : List Note) (y : Note) (z mid : Possible) → LeadsTo start x lines mid → Leads start mid y z → LeadsTo start x (lines ++ y ∷ []) z
+leads_more : (start : Image) (x : Possible) (lines : List Note) (y : Note) (z mid : Possible) → LeadsTo start x lines mid → Leads start mid y z
+    → LeadsTo start x (lines ++ y ∷ []) z
 leads_more start x [] y z mid leads one = (z, subst (λ (w : Possible). Leads start w y z) leads one, refl)
 leads_more start x (line ∷ lines) y z mid leads one = (leads.0, leads.1, leads_more start leads.0 lines y z mid leads.2 one)
 
@@ -96,7 +98,8 @@ none_more (y ∷ lines) = ap (λ (l : List Note). y ∷ l) (none_more lines)
 head_told : (y : Note) (notes : List Note) → untold_note y ∷ untold_notes notes ≡ y ∷ notes → untold_note y ≡ y
 head_told y notes e = cc
 
-pub split_at : (lines : List Note) (y : Note) (journal : List Note) → ShowsJournal (lines ++ y ∷ []) journal → untold_note y ≡ y → untold_notes journal ≡ journal → LineAt lines y journal
+pub split_at : (lines : List Note) (y : Note) (journal : List Note) → ShowsJournal (lines ++ y ∷ []) journal → untold_note y ≡ y → untold_notes journal ≡ journal
+    → LineAt lines y journal
 split_at lines y journal shows told_y told = by (parts lines (y ∷ []) journal shows)
   where
     by_line : (part : Rattle.fam_judge.proofs.Showing.Parts lines (y ∷ []) journal) → Rattle.fam_judge.proofs.Showing.FirstLine y [] part.back → LineAt lines y journal
@@ -164,7 +167,8 @@ elsewhere_or k seq (Answered h answer) = by (cases_eq h k) (settled_by answer) r
     none_count : None ≡ Some (seq + 1) → ⊥
     none_count e = cc
 
-    both : h ≢ k → (Some_is : (settled_by answer ≡ Some (seq + 1)) ⊎ (settled_by answer ≢ Some (seq + 1))) → Elsewhere k seq (Answered h answer) ⊎ (Elsewhere k seq (Answered h answer) → ⊥)
+    both : h ≢ k → (Some_is : (settled_by answer ≡ Some (seq + 1)) ⊎ (settled_by answer ≢ Some (seq + 1)))
+        → Elsewhere k seq (Answered h answer) ⊎ (Elsewhere k seq (Answered h answer) → ⊥)
     both ne (inl e) = inr (λ pair. pair.1 e)
     both ne (inr other) = inl (ne, other)
 
@@ -302,7 +306,8 @@ pub record StandsLast (start : Image) (xs : List Possible) (y : Note) : Type 0 w
   pub may : MayStand (length start) (shapes_in covered) y
   pub fits : Fits (past_in start covered) y
 
-pub stands_last : (start : Image) (lines other : List Note) (n : Note) (xs : List Possible) → Judges start lines xs → untold_notes other ≡ lines → IsExplained start (other ++ n ∷ []) → StandsLast start xs (untold_note n)
+pub stands_last : (start : Image) (lines other : List Note) (n : Note) (xs : List Possible) → Judges start lines xs → untold_notes other ≡ lines
+    → IsExplained start (other ++ n ∷ []) → StandsLast start xs (untold_note n)
 stands_last start lines other n xs judges told is = by (split_at lines (untold_note n) (untold_notes j.0) shown (alike_untold (untold_note n) n (Rattle.fam_judge.proofs.Untelling.untold_alike n)) (untold_all_again j.0))
   where
     j : (journal : List Note) × ShowsJournal (other ++ n ∷ []) journal × Rattle.fam_judge.specs.Standing.AreStanding (length start) [] journal × Rattle.fam_judge.specs.Explained.AreAllowedForSome start [] journal

@@ -31,7 +31,8 @@ of_map None P Q next is = is
 of_map (Some x) P Q next is = next x refl is
 
 -- it holds of the host's shape, where it is of its UUID
-pub of_shape : (o : Option HostPast) (q : Option HostShape) (F : List ℕ → Type 0) → option_map (λ (x : HostPast). x.uuid) o ≡ option_map (λ (x : HostShape). x.uuid) q → OfHost o (λ x. F x.uuid)
+pub of_shape : (o : Option HostPast) (q : Option HostShape) (F : List ℕ → Type 0) → option_map (λ (x : HostPast). x.uuid) o ≡ option_map (λ (x : HostShape). x.uuid) q
+    → OfHost o (λ x. F x.uuid)
     → OfHostShape q (λ x. F x.uuid)
 of_shape None q F same is = absurd is
 of_shape (Some x) None F same is = absurd cc
@@ -61,7 +62,8 @@ met_alone me (Met m) p n met fits = λ e. let no : true ≡ false = fits.1 e in 
 met_alone me (Named seq) p n met fits = absurd met
 
 -- of a running command's answer that appends nothing
-pub decline_size : (me : List ℕ) (t : TaskShape) (s : Size) (answer : Answer) → TaskFits me (Some t) s → AnswerShape me t.cmd t.stage answer → DeclineSize (declines answer) me s
+pub decline_size : (me : List ℕ) (t : TaskShape) (s : Size) (answer : Answer) → TaskFits me (Some t) s → AnswerShape me t.cmd t.stage answer
+    → DeclineSize (declines answer) me s
 decline_size me t s (MediaFault line) fits shape = tt
 decline_size me t (Lost origin damage gate) (Replied (reply.NotAppended why)) fits shape = tt
 decline_size me t (Sized p n false) (Replied (reply.NotAppended why)) fits shape = tt
@@ -114,7 +116,8 @@ bound_size answer host (Sound p history (Some f)) is = tt
 -- What is allowed.
 
 -- an entry that may be named behind an answer may be named before it, where no more were found
-pub writes_before : (seq : ℕ) (e : Entry) (host : HostPast) (o : Option ℕ) (s : State) → MetSize seq (size_of s) → WritesAllowed seq e host (shows_count o s) → WritesAllowed seq e host s
+pub writes_before : (seq : ℕ) (e : Entry) (host : HostPast) (o : Option ℕ) (s : State) → MetSize seq (size_of s) → WritesAllowed seq e host (shows_count o s)
+    → WritesAllowed seq e host s
 writes_before seq e host o (Bad origin damage gate) met is = subst (WritesAllowed seq e host) (counts_bad o origin damage gate) is
 writes_before seq e host o (Sound p history None) met is = subst (WritesAllowed seq e host) (counts_none o p history) is
 writes_before seq e host o (Sound p history (Some f)) met is = by (goes p history f o)
@@ -124,7 +127,8 @@ writes_before seq e host o (Sound p history (Some f)) met is = by (goes p histor
         let count : seq ≡ length (history ++ f ∷ []) = (subst (WritesAllowed seq _ host) e is).0 in let long = joined_length p history f in absurd (omega (arith, met, count, long))
     by (stays none e) = subst (WritesAllowed seq _ host) e is
 
-pends_allowed : (answer : Answer) (f : File) (host : HostPast) (s : State) → OtherSize host.uuid (size_of s) → AnswerAllowed answer host s → AnswerAllowed answer host (pends f s)
+pends_allowed : (answer : Answer) (f : File) (host : HostPast) (s : State) → OtherSize host.uuid (size_of s) → AnswerAllowed answer host s
+    → AnswerAllowed answer host (pends f s)
 pends_allowed answer f host (Bad origin damage gate) fits is = absurd fits
 pends_allowed answer f host (Sound p history None) fits is = behind_pends answer host f p history fits.1 is
 pends_allowed answer f host (Sound p history (Some g)) fits is = absurd (let no : true ≡ false = fits.0 in cc)
@@ -199,7 +203,8 @@ module _ (h : ℕ) (answer : Answer) (me : List ℕ) (past : Past) where
   }
 
   -- the answer behind the note leaves what the note behind the answer does, but that a mark between them is of fewer entries
-  pub order_easier : (y : Note) → Apart h (length past.hosts) (told_note y) → NoteFits me (effect answer) y (size_of past.state) → BoundSize (effect answer) (size_of past.state)
+  pub order_easier : (y : Note) → Apart h (length past.hosts) (told_note y) → NoteFits me (effect answer) y (size_of past.state)
+      → BoundSize (effect answer) (size_of past.state)
       → IsEasier (past_after (past_after past (Answered h answer)) y) (past_after (past_after past y) (Answered h answer))
   order_easier (Made k p) way fits bound = absurd way
   order_easier (Cut k n) way fits bound = absurd way

@@ -100,7 +100,8 @@ size_if : (b : Bool) (s t : State) → size_of (if b then s else t) ≡ (if b th
 size_if true s t = refl
 size_if false s t = refl
 
-joined_size : (p : Params) (history : List File) (pending : Option File) → size_of (Sound p (with_pending history pending) None) ≡ Sized p (length history + one_if (is_some pending)) false
+joined_size : (p : Params) (history : List File) (pending : Option File)
+    → size_of (Sound p (with_pending history pending) None) ≡ Sized p (length history + one_if (is_some pending)) false
 joined_size p history None = ap (λ (n : ℕ). Sized p n false) (let same : length history ≡ length history + 0 = omega arith in same)
 joined_size p history (Some f) = ap (λ (n : ℕ). Sized p n false) (length-append history (f ∷ []))
 

@@ -79,7 +79,8 @@ start_idle lines hosts h cmd s =
     (or_first _ _ (or_next (when (nat_lt (length (shown_shapes lines hosts).memory) least_lines) (why.ImageSmall (length (shown_shapes lines hosts).memory))) _ s.may.free))
 
 -- it may begin wherever it stands so, under its name
-start_from : (lines : ℕ) (a b : List HostShape) (h : ℕ) (cmd : Cmd) → slice_get a h ≡ slice_get b h → ((name : List ℕ) → number_named name a ≡ Some h → number_named name b ≡ Some h)
+start_from : (lines : ℕ) (a b : List HostShape) (h : ℕ) (cmd : Cmd) → slice_get a h ≡ slice_get b h
+    → ((name : List ℕ) → number_named name a ≡ Some h → number_named name b ≡ Some h)
     → Started lines a h cmd → Started lines b h cmd
 start_from lines a b h cmd same numbers s =
     let m = s.may in
@@ -134,7 +135,8 @@ module _ (start : Image) (h : ℕ) (cmd : Cmd) where
           apart : Apart h (length (past_of start front).hosts) (told_note first)
           apart = subst (λ (n : ℕ). Apart h n (told_note first)) (sym count) (subst (Apart h (length (shapes_of before))) firsts way)
 
-          by : (n : Note) → told_note (Start h cmd) ≡ told_note n → past_after (past_after (past_of start front) first) n ≡ past_after (past_after (past_of start front) n) first
+          by : (n : Note) → told_note (Start h cmd) ≡ told_note n
+              → past_after (past_after (past_of start front) first) n ≡ past_after (past_after (past_of start front) n) first
           by (Start k c) e =
               let host : h ≡ k = cc in
               subst (λ (m : ℕ). past_after (past_after (past_of start front) first) (Start m c) ≡ past_after (past_after (past_of start front) (Start m c)) first) host

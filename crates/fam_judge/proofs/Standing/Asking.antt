@@ -138,7 +138,8 @@ module _ (lines : ℕ) (hosts : List HostShape) where
   on_passes name k P notes free number e is = free_shape name (on_host (number_of name m) P) notes free (ap (λ (o : Option ℕ). on_host o P) number ∙ e) is
 
   -- the host of a name acts
-  pub at_shape : (name : List ℕ) (k : ℕ) (host : HostShape) (R : ℕ → HostShape → Type 0) → number_of name m ≡ Some k → slice_get hosts k ≡ Some host → R k host → AtShape (number_of name m) hosts R
+  pub at_shape : (name : List ℕ) (k : ℕ) (host : HostShape) (R : ℕ → HostShape → Type 0) → number_of name m ≡ Some k → slice_get hosts k ≡ Some host → R k host
+      → AtShape (number_of name m) hosts R
   at_shape name k host R number is acts =
       subst (λ (o : Option ℕ). AtShape o hosts R) (sym number) (subst (λ (o : Option HostShape). OfHostShape o (R k)) (sym is) acts)
 

@@ -125,7 +125,8 @@ module _ (lines : ℕ) where
   distinct_after hosts (Refused name cause) is formed = is
 
   -- behind some notes
-  pub distinct_behind : (journal : List Note) (hosts : List HostShape) → AreDistinct (faces hosts) → AreFormed lines hosts journal → AreDistinct (faces (shapes_behind hosts journal))
+  pub distinct_behind : (journal : List Note) (hosts : List HostShape) → AreDistinct (faces hosts) → AreFormed lines hosts journal
+      → AreDistinct (faces (shapes_behind hosts journal))
   distinct_behind [] hosts is formed = is
   distinct_behind (y ∷ journal) hosts is formed = distinct_behind journal (shapes_after hosts y) (distinct_after hosts y is formed.0) formed.1
 

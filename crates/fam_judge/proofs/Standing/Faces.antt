@@ -145,7 +145,8 @@ named_of name all P holds = by (number_in name all) refl holds
     by (Some k) e holds = let own = face_of (slice_get all k) (P k) holds in record { number = k; host = own.host; named = e; is = own.is; holds = own.holds }
 
 -- and the other way about
-pub at_named : (name : List ℕ) (all : List Face) (P : ℕ → Face → Type 0) (k : ℕ) (f : Face) → number_in name all ≡ Some k → slice_get all k ≡ Some f → P k f → AtNamed name all P
+pub at_named : (name : List ℕ) (all : List Face) (P : ℕ → Face → Type 0) (k : ℕ) (f : Face) → number_in name all ≡ Some k → slice_get all k ≡ Some f → P k f
+    → AtNamed name all P
 at_named name all P k f e is holds = subst (λ (o : Option ℕ). AtFace o all P) (sym e) (of_face (slice_get all k) (P k) f is holds)
 
 -- Hosts as refusals see them.

@@ -104,7 +104,8 @@ module _ (lines : ℕ) (hosts : List HostShape) where
         )
         by (Some n) = (free.may, of_face (slice_get (faces hosts) k) _ (face host) seen tt)
 
-    mkfs_stands : (name : List ℕ) (request : MkfsRequest) → IsValidEvent (event.Mkfs name request) → EventShape (event.Mkfs name request) lines hosts (y ∷ []) → MayStand lines hosts y
+    mkfs_stands : (name : List ℕ) (request : MkfsRequest) → IsValidEvent (event.Mkfs name request) → EventShape (event.Mkfs name request) lines hosts (y ∷ [])
+        → MayStand lines hosts y
     mkfs_stands name request valid is =
         by_refusal name (refusal_told (call.Makes name request) lines hosts) (FreeShape (call.Makes name request) lines hosts (y ∷ []))
         (on_row lines hosts name (λ k. makes_told request.unit request.log (m lines hosts)) (λ k at. makes_row lines hosts name k at request.unit request.log)) making is

@@ -55,13 +55,15 @@ passes unit log have geometry fits = by (numbers unit log have)
 
 module _ (lines : ℕ) (hosts : List HostShape) where
   -- nothing is refused that notes tell
-  pub makes_passes : (unit log : ℕ) → early_refusal unit log (line_bytes * lines) ≡ None → engaged_in (faces hosts) ≡ None → makes_told unit log (shown_shapes lines hosts) ≡ None
+  pub makes_passes : (unit log : ℕ) → early_refusal unit log (line_bytes * lines) ≡ None → engaged_in (faces hosts) ≡ None
+      → makes_told unit log (shown_shapes lines hosts) ≡ None
   makes_passes unit log early idle =
       makes_is lines hosts unit log ∙ ap₂ (λ (o : Option EarlyRefusal) (q : Option ℕ). or_else (option_map cause_of o) (busy_refusal q)) early idle
 
   module _ (distinct : AreDistinct (faces hosts)) where
     -- a mkfs that goes on
-    making : (name : List ℕ) (h : ℕ) (host : HostShape) (request : MkfsRequest) → IsSoundRequest request → number_of name (shown_shapes lines hosts) ≡ Some h → slice_get hosts h ≡ Some host
+    making : (name : List ℕ) (h : ℕ) (host : HostShape) (request : MkfsRequest) → IsSoundRequest request → number_of name (shown_shapes lines hosts) ≡ Some h
+        → slice_get hosts h ≡ Some host
         → makes_told request.unit request.log (shown_shapes lines hosts) ≡ None → (note : Note) → note ∷ [] ≡ made_note request.halt h (asked request host.uuid lines) ∷ []
         → EventShape (event.Mkfs name request) lines hosts (note ∷ [])
     making name h host request sound number is free note e =

@@ -63,7 +63,8 @@ module _ (lines : ℕ) (hosts : List HostShape) (name : List ℕ) where
   test uuid f = path_eq f.name name || path_eq f.uuid uuid
 
   -- no host before h has the name
-  before_h : (h : ℕ) (o : Option ℕ) → number_in name (faces hosts) ≡ o → IsNotBefore h o → (l : ℕ) (f : Face) → l < h → slice_get (faces hosts) l ≡ Some f → path_eq f.name name ≡ false
+  before_h : (h : ℕ) (o : Option ℕ) → number_in name (faces hosts) ≡ o → IsNotBefore h o → (l : ℕ) (f : Face) → l < h → slice_get (faces hosts) l ≡ Some f
+      → path_eq f.name name ≡ false
   before_h h None e is l f low at = none_passes (λ (g : Face). path_eq g.name name) (faces hosts) 0 e l f at
   before_h h (Some k) e is l f low at = (index_found (λ (g : Face). path_eq g.name name) (faces hosts) k e).first l f (omega (arith, is, low)) at
 
@@ -146,7 +147,8 @@ module _ (lines : ℕ) (hosts : List HostShape) (name : List ℕ) where
         refused_by lines hosts name w (event.Mkfs name (request_of least_unit least_unit None)) (request_sound least_unit least_unit None)
         (on_passes lines hosts name at.number (λ k. makes_told least_unit least_unit (shown_shapes lines hosts)) (Refused name w ∷ []) _ number e free)
 
-    dirty_other : (d : ℕ) → makes_told least_unit least_unit (shown_shapes lines hosts) ≡ None → d < length (faces hosts) → d ≢ at.number → Formed (why.Dirty (record { 0 = d }))
+    dirty_other : (d : ℕ) → makes_told least_unit least_unit (shown_shapes lines hosts) ≡ None → d < length (faces hosts) → d ≢ at.number
+        → Formed (why.Dirty (record { 0 = d }))
     dirty_other d e low other =
         mkfs_free (why.Dirty (record { 0 = d })) e
         (inr (record { maker = at.number; number = number; dirty = d; declared = subst (λ (n : ℕ). d < n) (length-map hosts _) low; other = other; notes_are = refl }))
