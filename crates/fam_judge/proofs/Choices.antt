@@ -4,7 +4,7 @@ use Rattle.std.proofs.Common.{◌≡◌, ◌⊎◌, inl, inr, ℕ, Bool, List, [
 use Rattle.std.specs.Prelude.{⊤, is_some, option_map, slice_get}
 use Rattle.std.proofs.lemmas.Option.{same_Some}
 use Rattle.fam_journal.specs.Members.{changed_at}
-use Rattle.fam_journal.specs.Shapes.{Begun, CommandStage, Marked, Pairs, TaskShape, with_stage}
+use Rattle.fam_journal.specs.Shapes.{Begun, CommandStage, Marked, Pairs, TaskShape, with_stage, Met, Named}
 use Rattle.fam_judge.specs.Possible.{Progress}
 use Rattle.fam_judge.specs.Standing.{Face, face, faces}
 use Rattle.fam_judge.proofs.Folding.{shape_in}
@@ -106,8 +106,8 @@ begun_or p = by p.shape.task refl
     stage_or : (s : CommandStage) → (s ≡ Begun) ⊎ (s ≡ Begun → ⊥)
     stage_or Begun = inl refl
     stage_or Marked = inr (λ e. cc)
-    stage_or (Rattle.fam_journal.specs.Shapes.Met n) = inr (λ e. cc)
-    stage_or (Rattle.fam_journal.specs.Shapes.Named n) = inr (λ e. cc)
+    stage_or (Met n) = inr (λ e. cc)
+    stage_or (Named n) = inr (λ e. cc)
 
     of : (t : TaskShape) → p.shape.task ≡ Some t → (t.stage ≡ Begun) ⊎ (t.stage ≡ Begun → ⊥) → IsBegun p ⊎ (IsBegun p → ⊥)
     of t e (inl begun) = inl (t, e, begun)

@@ -2,7 +2,7 @@
 use Rattle.std.proofs.Common.{◌≡◌, inl, inr, ℕ, List, [], ◌∷◌, length, map, refl, ap, ap₂, sym, ◌∙◌, subst}
 use Rattle.std.specs.Prelude.{IsTrue}
 use Rattle.fam_base.specs.Image.{Image}
-use Rattle.fam_journal.specs.Notes.{Note}
+use Rattle.fam_journal.specs.Notes.{Note, Start}
 use Rattle.fam_journal.specs.Shapes.{Pairs}
 use Rattle.fam_judge.specs.Covering.{AreFitting, Direct, HostOver, Over, direct, late}
 use Rattle.fam_judge.specs.Fitting.{Fits}
@@ -18,9 +18,10 @@ use Rattle.fam_judge.proofs.OverLate.{inner_over}
 use Rattle.fam_judge.proofs.OverLines.{line_follows}
 use Rattle.fam_judge.proofs.Sizes.{kept_uuids}
 use Rattle.fam_judge.proofs.Untelling.{alike_untold}
+use Rattle.fam_journal.specs.Past.{State}
 
 -- UUIDs that differ in the one state differ in the other.
-uuids_over : (s : Rattle.fam_journal.specs.Past.State) (xs cs : List Progress) → Pairs (HostOver s) xs cs → map uuid_in xs ≡ map uuid_in cs
+uuids_over : (s : State) (xs cs : List Progress) → Pairs (HostOver s) xs cs → map uuid_in xs ≡ map uuid_in cs
 uuids_over s [] [] pairs = refl
 uuids_over s [] (q ∷ cs) pairs = absurd pairs
 uuids_over s (p ∷ xs) [] pairs = absurd pairs
@@ -59,7 +60,7 @@ pub record Reached (start : Image) (x c : Possible) (lines : List Note) : Type 0
   pub leads : LeadsTo start x lines state
 
 inner_is : (y : Note) → IsTrue (is_inner y) → IsTrue (is_inner (untold_note y))
-inner_is (Rattle.fam_journal.specs.Notes.Start h cmd) inner = absurd cc
+inner_is (Start h cmd) inner = absurd cc
 inner_is y inner = inner
 
 -- by the notes of a journal, and the lines that show it

@@ -8,6 +8,7 @@ use Rattle.fam_journal.specs.Shapes.{HostShape, shapes_after, shapes_behind, sha
 use Rattle.fam_judge.specs.Covering.{behind, state_of}
 use Rattle.fam_judge.specs.Possible.{Possible, Progress, after, first_possible, past_in, progress_after, shapes_in}
 use Rattle.fam_judge.proofs.Members.{changed_same, map_changed}
+use Rattle.fam_journal.specs.Members.{changed_at}
 
 -- what is known of a host
 abbrev pub told_in : Progress → HostPast
@@ -18,7 +19,7 @@ abbrev pub shape_in : Progress → HostShape
 shape_in p = p.shape
 
 -- a change that isn't seen
-unseen : {A B : Type 0} (g : A → B) (h : ℕ) (f : A → A) → ((x : A) → g (f x) ≡ g x) → (xs : List A) → map g (Rattle.fam_journal.specs.Members.changed_at h f xs) ≡ map g xs
+unseen : {A B : Type 0} (g : A → B) (h : ℕ) (f : A → A) → ((x : A) → g (f x) ≡ g x) → (xs : List A) → map g (changed_at h f xs) ≡ map g xs
 unseen g h f same xs = map_changed g h f (λ y. y) same xs ∙ changed_same h (λ y. y) (map g xs) (λ y is. refl)
 
 -- the hosts, as the past has them

@@ -25,6 +25,7 @@ use Rattle.fam_judge.proofs.Showing.{same_shown}
 use Rattle.fam_judge.proofs.Standing.Alike.{stands_alike, stands_told}
 use Rattle.fam_judge.proofs.Standing.Journals.{behind_told, explained_stands, journal_formed, shows_alike}
 use Rattle.fam_judge.proofs.Untelling.{alike_notes_untold, alike_untold, untold_alike}
+use Rattle.fam_judge.proofs.Telling.{none_is_more, more_is_none}
 
 -- What isn't told of a note.
 
@@ -93,8 +94,8 @@ module _ (start : Image) where
   allowed_from : (before notes other rest : List Note) → AreAlikeNotes before other → AreAlikeNotes notes rest → untold_notes before ≡ before → untold_notes notes ≡ notes
       → AreSoundNotes other → AreSoundNotes rest → AreFitting start (state_of start before) notes → AreAllowedForSome start other rest
   allowed_from before [] other [] alike more told_before told sound sounds fitting = tt
-  allowed_from before [] other (z ∷ rest) alike more told_before told sound sounds fitting = absurd (Rattle.fam_judge.proofs.Telling.none_is_more (told_note z) (map told_note rest) more)
-  allowed_from before (y ∷ notes) other [] alike more told_before told sound sounds fitting = absurd (Rattle.fam_judge.proofs.Telling.more_is_none (told_note y) (map told_note notes) more)
+  allowed_from before [] other (z ∷ rest) alike more told_before told sound sounds fitting = absurd (none_is_more (told_note z) (map told_note rest) more)
+  allowed_from before (y ∷ notes) other [] alike more told_before told sound sounds fitting = absurd (more_is_none (told_note y) (map told_note notes) more)
   allowed_from before (y ∷ notes) other (z ∷ rest) alike more told_before told sound sounds fitting = (
     fits_explained start other z sound here,
     allowed_from (before ++ y ∷ []) notes (other ++ z ∷ []) rest alike_more rests told_more (tails told) (sound-append other (z ∷ []) sound (sounds.0, tt)) sounds.1

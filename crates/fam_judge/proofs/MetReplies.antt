@@ -16,15 +16,15 @@ use Rattle.fam_rules.specs.Asks.{File}
 use Rattle.fam_rules.specs.Decide.{Wish, wish_of}
 use Rattle.fam_rules.specs.Reply as reply
 use Rattle.fam_rules.specs.Reply.{Reply}
-use Rattle.fam_journal.specs.Legal.{CauseAllowed, DamageAllowed, DecideAllowed, FoundAllowed, IsDecided, master_of}
-use Rattle.fam_journal.specs.Past.{Bad, BadSlot, HostPast, Sound, State, finds, reply_count, reported_count}
-use Rattle.fam_journal.specs.Shapes.{Begun, CauseShape, CommandStage, CountShape, Marked, Met, Named, ReplyShape}
+use Rattle.fam_journal.specs.Legal.{CauseAllowed, DamageAllowed, DecideAllowed, FoundAllowed, IsDecided, master_of, FoundBad}
+use Rattle.fam_journal.specs.Past.{Bad, BadSlot, HostPast, Sound, State, finds, reply_count, reported_count, Damage}
+use Rattle.fam_journal.specs.Shapes.{Begun, CauseShape, CommandStage, CountShape, Marked, Met, Named, ReplyShape, HasMet}
 use Rattle.fam_judge.specs.Covering.{StateOver, dropped, joined, same}
 use Rattle.fam_judge.specs.Fitting.{ReplyFits}
 use Rattle.fam_judge.specs.Formed.{CausePlace, FaultPlace, FieldPlace, LogPlace, ReplyPlace, SlotPlace}
 use Rattle.fam_judge.specs.Possible.{NonePends}
 use Rattle.fam_judge.proofs.Over.{over_master, over_met, over_none}
-use Rattle.fam_judge.proofs.Replies.{IsDecline, decided_master}
+use Rattle.fam_judge.proofs.Replies.{IsDecline, decided_master, IsMasters}
 
 no_begun : (n : ℕ) → Met n ≡ Begun → ⊥
 no_begun n e = cc
@@ -104,7 +104,7 @@ counted_marked me cmd stage (reply.BadSlot seq reason) m is e = absurd cc
 counted_marked me cmd stage given m is e = is.1
 
 -- a refusal that is decided stands behind what was found
-pub decided_met : (me : List ℕ) (stage : CommandStage) (why : Cause) → IsDecline why → CauseShape me stage why → Rattle.fam_journal.specs.Shapes.HasMet stage
+pub decided_met : (me : List ℕ) (stage : CommandStage) (why : Cause) → IsDecline why → CauseShape me stage why → HasMet stage
 decided_met me stage (cause.NotMaster own master) is shape = absurd is
 decided_met me stage (cause.LongPath limit) is shape = absurd is
 decided_met me stage why is shape = shape
@@ -130,7 +130,7 @@ decided_by host why s p history pending none is master over =
       alone = λ alone. sym (over_none s (Sound p history pending) over (alone (over_master s (Sound p history pending) over ∙ ap Some (sym master))));
     }
 
-masters : (why : Cause) → IsDecline why → Rattle.fam_judge.proofs.Replies.IsMasters (Err why)
+masters : (why : Cause) → IsDecline why → IsMasters (Err why)
 masters (cause.NotMaster me master) is = absurd is
 masters (cause.LongPath limit) is = absurd is
 masters why is = tt
@@ -149,7 +149,7 @@ bad_target host i reason s t is (same e) = by s e (subst (DamageAllowed (BadSlot
     by (Sound p history pending) e is = absurd is
     by (Bad origin damage gate) e is = record {
       count = gate;
-      found = subst (λ (d : Rattle.fam_journal.specs.Past.Damage). Rattle.fam_journal.specs.Legal.FoundBad gate d gate) is refl;
+      found = subst (λ (d : Damage). FoundBad gate d gate) is refl;
       comes = sym e;
       alone = λ none. sym e;
     }

@@ -20,6 +20,8 @@ use Rattle.fam_judge.proofs.OverHosts.{Later, no_later}
 use Rattle.fam_judge.proofs.OverOwn.{Both, found_later, marked_begun, met_begun, named_begun, not_begun}
 use Rattle.fam_judge.proofs.Places.{changed_is, of_told, runs_at}
 use Rattle.fam_judge.proofs.Replies.{IsDecline}
+use Rattle.fam_commands.specs.Appends.{HasWish}
+use Rattle.fam_judge.proofs.Members.{changed_same}
 
 -- How far a command has come.
 
@@ -184,7 +186,7 @@ module _ (start : Image) (x c : Possible) (d : Direct x c) (h : ℕ) (given : Re
       (subst (λ (s : CommandStage). ReplyPlace both.other_task.cmd s given) is place) fits d.state
 
   -- it wants to append, since it found entries: what it is answered says so
-  met_wishes : (n : ℕ) → both.other_task.stage ≡ Met n → Rattle.fam_commands.specs.Appends.HasWish both.other_task.cmd → both.task.stage ≡ Begun ⊎ (both.task.stage ≡ Marked)
+  met_wishes : (n : ℕ) → both.other_task.stage ≡ Met n → HasWish both.other_task.cmd → both.task.stage ≡ Begun ⊎ (both.task.stage ≡ Marked)
       → Comes start x c h me (Replied given)
   met_wishes n is wish head =
       let t = target n is in
@@ -195,7 +197,7 @@ module _ (start : Image) (x c : Possible) (d : Direct x c) (h : ℕ) (given : Re
       from_met n now f like refl t.comes (found_later t.count x.state t.found) there (record both.task { stage = Met t.count })
       (ap (option_map (λ (k : TaskShape). record k { stage = Met t.count })) both.runs) refl t.count refl
       (meets (left_out_met t.count (runs_at x h (λ me t. IsHead t.stage) both.host both.task both.is both.runs (heads head))
-      (runs_at x h (λ me t. Rattle.fam_commands.specs.Appends.HasWish t.cmd) both.host both.task both.is both.runs (subst Rattle.fam_commands.specs.Appends.HasWish (sym both.cmd) wish)) t.found refl)) is
+      (runs_at x h (λ me t. HasWish t.cmd) both.host both.task both.is both.runs (subst HasWish (sym both.cmd) wish)) t.found refl)) is
     where
       heads : both.task.stage ≡ Begun ⊎ (both.task.stage ≡ Marked) → IsHead both.task.stage
       heads (inl e) = subst IsHead (sym e) tt
@@ -224,7 +226,7 @@ module _ (start : Image) (x c : Possible) (d : Direct x c) (h : ℕ) (given : Re
   }
     where
       unchanged : (h : ℕ) (xs : List Progress) → changed_at h (λ p. p) xs ≡ xs
-      unchanged h xs = Rattle.fam_judge.proofs.Members.changed_same h (λ p. p) xs (λ p is. refl)
+      unchanged h xs = changed_same h (λ p. p) xs (λ p is. refl)
 
   at_begun : (a : CommandStage) → both.task.stage ≡ a → both.other_task.stage ≡ Begun → StagesOver x.state a Begun both.host.told both.other.told
       → Comes start x c h me (Replied given)
@@ -242,18 +244,18 @@ module _ (start : Image) (x c : Possible) (d : Direct x c) (h : ℕ) (given : Re
       (ap (option_map (λ (k : TaskShape). record k { stage = Marked })) both.runs) refl refl
       (marked (runs_at x h (λ me t. t.stage ≡ Begun) both.host both.task both.is both.runs e) refl) is stages
   at_marked Marked e is stages =
-      from_mark x (λ p. p) same_id (sym (Rattle.fam_judge.proofs.Members.changed_same h (λ p. p) x.hosts (λ p is. refl))) refl both.is both.task both.runs refl e
+      from_mark x (λ p. p) same_id (sym (changed_same h (λ p. p) x.hosts (λ p is. refl))) refl both.is both.task both.runs refl e
       (stands_by (λ begun. marked_begun (sym e ∙ begun))) is stages
   at_marked (Met n) e is stages = absurd stages
   at_marked (Named seq) e is stages = absurd stages
 
-  at_met : (n : ℕ) (a : CommandStage) → both.task.stage ≡ a → both.other_task.stage ≡ Met n → Rattle.fam_commands.specs.Appends.HasWish both.other_task.cmd
+  at_met : (n : ℕ) (a : CommandStage) → both.task.stage ≡ a → both.other_task.stage ≡ Met n → HasWish both.other_task.cmd
       → StagesOver x.state a (Met n) both.host.told both.other.told → Comes start x c h me (Replied given)
   at_met n Begun e is wish stages = met_wishes n is wish (inl e)
   at_met n Marked e is wish stages = met_wishes n is wish (inr e)
   at_met n (Met m) e is wish stages =
       let state : x.state ≡ c.state = (target n is).alone (λ master. stages.1 (master ∙ ap Some (sym both.over.told_uuid))) in
-      from_met n x (λ p. p) same_id (sym (Rattle.fam_judge.proofs.Members.changed_same h (λ p. p) x.hosts (λ p is. refl))) state (no_later x.state) both.is both.task both.runs refl m e
+      from_met n x (λ p. p) same_id (sym (changed_same h (λ p. p) x.hosts (λ p is. refl))) state (no_later x.state) both.is both.task both.runs refl m e
       (stands_by (λ begun. met_begun m (sym e ∙ begun))) is
   at_met n (Named k) e is wish stages = absurd stages
 
@@ -265,7 +267,7 @@ module _ (start : Image) (x c : Possible) (d : Direct x c) (h : ℕ) (given : Re
   at_named k (Named j) e is stages = from_named k (e ∙ ap Named stages.0) is stages.1
 
   -- by how far the command has come
-  pub comes : ((n : ℕ) → both.other_task.stage ≡ Met n → Rattle.fam_commands.specs.Appends.HasWish both.other_task.cmd) → Comes start x c h me (Replied given)
+  pub comes : ((n : ℕ) → both.other_task.stage ≡ Met n → HasWish both.other_task.cmd) → Comes start x c h me (Replied given)
   comes wish = by both.other_task.stage refl both.stages
     where
       by : (b : CommandStage) → both.other_task.stage ≡ b → StagesOver x.state both.task.stage b both.host.told both.other.told → Comes start x c h me (Replied given)

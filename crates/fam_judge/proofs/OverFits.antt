@@ -1,6 +1,6 @@
 -- What fits a state fits one that allows no less.
 use Rattle.std.proofs.Common.{◌≡◌, ◌+◌, ◌≤◌, ℕ, List, [], ◌∷◌, ◌++◌, length, Option, Some, None, refl, ap, sym, ◌∙◌, subst, arith}
-use Rattle.std.specs.Prelude.{take}
+use Rattle.std.specs.Prelude.{take, Result, Err}
 use Rattle.std.proofs.lemmas.Option.{same_Some}
 use Rattle.fam_base.specs.declared.entry.Params.{Params}
 use Rattle.fam_rules.specs.declared.answers.Refused.{Refused as Cause}
@@ -10,14 +10,17 @@ use Rattle.fam_rules.specs.Asks.{File, entries_of}
 use Rattle.fam_rules.specs.Reply as reply
 use Rattle.fam_rules.specs.Reply.{Reply}
 use Rattle.fam_rules.specs.ReportLaws.{IsSoundReport}
-use Rattle.fam_journal.specs.Legal.{AppendedAllowed, CauseAllowed, DamageAllowed, HasParams, InBounds, IsAcknowledged, IsReportOf, ReportAllowed}
-use Rattle.fam_journal.specs.Past.{Bad, BadHeader, BadSlot, Damage, HostPast, NoSuperblock, Sound, State, acknowledges, reported_count, shows, shows_count, with_pending}
+use Rattle.fam_journal.specs.Legal.{AppendedAllowed, CauseAllowed, DamageAllowed, HasParams, InBounds, IsAcknowledged, IsReportOf, ReportAllowed, DecideAllowed}
+use Rattle.fam_journal.specs.Past.{Bad, BadHeader, BadSlot, Damage, HostPast, NoSuperblock, Sound, State, acknowledges, reported_count, shows, shows_count, with_pending, Origin, reply_count}
 use Rattle.fam_judge.specs.Covering.{FloorUnder, StateOver, dropped, joined, same}
-use Rattle.fam_judge.specs.Fitting.{IsFitting, QuestionFits, ReplyFits}
+use Rattle.fam_judge.specs.Fitting.{IsFitting, QuestionFits, ReplyFits, AskFits}
 use Rattle.fam_judge.proofs.Over.{over_first, over_master}
 use Rattle.fam_judge.proofs.Replies.{IsDecline, reported_is}
 use Rattle.fam_judge.proofs.Sizes.{acknowledged}
 use Rattle.fam_judge.proofs.States.{Goes, counts_none, goes, joined_length, joins, stays}
+use Rattle.fam_base.specs.declared.entry.Entry.{Entry}
+use Rattle.fam_rules.specs.Decide.{decide}
+use Rattle.fam_rules.specs.DecideLaws.{IsTooLong}
 
 -- Bounds.
 
@@ -40,7 +43,7 @@ module _ (host other : HostPast) (cmd_is : host.cmd ≡ other.cmd) where
         bounds = bounds_over host other m (with_pending a x) (with_pending b y) under first.0 is.bounds;
         cmd = is.cmd;
         told = cmd_is ∙ is.told;
-        fits = subst (λ (l : List File). Rattle.fam_judge.specs.Fitting.AskFits l is.cmd given) (sym first.1) is.fits;
+        fits = subst (λ (l : List File). AskFits l is.cmd given) (sym first.1) is.fits;
       }
 
   pub question_over : (m : ℕ) (given : Reply) (s t : State) → StateOver s t → FloorUnder host.floor other.floor → QuestionFits m given other t → QuestionFits m given host s
@@ -70,7 +73,7 @@ module _ (host other : HostPast) (cmd_is : host.cmd ≡ other.cmd) where
 
   pub report_over : (r : Report) (s t : State) → StateOver s t → ((m : ℕ) → reported_count r.log ≡ Some m → FloorUnder host.floor other.floor) → ReportAllowed r other t
       → ReportAllowed r host s
-  report_over r (Bad origin damage gate) (Bad origin2 damage2 gate2) (same e) under is = let one : origin2 ≡ origin = cc in subst (λ (o : Rattle.fam_journal.specs.Past.Origin). ReportAllowed r host (Bad o damage gate)) one is
+  report_over r (Bad origin damage gate) (Bad origin2 damage2 gate2) (same e) under is = let one : origin2 ≡ origin = cc in subst (λ (o : Origin). ReportAllowed r host (Bad o damage gate)) one is
   report_over r (Sound p a x) (Sound q b y) over under is = report r p q a b x y over (under is.m (reported_is q other (with_pending b y) r is)) is
   report_over r (Bad origin damage gate) t (joined p history f es et) under is = absurd cc
   report_over r (Bad origin damage gate) t (dropped p history f es et) under is = absurd cc
@@ -126,12 +129,12 @@ module _ (host other : HostPast) (cmd_is : host.cmd ≡ other.cmd) where
   params_over q s t (joined p history f es et) is = subst (HasParams q) (sym es) (subst (HasParams q) et is)
   params_over q s t (dropped p history f es et) is = subst (HasParams q) (sym es) (subst (HasParams q) et is)
 
-  decided_same : (decision : Rattle.std.specs.Prelude.Result Rattle.fam_base.specs.declared.entry.Entry.Entry Cause) (s t : State) → host.uuid ≡ other.uuid → t ≡ s
-      → Rattle.fam_journal.specs.Legal.DecideAllowed other decision t → Rattle.fam_journal.specs.Legal.DecideAllowed host decision s
-  decided_same decision (Bad origin damage gate) t me e is = subst (Rattle.fam_journal.specs.Legal.DecideAllowed other decision) e is
+  decided_same : (decision : Result Entry Cause) (s t : State) → host.uuid ≡ other.uuid → t ≡ s
+      → DecideAllowed other decision t → DecideAllowed host decision s
+  decided_same decision (Bad origin damage gate) t me e is = subst (DecideAllowed other decision) e is
   decided_same decision (Sound p a x) t me e is =
-      let one = subst (Rattle.fam_journal.specs.Legal.DecideAllowed other decision) e is in
-      record { cmd = one.cmd; told = cmd_is ∙ one.told; none = one.none; is = ap (λ (u : List ℕ). Rattle.fam_rules.specs.Decide.decide p u (entries_of a) one.cmd) me ∙ one.is }
+      let one = subst (DecideAllowed other decision) e is in
+      record { cmd = one.cmd; told = cmd_is ∙ one.told; none = one.none; is = ap (λ (u : List ℕ). decide p u (entries_of a) one.cmd) me ∙ one.is }
 
   pub cause_over : (why : Cause) (s t : State) → StateOver s t → host.uuid ≡ other.uuid → (IsDecline why → t ≡ s) → CauseAllowed why other t → CauseAllowed why host s
   cause_over (cause.NotMaster me master) s t over uuid decided is =
@@ -144,10 +147,10 @@ module _ (host other : HostPast) (cmd_is : host.cmd ≡ other.cmd) where
       told = cmd_is ∙ is.names.told;
       wish = is.names.wish;
       wished = is.names.wished;
-      is = subst (λ (u : List ℕ). Rattle.fam_rules.specs.DecideLaws.IsTooLong is.params u is.names.wish limit) (sym uuid) is.names.is;
+      is = subst (λ (u : List ℕ). IsTooLong is.params u is.names.wish limit) (sym uuid) is.names.is;
     };
   }
-  cause_over why s t over uuid decided is = decided_same (Rattle.std.specs.Prelude.Err why) s t uuid (decided tt) is
+  cause_over why s t over uuid decided is = decided_same (Err why) s t uuid (decided tt) is
 
   -- Faults.
 
@@ -162,7 +165,7 @@ module _ (host other : HostPast) (cmd_is : host.cmd ≡ other.cmd) where
   pub record ReplyOver (given : Reply) (s t : State) : Type 0 where
     pub wrote : (seq : ℕ) → given ≡ reply.Appended seq → host.wrote ≡ other.wrote
     pub decided : (why : Cause) → given ≡ reply.NotAppended why → IsDecline why → t ≡ s
-    pub under : (m : ℕ) → Rattle.fam_journal.specs.Past.reply_count given ≡ Some m → FloorUnder host.floor other.floor
+    pub under : (m : ℕ) → reply_count given ≡ Some m → FloorUnder host.floor other.floor
 
   -- so a reply fits
   pub reply_over : (given : Reply) (s t : State) → StateOver s t → host.uuid ≡ other.uuid → ReplyOver given s t → ReplyFits given other t → ReplyFits given host s

@@ -11,7 +11,7 @@ use Rattle.fam_journal.specs.Members.{changed_at}
 use Rattle.fam_journal.specs.Notes.{Note, Mark, Found, Writes}
 use Rattle.fam_journal.specs.Past.{State, cmd_of, pends, settled_length}
 use Rattle.fam_journal.specs.Shapes.{Begun, CommandStage, Marked, Met, Named, OfRunning, TaskNote, TaskShape, with_stage}
-use Rattle.fam_judge.specs.Covering.{Direct, HostOver, Late, Over, StateOver, direct, late}
+use Rattle.fam_judge.specs.Covering.{Direct, HostOver, Late, Over, StateOver, direct, late, same}
 use Rattle.fam_judge.specs.Fitting.{Fits}
 use Rattle.fam_judge.specs.Possible.{Possible, Progress, after, past_in, shapes_in}
 use Rattle.fam_judge.specs.Shows.{is_inner}
@@ -161,8 +161,8 @@ module _ (start : Image) (x c : Possible) where
   pub late_writes : (l : Late start x c) → IsApart c → (j seq : ℕ) (e : Entry) → OfRunning (slice_get (shapes_in c) j) (λ me t. TaskNote j me t (Writes j seq e))
       → Fits (past_in start c) (Writes j seq e)
       → (j ≡ l.host) ⊎ (j ≢ l.host) → ⊥
-  late_writes l apart j seq e may fits (inl same) =
-      named_met l.seq seq (stage_is start x c l (λ s. s ≡ Met seq) (subst (λ (k : ℕ). OfRunning (slice_get (shapes_in c) k) (λ me t. t.stage ≡ Met seq)) same (met_it c j may)))
+  late_writes l apart j seq e may fits (inl e_same) =
+      named_met l.seq seq (stage_is start x c l (λ s. s ≡ Met seq) (subst (λ (k : ℕ). OfRunning (slice_get (shapes_in c) k) (λ me t. t.stage ≡ Met seq)) e_same (met_it c j may)))
     where
       met_it : (c : Possible) (j : ℕ) → OfRunning (slice_get (shapes_in c) j) (λ me t. TaskNote j me t (Writes j seq e))
           → OfRunning (slice_get (shapes_in c) j) (λ me t. t.stage ≡ Met seq)
@@ -175,7 +175,7 @@ module _ (start : Image) (x c : Possible) where
   inner_over apart (direct d) (Mark j) inner lines may fits = direct (over_mark start x c d j may)
   inner_over apart (direct d) (Found j n) inner lines may fits = direct (over_found start x c d j n may fits)
   inner_over apart (direct d) (Writes j seq e) inner lines may fits =
-      late (record { host = j; pre = c; direct = d; seq = seq; entry = e; may = may; fits = fits; hosts = refl; state = Rattle.fam_judge.specs.Covering.same refl })
+      late (record { host = j; pre = c; direct = d; seq = seq; entry = e; may = may; fits = fits; hosts = refl; state = same refl })
   inner_over apart (late l) (Mark j) inner lines may fits = late (late_mark l j may (cases_eq j l.host))
   inner_over apart (late l) (Found j n) inner lines may fits = late (late_found l j n may fits (cases_eq j l.host))
   inner_over apart (late l) (Writes j seq e) inner lines may fits = absurd (late_writes l apart j seq e may fits (cases_eq j l.host))

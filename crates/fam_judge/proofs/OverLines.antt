@@ -12,7 +12,7 @@ use Rattle.fam_rules.specs.Reply.{Reply}
 use Rattle.fam_journal.specs.Legal.{AppendedAllowed, ReportAllowed}
 use Rattle.fam_journal.specs.Members.{changed_at}
 use Rattle.fam_journal.specs.Notes.{Answer, Replied, MediaFault, Note, Host, Made, Cut, Start, Mark, Found, Writes, Answered, Stop, Halt, Umount, Refused}
-use Rattle.fam_journal.specs.Past.{Bad, HostPast, Sound, State, acknowledges, ended_state, shows, shows_count, with_pending}
+use Rattle.fam_journal.specs.Past.{Bad, HostPast, Sound, State, acknowledges, ended_state, shows, shows_count, with_pending, reported_count}
 use Rattle.fam_journal.specs.Shapes.{Met, Pairs, TaskNote, TaskShape, keeps_behind}
 use Rattle.fam_judge.specs.Covering.{Direct, HostOver, StateOver}
 use Rattle.fam_judge.specs.Fitting.{AnswerFits, Fits, QuestionFits, ReplyFits}
@@ -28,6 +28,7 @@ use Rattle.fam_judge.proofs.OverWrites.{writes_in}
 use Rattle.fam_judge.proofs.Places.{own_pairs, running_at, told_at}
 use Rattle.fam_judge.proofs.Replies.{reported_is}
 use Rattle.fam_judge.proofs.Sizes.{effect, ended_is}
+use Rattle.fam_rules.specs.declared.answers.Report.{Report}
 
 -- Counts.
 
@@ -41,8 +42,8 @@ asked_within m given host t is p history pending e k same =
     let high : m ≤ length (with_pending history pending) = one.bounds.high in
     let m_is : m ≡ k = same_Some m k same in subst (λ (n : ℕ). n ≤ length (with_pending history pending)) m_is high
 
-reported_within : (report : Rattle.fam_rules.specs.declared.answers.Report.Report) (host : HostPast) (t : State) → ReportAllowed report host t
-    → Within (Rattle.fam_journal.specs.Past.reported_count report.log) t
+reported_within : (report : Report) (host : HostPast) (t : State) → ReportAllowed report host t
+    → Within (reported_count report.log) t
 reported_within report host t is p history pending e k same =
     let one = subst (ReportAllowed report host) e is in
     let m_is : one.m ≡ k = same_Some one.m k (sym (reported_is p host (with_pending history pending) report one) ∙ same) in

@@ -11,14 +11,16 @@ use Rattle.fam_journal.specs.Past.{Sound, State, halted, settled_length}
 use Rattle.fam_journal.specs.Shapes.{Pairs, TaskNote, TaskShape}
 use Rattle.fam_journal.proofs.Calls.Declares.{none_passes}
 use Rattle.fam_judge.specs.Covering.{Direct, HostOver, StateOver, TasksOver, same}
-use Rattle.fam_judge.specs.Possible.{Possible, Progress, after, after_line, giver, new_progress, past_in, shapes_in}
+use Rattle.fam_judge.specs.Possible.{Possible, Progress, after, after_line, giver, new_progress, past_in, shapes_in, ReachesFor}
 use Rattle.fam_judge.specs.Standing.{Face, MayStand, engaged_in, face, faces, is_own}
 use Rattle.fam_judge.proofs.Folding.{shape_in}
 use Rattle.fam_judge.proofs.OverHosts.{no_later}
 use Rattle.fam_judge.proofs.OverOwn.{FollowsIn, both_run}
 use Rattle.fam_judge.proofs.Pairing.{pairs_all, pairs_more}
-use Rattle.fam_judge.proofs.Places.{once_pairs, own_pairs, runs_at}
+use Rattle.fam_judge.proofs.Places.{once_pairs, own_pairs, runs_at, of_told}
 use Rattle.fam_judge.proofs.Standing.Alike.{stands_seen}
+use Rattle.fam_judge.specs.Fitting.{Fits}
+use Rattle.fam_judge.specs.Formed.{AnswerPlace}
 
 -- Faces.
 
@@ -68,13 +70,13 @@ all_idle x none k p is =
 
 module _ (start : Image) (x c : Possible) (d : Direct x c) where
   -- a line that speaks of faces leads on, where what it leaves allows no less
-  plain_leads : (y : Note) → giver y ≡ None → is_own y ≡ false → Rattle.fam_judge.specs.Fitting.Fits (past_in start x) y → MayStand (length start) (shapes_in c) y
+  plain_leads : (y : Note) → giver y ≡ None → is_own y ≡ false → Fits (past_in start x) y → MayStand (length start) (shapes_in c) y
       → Direct (after_line start x y) (after start c y) → FollowsIn start x c y
   plain_leads y none plain fits may over = record {
     next = after_line start x y;
     leads = record {
       now = x;
-      reaches = subst (λ (o : Option ℕ). Rattle.fam_judge.specs.Possible.ReachesFor start o x x) (sym none) refl;
+      reaches = subst (λ (o : Option ℕ). ReachesFor start o x x) (sym none) refl;
       may = stands_over start x c d y plain may;
       fits = fits;
       is = refl;
@@ -183,9 +185,9 @@ module _ (start : Image) (x c : Possible) (d : Direct x c) where
           reaches = refl;
           may = (
             runs_at x h (λ me t. TaskNote h me t (Answered h (MediaFault line))) both.host both.task both.is both.runs (refl, tt),
-            runs_at x h (λ me t. Rattle.fam_judge.specs.Formed.AnswerPlace t.cmd t.stage (MediaFault line)) both.host both.task both.is both.runs tt,
+            runs_at x h (λ me t. AnswerPlace t.cmd t.stage (MediaFault line)) both.host both.task both.is both.runs tt,
           );
-          fits = Rattle.fam_judge.proofs.Places.of_told start x h (λ host. ⊤) both.host both.is tt;
+          fits = of_told start x h (λ host. ⊤) both.host both.is tt;
           is = refl;
         };
         over = record {

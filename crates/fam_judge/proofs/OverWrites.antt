@@ -7,7 +7,7 @@ use Rattle.fam_base.specs.declared.entry.Entry.{Entry}
 use Rattle.fam_base.specs.declared.entry.Params.{Params}
 use Rattle.fam_base.specs.Image.{Image}
 use Rattle.fam_commands.specs.Appends.{HasWish}
-use Rattle.fam_rules.specs.Asks.{File}
+use Rattle.fam_rules.specs.Asks.{File, entries_of}
 use Rattle.fam_journal.specs.Legal.{FoundAllowed, IsDecided, WritesAllowed, master_of}
 use Rattle.fam_journal.specs.Members.{changed_at}
 use Rattle.fam_journal.specs.Notes.{Found, Writes}
@@ -16,12 +16,14 @@ use Rattle.fam_journal.specs.Shapes.{Begun, CommandStage, EntryShape, IsHead, Ma
 use Rattle.fam_judge.specs.Covering.{Direct, HostOver, StagesOver, StateOver, TasksOver, same}
 use Rattle.fam_judge.specs.Possible.{Meets, NonePends, Possible, Progress, after, past_in, shapes_in, shown_met, left_out_met}
 use Rattle.fam_judge.proofs.Folding.{told_in}
-use Rattle.fam_judge.proofs.Over.{over_met, over_none, over_settled, settled_finds}
+use Rattle.fam_judge.proofs.Over.{over_met, over_none, over_settled, settled_finds, over_master}
 use Rattle.fam_judge.proofs.OverHosts.{IsApart, LaterOf, host_later_of, one_place}
 use Rattle.fam_judge.proofs.OverOwn.{Both, both_run}
 use Rattle.fam_judge.proofs.Pairing.{pairs_step}
 use Rattle.fam_judge.proofs.Places.{changed_is, changed_twice, of_told, runs_at, told_at}
 use Rattle.fam_judge.proofs.Replies.{decided_master}
+use Rattle.fam_rules.specs.Decide.{decide}
+use Rattle.fam_judge.specs.Fitting.{Fits}
 
 -- What an entry that is named tells of the state.
 
@@ -58,7 +60,7 @@ may_write seq e host other t uuid cmd says =
         cmd = says.decided.cmd;
         told = cmd ∙ says.decided.told;
         none = refl;
-        is = ap (λ (u : List ℕ). Rattle.fam_rules.specs.Decide.decide says.params u (Rattle.fam_rules.specs.Asks.entries_of says.history) says.decided.cmd) uuid ∙ says.decided.is;
+        is = ap (λ (u : List ℕ). decide says.params u (entries_of says.history) says.decided.cmd) uuid ∙ says.decided.is;
       },
     )
 
@@ -110,7 +112,7 @@ module _ (start : Image) (x c : Possible) (d : Direct x c) (apart : IsApart x) (
     pub met : Possible
     pub meets : Meets start h x met
     pub may : OfRunning (slice_get (shapes_in met) h) (λ me t. TaskNote h me t (Writes h seq e))
-    pub fits : Rattle.fam_judge.specs.Fitting.Fits (past_in start met) (Writes h seq e)
+    pub fits : Fits (past_in start met) (Writes h seq e)
     pub over : Direct (after start met (Writes h seq e)) (after start c (Writes h seq e))
     pub state : (after start met (Writes h seq e)).state ≡ (after start c (Writes h seq e)).state
 
@@ -133,7 +135,7 @@ module _ (start : Image) (x c : Possible) (d : Direct x c) (apart : IsApart x) (
     file_is = ap (λ (o : Option Cmd). named_file o e) (cmd_at start c h both.other both.other_is ∙ sym both.over.told_cmd)
 
     writes_there : (now : Possible) (p : Progress) → slice_get now.hosts h ≡ Some p → p.told.cmd ≡ both.host.told.cmd → p.told.uuid ≡ both.host.told.uuid → now.state ≡ c.state
-        → Rattle.fam_judge.specs.Fitting.Fits (past_in start now) (Writes h seq e)
+        → Fits (past_in start now) (Writes h seq e)
     writes_there now p is cmd uuid state =
         of_told start now h (λ host. WritesAllowed seq e host now.state) p is
         (subst (λ (s : State). WritesAllowed seq e p.told s) (sym state)
@@ -197,7 +199,7 @@ module _ (start : Image) (x c : Possible) (d : Direct x c) (apart : IsApart x) (
     from_met : both.task.stage ≡ Met seq → (master_of x.state ≡ Some both.host.told.uuid → NonePends x.state) → WritesIn
     from_met met none =
         let master : master_of x.state ≡ Some both.host.told.uuid =
-        Rattle.fam_judge.proofs.Over.over_master x.state c.state d.state ∙ ap master_of says.is ∙ ap Some (sym says.master ∙ sym both.over.told_uuid) in
+        over_master x.state c.state d.state ∙ ap master_of says.is ∙ ap Some (sym says.master ∙ sym both.over.told_uuid) in
         let state : x.state ≡ c.state = sym (over_none x.state c.state d.state (none master)) in
         record {
           met = x;
@@ -221,7 +223,7 @@ module _ (start : Image) (x c : Possible) (d : Direct x c) (apart : IsApart x) (
     by_stage (Named k) is stages = absurd stages
 
   -- an entry that is named behind the second state is named behind the first one
-  pub writes_in : OfRunning (slice_get (shapes_in c) h) (λ me t. TaskNote h me t (Writes h seq e)) → Rattle.fam_judge.specs.Fitting.Fits (past_in start c) (Writes h seq e)
+  pub writes_in : OfRunning (slice_get (shapes_in c) h) (λ me t. TaskNote h me t (Writes h seq e)) → Fits (past_in start c) (Writes h seq e)
       → WritesIn
   writes_in may fits =
       let both = both_run x c d h (λ me t. TaskNote h me t (Writes h seq e)) may in

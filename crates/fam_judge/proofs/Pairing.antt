@@ -1,6 +1,6 @@
 -- Lists of pairs of which one changes.
 use Prim.Native.Nat.{zero, suc}
-use Rattle.std.proofs.Common.{◌≡◌, ◌≢◌, ℕ, List, [], ◌∷◌, ◌++◌, Option, Some, None, refl, ap, sym, ◌∙◌}
+use Rattle.std.proofs.Common.{◌≡◌, ◌≢◌, ℕ, List, [], ◌∷◌, ◌++◌, Option, Some, None, refl, ap, sym, ◌∙◌, subst}
 use Rattle.std.specs.Prelude.{slice_get}
 use Rattle.std.proofs.lemmas.Option.{same_Some}
 use Rattle.fam_journal.specs.Members.{changed_at}
@@ -49,5 +49,5 @@ pub paired : {A B : Type 0} (P : A → B → Type 0) (xs : List A) (ys : List B)
 paired P [] [] h y pairs is = absurd cc
 paired P [] (b ∷ ys) h y pairs is = absurd pairs
 paired P (a ∷ xs) [] h y pairs is = absurd pairs
-paired P (a ∷ xs) (b ∷ ys) zero y pairs is = (a, refl, Rattle.std.proofs.Common.subst (P a) (same_Some b y is) pairs.0)
+paired P (a ∷ xs) (b ∷ ys) zero y pairs is = (a, refl, subst (P a) (same_Some b y is) pairs.0)
 paired P (a ∷ xs) (b ∷ ys) (suc h) y pairs is = paired P xs ys h y pairs.1 is

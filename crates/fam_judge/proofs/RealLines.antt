@@ -7,20 +7,21 @@ use Rattle.fam_base.specs.Image.{Image}
 use Rattle.fam_journal.specs.Legal.{WritesAllowed}
 use Rattle.fam_journal.specs.Members.{changed_at}
 use Rattle.fam_journal.specs.Notes.{Replied, MediaFault, Note, Host, Made, Cut, Start, Mark, Found, Writes, Answered, Stop, Halt, Umount, Refused}
-use Rattle.fam_journal.specs.Past.{HostPast, State, settled_length, state_after}
+use Rattle.fam_journal.specs.Past.{HostPast, State, settled_length, state_after, pends, filled_bytes, cmd_of, Past}
 use Rattle.fam_journal.specs.Shapes.{Begun, CommandStage, Marked, Met, Named, OfRunning, Pairs, TaskNote, TaskShape, with_stage}
 use Rattle.fam_judge.specs.Fitting.{AnswerFits, Fits}
 use Rattle.fam_judge.specs.Formed.{AnswerPlace}
 use Rattle.fam_judge.specs.Possible.{Leads, LeadsTo, Possible, Progress, ReachesFor, Steps, after, after_line, giver, new_progress, past_in, shapes_in}
 use Rattle.fam_judge.specs.Standing.{Face, MayStand, OfFace, face, faces, is_own}
 use Rattle.fam_judge.specs.Untold.{untold_note, untold_notes}
-use Rattle.fam_judge.proofs.Choices.{Chosen, IsBegun, as_it_is, at_mark, chosen_back, chosen_begins, chosen_last, faces_chosen, mark_came, no_mark_came}
+use Rattle.fam_judge.proofs.Choices.{Chosen, IsBegun, as_it_is, at_mark, chosen_back, chosen_begins, chosen_last, faces_chosen, mark_came, no_mark_came, Begins}
 use Rattle.fam_judge.proofs.Folding.{shape_in}
 use Rattle.fam_journal.proofs.Shapes.Pairs.{pairs_at}
-use Rattle.fam_judge.proofs.Places.{Running, changed_is, changed_twice, running_at, runs_at}
+use Rattle.fam_judge.proofs.Places.{Running, changed_is, changed_twice, running_at, runs_at, of_told}
 use Rattle.fam_judge.proofs.Realized.{real_before, real_reaches}
 use Rattle.fam_judge.proofs.Realizing.{ComesTo, IsRealized, IsRealizedAt, hidden_more, host_here, line_more, real_line, runs_here, told_here, with_hosts}
 use Rattle.fam_judge.proofs.Standing.Alike.{stands_seen}
+use Rattle.std.proofs.lemmas.List.{append-nil}
 
 staged_begun : (stage : CommandStage) → (stage ≡ Begun → ⊥) → (o : Option TaskShape) (t : TaskShape) → option_map (λ (t : TaskShape). record t { stage = stage }) o ≡ Some t
     → t.stage ≡ Begun → ⊥
@@ -56,7 +57,7 @@ module _ (start : Image) (lines : List Note) where
   own_line h now (Writes k seq e) is told real may fits =
       let same : h ≡ k = same_Some h k (sym is) in
       real_line start lines k now (Writes k seq e) _ refl (λ old. refl)
-      (λ old at. ap (λ (o : Option HostPast). Rattle.fam_journal.specs.Past.pends (record { entry = e; bytes = Rattle.fam_journal.specs.Past.filled_bytes (Rattle.fam_journal.specs.Past.cmd_of o) e.size }) now.state) (told_here start lines k now old at))
+      (λ old at. ap (λ (o : Option HostPast). pends (record { entry = e; bytes = filled_bytes (cmd_of o) e.size }) now.state) (told_here start lines k now old at))
       (λ old at. runs_here start lines k now old at (λ me t. TaskNote k me t (Writes k seq e)) may) (λ old at. host_here start lines k now old at (λ host. WritesAllowed seq e host now.state) fits)
       (λ p at begun. staged_begun (Named seq) (named_begun seq) p.shape.task begun.0 begun.1 begun.2) (subst (λ (j : ℕ). IsRealizedAt start lines j now) same real)
   own_line h now (Answered k (Replied given)) is told real may fits =
@@ -83,7 +84,7 @@ module _ (start : Image) (lines : List Note) where
     stands_chosen old pairs y plain is = stands_seen (length start) (shapes_in x) (shapes_in (with_hosts x old)) y (sym (faces_chosen x.hosts old pairs)) plain is
 
     -- hosts stay as they are
-    same_hosts : (y : Note) (s : State) → untold_note y ≡ y → is_own y ≡ false → MayStand (length start) (shapes_in x) y → ((p : Rattle.fam_journal.specs.Past.Past) → Fits p y)
+    same_hosts : (y : Note) (s : State) → untold_note y ≡ y → is_own y ≡ false → MayStand (length start) (shapes_in x) y → ((p : Past) → Fits p y)
         → ((old : List Progress) → after start (with_hosts x old) y ≡ record { state = s; hosts = old }) → IsRealized start (lines ++ y ∷ []) (record { state = s; hosts = x.hosts })
     same_hosts y s told plain may fits is hosts pairs =
         subst (ComesTo start (lines ++ y ∷ [])) (is hosts) (line_more start lines (with_hosts x hosts) y (real hosts pairs) told (stands_chosen hosts pairs y plain may) (fits (past_in start (with_hosts x hosts))))
@@ -130,12 +131,12 @@ module _ (start : Image) (lines : List Note) where
         floor : Progress → Progress
         floor p = record p { told = record p.told { floor = Some (settled_length x.state) } }
 
-        begins : Rattle.fam_judge.proofs.Choices.Begins h begin mark x.hosts hosts
+        begins : Begins h begin mark x.hosts hosts
         begins =
             chosen_begins h begin mark (λ p. floor (begin p)) x.hosts hosts (λ p at. idle_begun p (face_at h _ may.1 p at).0) (λ p. (record { cmd = cmd; stage = Begun }, refl, refl)) (λ p. refl) (λ p. refl)
             (subst (λ (l : List Progress). Pairs Chosen l hosts) (changed_twice h begin floor x.hosts) pairs)
 
-        by : Rattle.fam_judge.proofs.Choices.Begins h begin mark x.hosts hosts → ComesTo start (lines ++ Start h cmd ∷ []) (with_hosts x hosts)
+        by : Begins h begin mark x.hosts hosts → ComesTo start (lines ++ Start h cmd ∷ []) (with_hosts x hosts)
         by b = last b.is
           where
             first : ComesTo start (lines ++ Start h cmd ∷ []) (after start (with_hosts x b.old) (Start h cmd))
@@ -170,7 +171,7 @@ module _ (start : Image) (lines : List Note) where
     media_fits h line may old pairs =
         let r = running_at x h (λ me t. TaskNote h me t (Answered h (MediaFault line))) may.0 in
         let q = pairs_at Chosen x.hosts old h r.host pairs r.is in
-        Rattle.fam_judge.proofs.Places.of_told start (with_hosts x old) h (λ host. ⊤) q.0 q.1 tt
+        of_told start (with_hosts x old) h (λ host. ⊤) q.0 q.1 tt
 
     -- by the line
     plain_line : (y : Note) → giver y ≡ None → untold_note y ≡ y → MayStand (length start) (shapes_in x) y → IsRealized start (lines ++ y ∷ []) (after_line start x y)
@@ -220,7 +221,7 @@ append_one (first ∷ before) y lines = ap (λ (l : List Note). first ∷ l) (ap
 pub all_real : (start : Image) (before : List Note) (x : Possible) → IsRealized start before x → (lines : List Note) → untold_notes lines ≡ lines → (z : Possible)
     → LeadsTo start x lines z → IsRealized start (before ++ lines) z
 all_real start before x real [] told z leads =
-    subst (λ (l : List Note). IsRealized start l z) (sym (Rattle.std.proofs.lemmas.List.append-nil before)) (subst (IsRealized start before) (sym leads) real)
+    subst (λ (l : List Note). IsRealized start l z) (sym (append-nil before)) (subst (IsRealized start before) (sym leads) real)
 all_real start before x real (y ∷ lines) told z leads =
     subst (λ (l : List Note). IsRealized start l z) (append_one before y lines)
     (all_real start (before ++ y ∷ []) leads.0 (leads_real start before x real y (heads y lines told) leads.0 leads.1) lines (tails y lines told) z leads.2)

@@ -8,7 +8,7 @@ use Rattle.fam_journal.specs.Members.{changed_at}
 use Rattle.fam_journal.specs.Notes.{Note, Found}
 use Rattle.fam_journal.specs.Shapes.{Begun, CommandStage, IsHead, Marked, Met, Named, Pairs, TaskNote, TaskShape, with_stage}
 use Rattle.fam_judge.specs.Possible.{Before, Meets, Possible, Progress, Reaches, StageIs, Wrote, after, as_is, marked, meets, stands, shown_met, unmarked, left_out_met, with_mark, written, wrote}
-use Rattle.fam_judge.proofs.Choices.{Chosen, IsBegun, at_mark, chosen_back, faces_chosen, floorless, mark_came, no_mark_came, as_it_is}
+use Rattle.fam_judge.proofs.Choices.{Chosen, IsBegun, at_mark, chosen_back, faces_chosen, floorless, mark_came, no_mark_came, as_it_is, ButOne, chosen_but}
 use Rattle.fam_judge.proofs.Members.{changed_same}
 use Rattle.fam_judge.proofs.Places.{Running, changed_is, changed_twice, running_at, runs_at}
 use Rattle.fam_judge.proofs.Realizing.{IsRealized, IsRealizedAt, begun_stage, real_found, real_marked, real_stands, real_unmarked, real_writes, stage_at}
@@ -100,8 +100,8 @@ real_any : (start : Image) (lines : List Note) (h : ℕ) (x : Possible) → ((p 
     → IsRealized start lines x
 real_any start lines h x none real hosts pairs =
     real hosts
-    (subst (λ (l : List Progress). Rattle.fam_judge.proofs.Choices.ButOne h l hosts) (changed_same h (λ p. p) x.hosts (λ p is. refl))
-    (Rattle.fam_judge.proofs.Choices.chosen_but h (λ p. p) x.hosts hosts none (subst (λ (l : List Progress). Pairs Chosen l hosts) (sym (changed_same h (λ p. p) x.hosts (λ p is. refl))) pairs)))
+    (subst (λ (l : List Progress). ButOne h l hosts) (changed_same h (λ p. p) x.hosts (λ p is. refl))
+    (chosen_but h (λ p. p) x.hosts hosts none (subst (λ (l : List Progress). Pairs Chosen l hosts) (sym (changed_same h (λ p. p) x.hosts (λ p is. refl))) pairs)))
 
 -- an entry that some host has named by now
 pub real_written : (start : Image) (lines : List Note) (k : ℕ) (x w : Possible) → IsRealized start lines x → Wrote start k x w → IsRealized start lines w

@@ -1,14 +1,14 @@
 -- Each possible state is one that some journal comes to, whatever marks that weren't told have come.
 use Rattle.std.proofs.Common.{◌≡◌, inl, ℕ, List, [], ◌∷◌, ◌++◌, length, Option, Some, refl, ap, ap₂, sym, ◌∙◌, subst}
 use Rattle.std.specs.Prelude.{IsTrue, option_map, slice_get}
-use Rattle.std.proofs.lemmas.List.{append-nil}
+use Rattle.std.proofs.lemmas.List.{append-nil, map-append}
 use Rattle.std.proofs.lemmas.Option.{same_Some, slice_get-map}
 use Rattle.fam_base.specs.declared.entry.Entry.{Entry}
 use Rattle.fam_base.specs.Image.{Image}
 use Rattle.fam_journal.specs.Legal.{FoundAllowed, OfHost, WritesAllowed}
 use Rattle.fam_journal.specs.Members.{changed_at}
 use Rattle.fam_journal.specs.Notes.{Note, Found, Writes}
-use Rattle.fam_journal.specs.Past.{HostPast, State, settled_length, state_after}
+use Rattle.fam_journal.specs.Past.{HostPast, State, settled_length, state_after, pends, filled_bytes, cmd_of}
 use Rattle.fam_journal.specs.Shapes.{Begun, CommandStage, Met, OfRunning, Pairs, TaskNote, TaskShape, with_stage}
 use Rattle.fam_judge.specs.Covering.{AreFitting, behind, state_of}
 use Rattle.fam_judge.specs.Fitting.{Fits}
@@ -20,6 +20,7 @@ use Rattle.fam_judge.proofs.Choices.{Back, ButOne, Chosen, IsBegun, at_mark, but
 use Rattle.fam_judge.proofs.Folding.{behind_more, told_in}
 use Rattle.fam_judge.proofs.Places.{running_at, runs_at}
 use Rattle.fam_judge.proofs.Showing.{shows_both}
+use Rattle.fam_judge.proofs.Members.{changed_same}
 
 -- Journals.
 
@@ -39,7 +40,7 @@ fitting_more start c [] y fitting may fits = (may, fits, tt)
 fitting_more start c (first ∷ notes) y fitting may fits = (fitting.0, fitting.1, fitting_more start (after start c first) notes y fitting.2 may fits)
 
 untold_more : (notes : List Note) (y : Note) → untold_notes notes ≡ notes → untold_note y ≡ y → untold_notes (notes ++ y ∷ []) ≡ notes ++ y ∷ []
-untold_more notes y all one = Rattle.std.proofs.lemmas.List.map-append untold_note notes (y ∷ []) ∙ ap₂ (λ (a : List Note) (b : Note). a ++ b ∷ []) all one
+untold_more notes y all one = map-append untold_note notes (y ∷ []) ∙ ap₂ (λ (a : List Note) (b : Note). a ++ b ∷ []) all one
 
 -- a note that the lines leave out
 pub hidden_more : (start : Image) (lines : List Note) (c : Possible) (y : Note) → ComesTo start lines c → IsTrue (is_inner y) → untold_note y ≡ y
@@ -100,7 +101,7 @@ module _ (start : Image) (lines : List Note) where
   -- as it is where its stage is known
   pub real_stands : (h : ℕ) (x : Possible) → IsRealized start lines x → ((p : Progress) → slice_get x.hosts h ≡ Some p → IsBegun p → ⊥) → IsRealizedAt start lines h x
   real_stands h x real none hosts but =
-      real hosts (but_chosen h (λ p. p) x.hosts hosts (subst (λ (l : List Progress). ButOne h l hosts) (sym (Rattle.fam_judge.proofs.Members.changed_same h (λ p. p) x.hosts (λ p is. refl))) but)
+      real hosts (but_chosen h (λ p. p) x.hosts hosts (subst (λ (l : List Progress). ButOne h l hosts) (sym (changed_same h (λ p. p) x.hosts (λ p is. refl))) but)
       (λ p is. as_it_is (none p is) refl))
 
   -- without its mark, or with it
@@ -173,6 +174,6 @@ module _ (start : Image) (lines : List Note) where
       → IsRealizedAt start lines h (after start m (Writes h seq e))
   real_writes h seq e m real may fits =
       real_hidden h m (Writes h seq e) _ refl (λ old. refl)
-      (λ old same. ap (λ (o : Option HostPast). Rattle.fam_journal.specs.Past.pends (record { entry = e; bytes = Rattle.fam_journal.specs.Past.filled_bytes (Rattle.fam_journal.specs.Past.cmd_of o) e.size }) m.state) (told_here h m old same))
+      (λ old same. ap (λ (o : Option HostPast). pends (record { entry = e; bytes = filled_bytes (cmd_of o) e.size }) m.state) (told_here h m old same))
       (λ old same. runs_here h m old same (λ me t. TaskNote h me t (Writes h seq e)) may)
       (λ old same. host_here h m old same (λ host. WritesAllowed seq e host m.state) fits) refl real

@@ -8,11 +8,11 @@ use Rattle.fam_base.specs.Image.{Image}
 use Rattle.fam_journal.specs.Notes.{Note, Host, Made, Cut, Start, Mark, Found, Writes, Answered, Stop, Halt, Umount, Refused}
 use Rattle.fam_judge.specs.Alike.{told_note}
 use Rattle.fam_judge.specs.Covering.{AreFitting, GoesOn, HasBelow, IsBelow, IsOf, Judges, Over, behind, direct, late, same, state_of}
-use Rattle.fam_judge.specs.Explained.{IsExplained}
+use Rattle.fam_judge.specs.Explained.{IsExplained, AreAllowedForSome}
 use Rattle.fam_judge.specs.Fitting.{Fits}
 use Rattle.fam_judge.specs.Possible.{Elsewhere, IsPossible, Leads, LeadsTo, Possible, after, first_possible, past_in, settled_by, shapes_in}
 use Rattle.fam_judge.specs.Shows.{ShowsJournal, is_inner}
-use Rattle.fam_judge.specs.Standing.{MayStand, faces}
+use Rattle.fam_judge.specs.Standing.{MayStand, faces, AreStanding}
 use Rattle.fam_judge.specs.Untold.{untold_note, untold_notes}
 use Rattle.fam_judge.proofs.Completing.{over_apart}
 use Rattle.fam_judge.proofs.Folding.{behind_both}
@@ -22,10 +22,12 @@ use Rattle.fam_judge.proofs.OverHidden.{late_now}
 use Rattle.fam_judge.proofs.OverHosts.{IsApart, direct_below}
 use Rattle.fam_judge.proofs.OverLate.{inner_over}
 use Rattle.fam_judge.proofs.OverLines.{line_follows}
-use Rattle.fam_judge.proofs.Showing.{first_line, parts, shows_both, skipped}
+use Rattle.fam_judge.proofs.Showing.{first_line, parts, shows_both, skipped, Parts, FirstLine}
 use Rattle.fam_judge.proofs.OverPlain.{faces_over}
 use Rattle.fam_judge.proofs.Staying.{faces_pre, late_stays}
-use Rattle.fam_judge.proofs.Untelling.{alike_untold}
+use Rattle.fam_judge.proofs.Untelling.{alike_untold, untold_alike}
+use Rattle.std.proofs.lemmas.Option.{same_Some}
+use Rattle.fam_judge.proofs.Standing.Journals.{explained_stands}
 
 -- Lists of notes.
 
@@ -102,7 +104,7 @@ pub split_at : (lines : List Note) (y : Note) (journal : List Note) → ShowsJou
     → LineAt lines y journal
 split_at lines y journal shows told_y told = by (parts lines (y ∷ []) journal shows)
   where
-    by_line : (part : Rattle.fam_judge.proofs.Showing.Parts lines (y ∷ []) journal) → Rattle.fam_judge.proofs.Showing.FirstLine y [] part.back → LineAt lines y journal
+    by_line : (part : Parts lines (y ∷ []) journal) → FirstLine y [] part.back → LineAt lines y journal
     by_line part line =
         let whole : journal ≡ (part.front ++ line.out) ++ line.note ∷ line.back =
         part.whole ∙ ap (λ (l : List Note). part.front ++ l) line.whole ∙ append_is part.front line.out line.note line.back in
@@ -117,7 +119,7 @@ split_at lines y journal shows told_y told = by (parts lines (y ∷ []) journal 
           told = both.0;
         }
 
-    by : Rattle.fam_judge.proofs.Showing.Parts lines (y ∷ []) journal → LineAt lines y journal
+    by : Parts lines (y ∷ []) journal → LineAt lines y journal
     by part = by_line part (first_line y [] part.back part.left)
 
 -- the hosts look the same in a state and in what it covers
@@ -162,7 +164,7 @@ elsewhere_or k seq (Answered h answer) = by (cases_eq h k) (settled_by answer) r
   where
     at_count : (m : ℕ) → (m ≡ seq + 1) ⊎ (m ≢ seq + 1) → (Some m ≡ Some (seq + 1)) ⊎ (Some m ≢ Some (seq + 1))
     at_count m (inl e) = inl (ap Some e)
-    at_count m (inr ne) = inr (λ e. ne (Rattle.std.proofs.lemmas.Option.same_Some m (seq + 1) e))
+    at_count m (inr ne) = inr (λ e. ne (same_Some m (seq + 1) e))
 
     none_count : None ≡ Some (seq + 1) → ⊥
     none_count e = cc
@@ -255,7 +257,7 @@ judges_first start = record {
 }
   where
     first : (x : Possible) (i : ℕ) → slice_get (first_possible start ∷ []) i ≡ Some x → IsPossible start [] x
-    first x zero e = sym (Rattle.std.proofs.lemmas.Option.same_Some (first_possible start) x e)
+    first x zero e = sym (same_Some (first_possible start) x e)
     first x (suc i) e = absurd cc
 
 -- what isn't told is shown all the same
@@ -279,8 +281,8 @@ untold_shows (y ∷ lines) (n ∷ notes) (inr out) = inr (inner_told n out.0, un
 pub judges_none : (start : Image) (history : List Note) → Judges start (untold_notes history) [] → IsExplained start history → ⊥
 judges_none start history judges explained = none (judges.complete (untold_notes j.0) shows (untold_all_again j.0) (fitting_from start [] j.0 j.2 j.3))
   where
-    j : (journal : List Note) × ShowsJournal history journal × Rattle.fam_judge.specs.Standing.AreStanding (length start) [] journal × Rattle.fam_judge.specs.Explained.AreAllowedForSome start [] journal
-    j = Rattle.fam_judge.proofs.Standing.Journals.explained_stands start history explained
+    j : (journal : List Note) × ShowsJournal history journal × AreStanding (length start) [] journal × AreAllowedForSome start [] journal
+    j = explained_stands start history explained
 
     shows : ShowsJournal (untold_notes history) (untold_notes j.0)
     shows = untold_shows history j.0 j.1
@@ -308,10 +310,10 @@ pub record StandsLast (start : Image) (xs : List Possible) (y : Note) : Type 0 w
 
 pub stands_last : (start : Image) (lines other : List Note) (n : Note) (xs : List Possible) → Judges start lines xs → untold_notes other ≡ lines
     → IsExplained start (other ++ n ∷ []) → StandsLast start xs (untold_note n)
-stands_last start lines other n xs judges told is = by (split_at lines (untold_note n) (untold_notes j.0) shown (alike_untold (untold_note n) n (Rattle.fam_judge.proofs.Untelling.untold_alike n)) (untold_all_again j.0))
+stands_last start lines other n xs judges told is = by (split_at lines (untold_note n) (untold_notes j.0) shown (alike_untold (untold_note n) n (untold_alike n)) (untold_all_again j.0))
   where
-    j : (journal : List Note) × ShowsJournal (other ++ n ∷ []) journal × Rattle.fam_judge.specs.Standing.AreStanding (length start) [] journal × Rattle.fam_judge.specs.Explained.AreAllowedForSome start [] journal
-    j = Rattle.fam_judge.proofs.Standing.Journals.explained_stands start (other ++ n ∷ []) is
+    j : (journal : List Note) × ShowsJournal (other ++ n ∷ []) journal × AreStanding (length start) [] journal × AreAllowedForSome start [] journal
+    j = explained_stands start (other ++ n ∷ []) is
 
     shown : ShowsJournal (lines ++ untold_note n ∷ []) (untold_notes j.0)
     shown =
