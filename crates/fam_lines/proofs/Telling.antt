@@ -35,7 +35,7 @@ use Rattle.fam_lines.specs.declared.line.Line.TheVariants as line
 use Rattle.fam_lines.specs.Behind.{IsNoteOf, IsWholeMade, IsWholeNote, further, behind_note, nothing}
 use Rattle.fam_lines.specs.Hosts.{face_of, faces_of, names_of}
 use Rattle.fam_lines.specs.Lines.{note_of, untold_of}
-use Rattle.fam_lines.specs.Resolved.{answer_with, answered_line, cause_of, is_told, is_told_cmd, line_with, lone, made_line, number_of, resolved, start_line, whole_params}
+use Rattle.fam_lines.specs.Resolved.{answer_with, answered_line, cause_of, is_bare, is_told, is_told_cmd, line_with, made_line, number_of, resolved, start_line, whole_params}
 use Rattle.fam_lines.proofs.Behind.{answer_is}
 use Rattle.fam_lines.proofs.Numbers.{number_names}
 
@@ -121,6 +121,15 @@ module _ (hosts : List SeenHost) where
   cause_is (refusal.MediaFault at) cause is = plain _ _ cause is refl
 
 -- Lines.
+
+-- a line that nothing follows
+abbrev pub lone : List Entry → Option Report → Option Line → Option Line
+lone entries report x = if is_bare entries report then x else None
+
+-- an answer, whether something follows or not
+pub either_way : (b : Bool) (o : Option Line) → (if b then o else o) ≡ o
+either_way true o = refl
+either_way false o = refl
 
 -- what a line is that is resolved
 pub record IsLine (hosts : List SeenHost) (t : ToldLine) (entries : List Entry) (report : Option Report) (l : Line) : Type 0 where
@@ -239,7 +248,7 @@ module _ (hosts : List SeenHost) (name : List ℕ) (entries : Vec Entry Global) 
   line_is told.Mark l is = going told.Mark line.Mark (λ h. refl) (λ h. refl) (λ h. tt) (λ h. refl) l is
   line_is (told.Found n) l is = going (told.Found n) (λ h. line.Found h n) (λ h. refl) (λ h. refl) (λ h. tt) (λ h. refl) l is
   line_is (told.Writes seq entry) l is = going (told.Writes seq entry) (λ h. line.Writes h seq entry) (λ h. refl) (λ h. refl) (λ h. tt) (λ h. refl) l is
-  line_is (told.Answered t) l is = answered_is t l is
+  line_is (told.Answered t) l is = answered_is t l (sym (either_way (is_bare entries.items report) _) ∙ is)
   line_is told.Stop l is = going told.Stop line.Stop (λ h. refl) (λ h. refl) (λ h. tt) (λ h. refl) l is
   line_is told.Halt l is = going told.Halt line.Halt (λ h. refl) (λ h. refl) (λ h. tt) (λ h. refl) l is
   line_is told.Umount l is = going told.Umount line.Umount (λ h. refl) (λ h. refl) (λ h. tt) (λ h. refl) l is

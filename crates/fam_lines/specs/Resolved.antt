@@ -181,24 +181,40 @@ abbrev pub answered_line : Option ℕ → Option HostAnswer → Option Line
 answered_line None answer = None
 answered_line (Some h) answer = option_map (line.Answered h) answer
 
--- a line that nothing follows
-abbrev pub lone : List Entry → Option Report → Option Line → Option Line
-lone entries report x = if is_bare entries report then x else None
+-- a line of the host of a name, whose number is `at`, where nothing follows
+abbrev pub bare_line : List SeenHost → Option ℕ → List ℕ → LineNote → Vec Entry Global → Option Report → Option Line
+bare_line hosts at name (told.Host uuid) entries report = Some (line.Host name uuid)
+bare_line hosts at name (told.Made p) entries report = made_line hosts at p
+bare_line hosts at name (told.Cut k) entries report = option_map (λ h. line.Cut h k) at
+bare_line hosts at name (told.Start cmd) entries report = start_line at cmd
+bare_line hosts at name told.Mark entries report = option_map line.Mark at
+bare_line hosts at name (told.Found n) entries report = option_map (λ h. line.Found h n) at
+bare_line hosts at name (told.Writes seq entry) entries report = option_map (λ h. line.Writes h seq entry) at
+bare_line hosts at name (told.Answered answer) entries report = answered_line at (answer_with answer entries report)
+bare_line hosts at name told.Stop entries report = option_map line.Stop at
+bare_line hosts at name told.Halt entries report = option_map line.Halt at
+bare_line hosts at name told.Umount entries report = option_map line.Umount at
+bare_line hosts at name (told.Refused why) entries report = option_map (line.Refused name) (cause_of hosts why)
 
--- a line of the host of a name, whose number is `at`, by what is told and what follows
+-- where something follows: an answer
+abbrev pub followed_line : Option ℕ → LineNote → Vec Entry Global → Option Report → Option Line
+followed_line at (told.Host uuid) entries report = None
+followed_line at (told.Made p) entries report = None
+followed_line at (told.Cut k) entries report = None
+followed_line at (told.Start cmd) entries report = None
+followed_line at told.Mark entries report = None
+followed_line at (told.Found n) entries report = None
+followed_line at (told.Writes seq entry) entries report = None
+followed_line at (told.Answered answer) entries report = answered_line at (answer_with answer entries report)
+followed_line at told.Stop entries report = None
+followed_line at told.Halt entries report = None
+followed_line at told.Umount entries report = None
+followed_line at (told.Refused why) entries report = None
+
+-- by what is told and what follows
 abbrev pub line_with : List SeenHost → Option ℕ → List ℕ → LineNote → Vec Entry Global → Option Report → Option Line
-line_with hosts at name (told.Host uuid) entries report = lone entries.items report (Some (line.Host name uuid))
-line_with hosts at name (told.Made p) entries report = lone entries.items report (made_line hosts at p)
-line_with hosts at name (told.Cut k) entries report = lone entries.items report (option_map (λ h. line.Cut h k) at)
-line_with hosts at name (told.Start cmd) entries report = lone entries.items report (start_line at cmd)
-line_with hosts at name told.Mark entries report = lone entries.items report (option_map line.Mark at)
-line_with hosts at name (told.Found n) entries report = lone entries.items report (option_map (λ h. line.Found h n) at)
-line_with hosts at name (told.Writes seq entry) entries report = lone entries.items report (option_map (λ h. line.Writes h seq entry) at)
-line_with hosts at name (told.Answered answer) entries report = answered_line at (answer_with answer entries report)
-line_with hosts at name told.Stop entries report = lone entries.items report (option_map line.Stop at)
-line_with hosts at name told.Halt entries report = lone entries.items report (option_map line.Halt at)
-line_with hosts at name told.Umount entries report = lone entries.items report (option_map line.Umount at)
-line_with hosts at name (told.Refused why) entries report = lone entries.items report (option_map (line.Refused name) (cause_of hosts why))
+line_with hosts at name note entries report =
+    if is_bare entries.items report then bare_line hosts at name note entries report else followed_line at note entries report
 
 -- so of a line
 abbrev pub resolved : List SeenHost → ToldLine → Vec Entry Global → Option Report → Option Line
