@@ -28,10 +28,10 @@ use Rattle.fam_lines.specs.Behind.{Further, IsNoteOf, IsWholeAnswer, IsWholeMade
 use Rattle.fam_lines.specs.Hosts.{face_of, faces_of, names_of}
 use Rattle.fam_lines.specs.Lines.{note_of}
 use Rattle.fam_lines.specs.Named.{IsName, NamesHosts, NamesOther}
-use Rattle.fam_lines.specs.Resolved.{answer_with, answered_line, cause_of, is_told, made_line, is_bare, number_of, resolved, start_line, whole_params}
+use Rattle.fam_lines.specs.Resolved.{answer_with, answered_line, cause_of, is_told, made_line, number_of, resolved, start_line, whole_params}
 use Rattle.fam_lines.proofs.Behind.{gives_own}
 use Rattle.fam_lines.proofs.Numbers.{own_number}
-use Rattle.fam_lines.proofs.Telling.{command_tells, either_way, lone}
+use Rattle.fam_lines.proofs.Telling.{command_tells, lone}
 
 -- what is told of a command is told of some
 told_so : (c : Cmd) → is_told (told_of_command c) ≡ true
@@ -121,7 +121,7 @@ module _ (hosts : List SeenHost) (distinct : AreDistinctNames (names_of hosts)) 
         let own = gives_own entries report a behind whole in
         record {
           line = line.Answered h own.answer;
-          is = either_way (is_bare entries.items report) _ ∙ ap₂ answered_line (numbered h named) own.is;
+          is = ap₂ answered_line (numbered h named) own.is;
           same = ap (λ (x : Answer). told_note (note.Answered h x)) own.same;
         }
 

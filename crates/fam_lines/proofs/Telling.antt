@@ -126,11 +126,6 @@ module _ (hosts : List SeenHost) where
 abbrev pub lone : List Entry → Option Report → Option Line → Option Line
 lone entries report x = if is_bare entries report then x else None
 
--- an answer, whether something follows or not
-pub either_way : (b : Bool) (o : Option Line) → (if b then o else o) ≡ o
-either_way true o = refl
-either_way false o = refl
-
 -- what a line is that is resolved
 pub record IsLine (hosts : List SeenHost) (t : ToldLine) (entries : List Entry) (report : Option Report) (l : Line) : Type 0 where
   pub tells : IsNoteOf (names_of hosts) t (further entries report) (note_of l)
@@ -248,7 +243,7 @@ module _ (hosts : List SeenHost) (name : List ℕ) (entries : Vec Entry Global) 
   line_is told.Mark l is = going told.Mark line.Mark (λ h. refl) (λ h. refl) (λ h. tt) (λ h. refl) l is
   line_is (told.Found n) l is = going (told.Found n) (λ h. line.Found h n) (λ h. refl) (λ h. refl) (λ h. tt) (λ h. refl) l is
   line_is (told.Writes seq entry) l is = going (told.Writes seq entry) (λ h. line.Writes h seq entry) (λ h. refl) (λ h. refl) (λ h. tt) (λ h. refl) l is
-  line_is (told.Answered t) l is = answered_is t l (sym (either_way (is_bare entries.items report) _) ∙ is)
+  line_is (told.Answered t) l is = answered_is t l is
   line_is told.Stop l is = going told.Stop line.Stop (λ h. refl) (λ h. refl) (λ h. tt) (λ h. refl) l is
   line_is told.Halt l is = going told.Halt line.Halt (λ h. refl) (λ h. refl) (λ h. tt) (λ h. refl) l is
   line_is told.Umount l is = going told.Umount line.Umount (λ h. refl) (λ h. refl) (λ h. tt) (λ h. refl) l is

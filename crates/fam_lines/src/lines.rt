@@ -5,7 +5,7 @@ ghost use Rattle.std.specs.Global.{Global};
 ghost use Rattle.fam_base.specs.declared.entry.Entry.{Entry};
 ghost use Rattle.fam_rules.specs.declared.answers.Report.{Report};
 ghost use Rattle.fam_journal.specs.Calls.{host_limit};
-ghost use Rattle.fam_lines.specs.Resolved.{answered_line, bare_line, cause_of, followed_line, is_told, is_told_cmd, is_told_content, line_with, made_line, number_of, start_line, whole_params};
+ghost use Rattle.fam_lines.specs.Resolved.{answered_line, cause_of, is_answer, is_told, is_told_cmd, is_told_content, line_with, made_line, number_of, row_line, start_line, whole_params};
 ghost use Rattle.fam_lines.specs.declared.line.Line.TheVariants as line;
 
 use crate::answer::HostAnswer;
@@ -152,7 +152,7 @@ fn refused(name: HostName, cause: Option<Refusal>) -> Option<Line>
     }
 }
 
-/// A line of a declared host, where nothing follows.
+/// A line of a declared host.
 fn declared_line(
     hosts: &[SeenHost],
     at: usize,
@@ -162,7 +162,7 @@ fn declared_line(
     report: Option<Report>,
 ) -> Option<Line>
     requires few { length hosts.now ≤ host_limit }
-    ensures { result ≡ bare_line hosts.now (Some at) name note entries report }
+    ensures { result ≡ row_line hosts.now (Some at) name note entries report }
 {
     match note {
         LineNote::Host(uuid) => Some(Line::Host(name, uuid)),
@@ -184,10 +184,10 @@ fn declared_line(
     }
 }
 
-/// A line of a host that isn't declared, where nothing follows.
+/// A line of a host that isn't declared.
 fn undeclared_line(hosts: &[SeenHost], name: HostName, note: LineNote) -> Option<Line>
     requires few { length hosts.now ≤ host_limit }
-    ensures { (entries : Vec Entry Global) (report : Option Report) → result ≡ bare_line hosts.now None name note entries report }
+    ensures { (entries : Vec Entry Global) (report : Option Report) → result ≡ row_line hosts.now None name note entries report }
 {
     match note {
         LineNote::Host(uuid) => Some(Line::Host(name, uuid)),
@@ -205,28 +205,13 @@ fn undeclared_line(hosts: &[SeenHost], name: HostName, note: LineNote) -> Option
     }
 }
 
-/// A line that something follows: an answer of a declared host.
-fn followed_line(
-    at: Option<usize>,
-    note: LineNote,
-    entries: Vec<Entry>,
-    report: Option<Report>,
-) -> Option<Line>
-    ensures { result ≡ followed_line at note entries report }
+/// Whether it is an answer.
+fn is_answer(note: &LineNote) -> bool
+    ensures { result ≡ is_answer note.now }
 {
     match note {
-        LineNote::Answered(told) => answered(at?, answer_with(told, entries, report)),
-        LineNote::Host(_uuid) => None,
-        LineNote::Refused(_why) => None,
-        LineNote::Made(_p) => None,
-        LineNote::Cut(_k) => None,
-        LineNote::Start(_cmd) => None,
-        LineNote::Mark => None,
-        LineNote::Found(_n) => None,
-        LineNote::Writes { seq: _seq, entry: _entry } => None,
-        LineNote::Stop => None,
-        LineNote::Halt => None,
-        LineNote::Umount => None,
+        LineNote::Answered(_) => true,
+        _ => false,
     }
 }
 
@@ -242,8 +227,8 @@ pub(crate) fn line_with(
     requires few { length hosts.now ≤ host_limit }
     ensures { result ≡ line_with hosts.now at name note entries report }
 {
-    if !is_bare(&entries, &report) {
-        return followed_line(at, note, entries, report);
+    if !is_answer(&note) && !is_bare(&entries, &report) {
+        return None;
     }
     match at {
         Some(at) => declared_line(hosts, at, name, note, entries, report),
