@@ -16,7 +16,6 @@ use Rattle.fam_journal.specs.Notes.{Answer, Note}
 use Rattle.fam_outcomes.specs.Texts.{host_name}
 use Rattle.fam_history.specs.declared.note.ToldLine.{ToldLine}
 use Rattle.fam_history.specs.Told.{told_of_command}
-use Rattle.fam_history.specs.ToldAnswers.{answer_told}
 use Rattle.fam_history.specs.ToldNotes.{AreDistinctNames, line_told, params_told}
 use Rattle.fam_history.specs.ToldRefusals.{told_of_refusal}
 use Rattle.fam_judge.specs.Alike.{Begins, told_note}
@@ -28,7 +27,7 @@ use Rattle.fam_lines.specs.Behind.{Further, IsNoteOf, IsWholeAnswer, IsWholeMade
 use Rattle.fam_lines.specs.Hosts.{face_of, faces_of, names_of}
 use Rattle.fam_lines.specs.Lines.{note_of}
 use Rattle.fam_lines.specs.Named.{IsName, NamesHosts, NamesOther}
-use Rattle.fam_lines.specs.Resolved.{answer_with, answered_line, cause_of, is_told, made_line, number_of, resolved, start_line, whole_params}
+use Rattle.fam_lines.specs.Resolved.{answered_line, cause_of, is_told, made_line, number_of, resolved, start_line, whole_params}
 use Rattle.fam_lines.proofs.Behind.{gives_own}
 use Rattle.fam_lines.proofs.Numbers.{own_number}
 use Rattle.fam_lines.proofs.Telling.{command_tells, lone}

@@ -192,16 +192,7 @@ fn undeclared_line(hosts: &[SeenHost], name: HostName, note: LineNote) -> Option
     match note {
         LineNote::Host(uuid) => Some(Line::Host(name, uuid)),
         LineNote::Refused(why) => refused(name, cause_of(hosts, why)),
-        LineNote::Made(_p) => None,
-        LineNote::Cut(_k) => None,
-        LineNote::Start(_cmd) => None,
-        LineNote::Mark => None,
-        LineNote::Found(_n) => None,
-        LineNote::Writes { seq: _seq, entry: _entry } => None,
-        LineNote::Answered(_told) => None,
-        LineNote::Stop => None,
-        LineNote::Halt => None,
-        LineNote::Umount => None,
+        _ => None,
     }
 }
 
