@@ -261,11 +261,13 @@ pub result_tells : (hosts : List SeenHost) (t : ToldLine) (entries : Vec Entry G
 result_tells hosts t entries report None is = tt
 result_tells hosts t entries report (Some l) is = (resolved_is hosts t entries report l (sym is)).tells
 
+-- it is whole
 pub result_whole : (hosts : List SeenHost) (t : ToldLine) (entries : Vec Entry Global) (report : Option Report) (o : Option Line) → o ≡ resolved hosts t entries report
     → IfSome o (λ (l : Line). IsWholeNote hosts (note_of l))
 result_whole hosts t entries report None is = tt
 result_whole hosts t entries report (Some l) is = (resolved_is hosts t entries report l (sym is)).whole
 
+-- and nothing of it is untold
 pub result_untold : (hosts : List SeenHost) (t : ToldLine) (entries : Vec Entry Global) (report : Option Report) (o : Option Line) → o ≡ resolved hosts t entries report
     → IfSome o (λ (l : Line). untold_note (note_of l) ≡ note_of l)
 result_untold hosts t entries report None is = tt
