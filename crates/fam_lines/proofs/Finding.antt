@@ -16,7 +16,6 @@ use Rattle.fam_journal.specs.Notes.{Answer, Note}
 use Rattle.fam_outcomes.specs.Texts.{host_name}
 use Rattle.fam_history.specs.declared.note.ToldLine.{ToldLine}
 use Rattle.fam_history.specs.Told.{told_of_command}
-use Rattle.fam_history.specs.ToldAnswers.{answer_told}
 use Rattle.fam_history.specs.ToldNotes.{AreDistinctNames, line_told, params_told}
 use Rattle.fam_history.specs.ToldRefusals.{told_of_refusal}
 use Rattle.fam_judge.specs.Alike.{Begins, told_note}
@@ -28,10 +27,10 @@ use Rattle.fam_lines.specs.Behind.{Further, IsNoteOf, IsWholeAnswer, IsWholeMade
 use Rattle.fam_lines.specs.Hosts.{face_of, faces_of, names_of}
 use Rattle.fam_lines.specs.Lines.{note_of}
 use Rattle.fam_lines.specs.Named.{IsName, NamesHosts, NamesOther}
-use Rattle.fam_lines.specs.Resolved.{answer_with, answered_line, cause_of, is_told, lone, made_line, number_of, resolved, start_line, whole_params}
+use Rattle.fam_lines.specs.Resolved.{answered_line, cause_of, is_told, made_line, number_of, resolved, start_line, whole_params}
 use Rattle.fam_lines.proofs.Behind.{gives_own}
 use Rattle.fam_lines.proofs.Numbers.{own_number}
-use Rattle.fam_lines.proofs.Telling.{command_tells}
+use Rattle.fam_lines.proofs.Telling.{command_tells, lone}
 
 -- what is told of a command is told of some
 told_so : (c : Cmd) → is_told (told_of_command c) ≡ true
@@ -116,7 +115,7 @@ module _ (hosts : List SeenHost) (distinct : AreDistinctNames (names_of hosts)) 
         (ap (Begins h) (command_tells (told_of_command c) (told_so c)))
 
     finds_answer : (h : ℕ) (a : Answer) → IsName (host_name (names_of hosts) h) → behind_answer a ≡ further entries.items report → IsWholeAnswer a
-        → Finds (answered_line (number_of hosts (host_name (names_of hosts) h)) (answer_with (answer_told a) entries report)) (note.Answered h a)
+        → Finds (resolved hosts (line_told (names_of hosts) (note.Answered h a)) entries report) (note.Answered h a)
     finds_answer h a named behind whole =
         let own = gives_own entries report a behind whole in
         record {

@@ -35,7 +35,7 @@ use Rattle.fam_lines.specs.declared.line.Line.TheVariants as line
 use Rattle.fam_lines.specs.Behind.{IsNoteOf, IsWholeMade, IsWholeNote, further, behind_note, nothing}
 use Rattle.fam_lines.specs.Hosts.{face_of, faces_of, names_of}
 use Rattle.fam_lines.specs.Lines.{note_of, untold_of}
-use Rattle.fam_lines.specs.Resolved.{answer_with, answered_line, cause_of, is_told, is_told_cmd, line_with, lone, made_line, number_of, resolved, start_line, whole_params}
+use Rattle.fam_lines.specs.Resolved.{answer_with, answered_line, cause_of, is_bare, is_told, is_told_cmd, line_with, made_line, number_of, resolved, start_line, whole_params}
 use Rattle.fam_lines.proofs.Behind.{answer_is}
 use Rattle.fam_lines.proofs.Numbers.{number_names}
 
@@ -121,6 +121,10 @@ module _ (hosts : List SeenHost) where
   cause_is (refusal.MediaFault at) cause is = plain _ _ cause is refl
 
 -- Lines.
+
+-- a line that nothing follows
+abbrev pub lone : List Entry → Option Report → Option Line → Option Line
+lone entries report x = if is_bare entries report then x else None
 
 -- what a line is that is resolved
 pub record IsLine (hosts : List SeenHost) (t : ToldLine) (entries : List Entry) (report : Option Report) (l : Line) : Type 0 where
@@ -257,11 +261,13 @@ pub result_tells : (hosts : List SeenHost) (t : ToldLine) (entries : Vec Entry G
 result_tells hosts t entries report None is = tt
 result_tells hosts t entries report (Some l) is = (resolved_is hosts t entries report l (sym is)).tells
 
+-- it is whole
 pub result_whole : (hosts : List SeenHost) (t : ToldLine) (entries : Vec Entry Global) (report : Option Report) (o : Option Line) → o ≡ resolved hosts t entries report
     → IfSome o (λ (l : Line). IsWholeNote hosts (note_of l))
 result_whole hosts t entries report None is = tt
 result_whole hosts t entries report (Some l) is = (resolved_is hosts t entries report l (sym is)).whole
 
+-- and nothing of it is untold
 pub result_untold : (hosts : List SeenHost) (t : ToldLine) (entries : Vec Entry Global) (report : Option Report) (o : Option Line) → o ≡ resolved hosts t entries report
     → IfSome o (λ (l : Line). untold_note (note_of l) ≡ note_of l)
 result_untold hosts t entries report None is = tt

@@ -112,6 +112,7 @@ keyed_fold : (tree : Tree) (es : List Entry) → IsKeyed tree → IsKeyed (fold 
 keyed_fold tree [] keyed = keyed
 keyed_fold tree (e ∷ es) keyed = keyed_fold (with_entry tree e) es (keyed_with tree e keyed)
 
+-- of entries, in whatever order
 pub keyed_replay : (es : List Entry) → IsKeyed (replay es)
 keyed_replay es = keyed_fold finmap.empty es (tree_is_keyed [] tt)
 

@@ -109,6 +109,7 @@ made : (o : Option Face) (lines : ℕ) (p : Params) → OfFace o (λ f. IsMadeBy
 made None lines p is = absurd is
 made (Some f) lines p is = record { slots = is.slots; master = is.master }
 
+-- of a note that stands and fits
 pub whole_note : (lines : ℕ) (hosts : List SeenHost) (shapes : List HostShape) (past : Past) (n : Note) → faces shapes ≡ faces_of hosts → MayStand lines shapes n → Fits past n
     → IsWholeNote hosts n
 whole_note lines hosts shapes past (note.Made h p) seen stands fits =

@@ -1,5 +1,5 @@
 -- The line with numbers in place of names, case by case. `specs/Behind.antt` says what it has to be.
-use Rattle.std.specs.Prelude.{ℕ, ◌&&◌, Bool, true, false, List, [], ◌∷◌, Option, Some, None, Vec, if◌then◌else◌, is_none, not, option_map, slice_get}
+use Rattle.std.specs.Prelude.{ℕ, ◌&&◌, ◌||◌, Bool, true, false, List, [], ◌∷◌, Option, Some, None, Vec, if◌then◌else◌, is_none, not, option_map, slice_get}
 use Rattle.std.specs.Global.{Global}
 use Rattle.std.specs.Ordering.{is_lt}
 use Rattle.fam_base.specs.declared.cmd.Cmd.{Cmd}
@@ -181,24 +181,40 @@ abbrev pub answered_line : Option ℕ → Option HostAnswer → Option Line
 answered_line None answer = None
 answered_line (Some h) answer = option_map (line.Answered h) answer
 
--- a line that nothing follows
-abbrev pub lone : List Entry → Option Report → Option Line → Option Line
-lone entries report x = if is_bare entries report then x else None
+-- a line of the host of a name, whose number is `at`; only what was answered is told by what follows
+abbrev pub row_line : List SeenHost → Option ℕ → List ℕ → LineNote → Vec Entry Global → Option Report → Option Line
+row_line hosts at name (told.Host uuid) entries report = Some (line.Host name uuid)
+row_line hosts at name (told.Made p) entries report = made_line hosts at p
+row_line hosts at name (told.Cut k) entries report = option_map (λ h. line.Cut h k) at
+row_line hosts at name (told.Start cmd) entries report = start_line at cmd
+row_line hosts at name told.Mark entries report = option_map line.Mark at
+row_line hosts at name (told.Found n) entries report = option_map (λ h. line.Found h n) at
+row_line hosts at name (told.Writes seq entry) entries report = option_map (λ h. line.Writes h seq entry) at
+row_line hosts at name (told.Answered answer) entries report = answered_line at (answer_with answer entries report)
+row_line hosts at name told.Stop entries report = option_map line.Stop at
+row_line hosts at name told.Halt entries report = option_map line.Halt at
+row_line hosts at name told.Umount entries report = option_map line.Umount at
+row_line hosts at name (told.Refused why) entries report = option_map (line.Refused name) (cause_of hosts why)
 
--- a line of the host of a name, whose number is `at`, by what is told and what follows
+-- an answer
+abbrev pub is_answer : LineNote → Bool
+is_answer (told.Host uuid) = false
+is_answer (told.Made p) = false
+is_answer (told.Cut k) = false
+is_answer (told.Start cmd) = false
+is_answer told.Mark = false
+is_answer (told.Found n) = false
+is_answer (told.Writes seq entry) = false
+is_answer (told.Answered answer) = true
+is_answer told.Stop = false
+is_answer told.Halt = false
+is_answer told.Umount = false
+is_answer (told.Refused why) = false
+
+-- by what is told and what follows: something follows an answer alone
 abbrev pub line_with : List SeenHost → Option ℕ → List ℕ → LineNote → Vec Entry Global → Option Report → Option Line
-line_with hosts at name (told.Host uuid) entries report = lone entries.items report (Some (line.Host name uuid))
-line_with hosts at name (told.Made p) entries report = lone entries.items report (made_line hosts at p)
-line_with hosts at name (told.Cut k) entries report = lone entries.items report (option_map (λ h. line.Cut h k) at)
-line_with hosts at name (told.Start cmd) entries report = lone entries.items report (start_line at cmd)
-line_with hosts at name told.Mark entries report = lone entries.items report (option_map line.Mark at)
-line_with hosts at name (told.Found n) entries report = lone entries.items report (option_map (λ h. line.Found h n) at)
-line_with hosts at name (told.Writes seq entry) entries report = lone entries.items report (option_map (λ h. line.Writes h seq entry) at)
-line_with hosts at name (told.Answered answer) entries report = answered_line at (answer_with answer entries report)
-line_with hosts at name told.Stop entries report = lone entries.items report (option_map line.Stop at)
-line_with hosts at name told.Halt entries report = lone entries.items report (option_map line.Halt at)
-line_with hosts at name told.Umount entries report = lone entries.items report (option_map line.Umount at)
-line_with hosts at name (told.Refused why) entries report = lone entries.items report (option_map (line.Refused name) (cause_of hosts why))
+line_with hosts at name note entries report =
+    if is_answer note || is_bare entries.items report then row_line hosts at name note entries report else None
 
 -- so of a line
 abbrev pub resolved : List SeenHost → ToldLine → Vec Entry Global → Option Report → Option Line

@@ -22,7 +22,7 @@ fn is_behind(before: &Option<Path>, path: &Path) -> bool
     ensures { result ≡ is_behind before.now path.now }
 {
     match before {
-        Some(before) => *before < *path,
+        Some(before) => before.cmp(path).is_lt(),
         None => true,
     }
 }

@@ -1,8 +1,11 @@
 //! Lines with numbers in place of names.
 
-ghost use Rattle.std.specs.Prelude.{◌≡◌, ◌≤◌, length, option_map};
+ghost use Rattle.std.specs.Prelude.{◌≡◌, ◌≤◌, None, Option, Some, Vec, length, option_map};
+ghost use Rattle.std.specs.Global.{Global};
+ghost use Rattle.fam_base.specs.declared.entry.Entry.{Entry};
+ghost use Rattle.fam_rules.specs.declared.answers.Report.{Report};
 ghost use Rattle.fam_journal.specs.Calls.{host_limit};
-ghost use Rattle.fam_lines.specs.Resolved.{answered_line, cause_of, is_told, is_told_cmd, is_told_content, line_with, lone, made_line, number_of, start_line, whole_params};
+ghost use Rattle.fam_lines.specs.Resolved.{answered_line, cause_of, is_answer, is_told, is_told_cmd, is_told_content, line_with, made_line, number_of, row_line, start_line, whole_params};
 ghost use Rattle.fam_lines.specs.declared.line.Line.TheVariants as line;
 
 use crate::answer::HostAnswer;
@@ -109,100 +112,98 @@ fn cause_of(hosts: &[SeenHost], why: ToldRefusal) -> Option<Refusal>
 }
 
 /// A host made a file system.
-fn made(hosts: &[SeenHost], at: Option<usize>, p: &ToldParams) -> Option<Line>
-    ensures { result ≡ made_line hosts.now at p.now }
+fn made(hosts: &[SeenHost], at: usize, p: &ToldParams) -> Option<Line>
+    ensures { result ≡ made_line hosts.now (Some at) p.now }
 {
-    let Some(at) = at else {
-        return None;
-    };
     match hosts.get(at) {
         Some(host) => Some(Line::Made(at, whole_params(host.uuid, p))),
         None => None,
     }
 }
 
-/// It halted in making one.
-fn cut(at: Option<usize>, k: u64) -> Option<Line>
-    ensures { result ≡ option_map (λ h. line.Cut h k) at }
-{
-    Some(Line::Cut(at?, k))
-}
-
 /// It begins a command.
-fn start(at: Option<usize>, cmd: ToldCommand) -> Option<Line>
-    ensures { result ≡ start_line at cmd }
+fn start(at: usize, cmd: ToldCommand) -> Option<Line>
+    ensures { result ≡ start_line (Some at) cmd }
 {
-    if !is_told(&cmd) {
-        return None;
+    if is_told(&cmd) {
+        Some(Line::Start(at, cmd))
+    } else {
+        None
     }
-    Some(Line::Start(at?, cmd))
-}
-
-/// Its task dropped the gate's line.
-fn mark(at: Option<usize>) -> Option<Line>
-    ensures { result ≡ option_map line.Mark at }
-{
-    Some(Line::Mark(at?))
-}
-
-/// It has found so many entries.
-fn found(at: Option<usize>, n: u64) -> Option<Line>
-    ensures { result ≡ option_map (λ h. line.Found h n) at }
-{
-    Some(Line::Found(at?, n))
-}
-
-/// It goes on to append an entry.
-fn writes(at: Option<usize>, seq: u64, entry: Entry) -> Option<Line>
-    ensures { result ≡ option_map (λ h. line.Writes h seq entry) at }
-{
-    Some(Line::Writes {
-        host: at?,
-        seq,
-        entry,
-    })
 }
 
 /// It was answered.
-fn answered(at: Option<usize>, answer: Option<HostAnswer>) -> Option<Line>
-    ensures { result ≡ answered_line at answer }
+fn answered(at: usize, answer: Option<HostAnswer>) -> Option<Line>
+    ensures { result ≡ answered_line (Some at) answer }
 {
-    let Some(at) = at else {
-        return None;
-    };
-    Some(Line::Answered(at, answer?))
-}
-
-fn stop(at: Option<usize>) -> Option<Line>
-    ensures { result ≡ option_map line.Stop at }
-{
-    Some(Line::Stop(at?))
-}
-
-fn halt(at: Option<usize>) -> Option<Line>
-    ensures { result ≡ option_map line.Halt at }
-{
-    Some(Line::Halt(at?))
-}
-
-fn umount(at: Option<usize>) -> Option<Line>
-    ensures { result ≡ option_map line.Umount at }
-{
-    Some(Line::Umount(at?))
+    match answer {
+        Some(answer) => Some(Line::Answered(at, answer)),
+        None => None,
+    }
 }
 
 /// A call was refused.
 fn refused(name: HostName, cause: Option<Refusal>) -> Option<Line>
     ensures { result ≡ option_map (line.Refused name) cause }
 {
-    Some(Line::Refused(name, cause?))
+    match cause {
+        Some(cause) => Some(Line::Refused(name, cause)),
+        None => None,
+    }
 }
 
-/// A line that nothing follows.
-fn lone(entries: &[Entry], report: &Option<Report>, line: Option<Line>) -> Option<Line>
-    ensures { result ≡ lone entries.now report.now line }
+/// A line of a declared host.
+fn declared_line(
+    hosts: &[SeenHost],
+    at: usize,
+    name: HostName,
+    note: LineNote,
+    entries: Vec<Entry>,
+    report: Option<Report>,
+) -> Option<Line>
+    requires few { length hosts.now ≤ host_limit }
+    ensures { result ≡ row_line hosts.now (Some at) name note entries report }
 {
-    if is_bare(entries, report) { line } else { None }
+    match note {
+        LineNote::Host(uuid) => Some(Line::Host(name, uuid)),
+        LineNote::Made(p) => made(hosts, at, &p),
+        LineNote::Cut(k) => Some(Line::Cut(at, k)),
+        LineNote::Start(cmd) => start(at, cmd),
+        LineNote::Mark => Some(Line::Mark(at)),
+        LineNote::Found(n) => Some(Line::Found(at, n)),
+        LineNote::Writes { seq, entry } => Some(Line::Writes {
+            host: at,
+            seq,
+            entry,
+        }),
+        LineNote::Answered(told) => answered(at, answer_with(told, entries, report)),
+        LineNote::Stop => Some(Line::Stop(at)),
+        LineNote::Halt => Some(Line::Halt(at)),
+        LineNote::Umount => Some(Line::Umount(at)),
+        LineNote::Refused(why) => refused(name, cause_of(hosts, why)),
+    }
+}
+
+/// A line of a host that isn't declared.
+fn undeclared_line(hosts: &[SeenHost], name: HostName, note: LineNote) -> Option<Line>
+    requires few { length hosts.now ≤ host_limit }
+    ensures { (entries : Vec Entry Global) (report : Option Report) → result ≡ row_line hosts.now None name note entries report }
+{
+    match note {
+        LineNote::Host(uuid) => Some(Line::Host(name, uuid)),
+        LineNote::Refused(why) => refused(name, cause_of(hosts, why)),
+        _ => None,
+    }
+}
+
+/// Whether it is an answer.
+fn is_answer(note: &LineNote) -> bool
+    ensures { result ≡ is_answer note.now }
+{
+    match note {
+        LineNote::Answered(_) => true,
+        _ => false,
+    }
 }
 
 /// A line of the host of a name and number, by what is told and what follows.
@@ -217,18 +218,11 @@ pub(crate) fn line_with(
     requires few { length hosts.now ≤ host_limit }
     ensures { result ≡ line_with hosts.now at name note entries report }
 {
-    match note {
-        LineNote::Host(uuid) => lone(&entries, &report, Some(Line::Host(name, uuid))),
-        LineNote::Made(p) => lone(&entries, &report, made(hosts, at, &p)),
-        LineNote::Cut(k) => lone(&entries, &report, cut(at, k)),
-        LineNote::Start(cmd) => lone(&entries, &report, start(at, cmd)),
-        LineNote::Mark => lone(&entries, &report, mark(at)),
-        LineNote::Found(n) => lone(&entries, &report, found(at, n)),
-        LineNote::Writes { seq, entry } => lone(&entries, &report, writes(at, seq, entry)),
-        LineNote::Answered(told) => answered(at, answer_with(told, entries, report)),
-        LineNote::Stop => lone(&entries, &report, stop(at)),
-        LineNote::Halt => lone(&entries, &report, halt(at)),
-        LineNote::Umount => lone(&entries, &report, umount(at)),
-        LineNote::Refused(why) => lone(&entries, &report, refused(name, cause_of(hosts, why))),
+    if !is_answer(&note) && !is_bare(&entries, &report) {
+        return None;
+    }
+    match at {
+        Some(at) => declared_line(hosts, at, name, note, entries, report),
+        None => undeclared_line(hosts, name, note),
     }
 }
