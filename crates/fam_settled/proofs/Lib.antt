@@ -2,3 +2,4 @@ pub mod Files
 pub mod Choices
 pub mod Fills
 pub mod Sources
+pub mod Finding

@@ -6,8 +6,11 @@
 
 mod against;
 mod agree;
+mod among;
 mod bytes;
 mod contents;
+
+mod listed;
 mod log;
 mod told;
 mod verified;
