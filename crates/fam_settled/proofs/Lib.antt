@@ -3,3 +3,4 @@ pub mod Choices
 pub mod Fills
 pub mod Sources
 pub mod Finding
+pub mod Replies

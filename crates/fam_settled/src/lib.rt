@@ -12,6 +12,7 @@ mod contents;
 
 mod listed;
 mod log;
+mod questions;
 mod told;
 mod verified;
 
