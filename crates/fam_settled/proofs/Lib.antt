@@ -4,3 +4,5 @@ pub mod Fills
 pub mod Sources
 pub mod Finding
 pub mod Replies
+pub mod Counts
+pub mod OwnEntries

@@ -4,15 +4,16 @@
 //! is said by fam_judge, `specs/Fitting.antt`: a byte that isn't told may be any.
 #![tactic(auto)]
 
+mod acknowledged;
 mod against;
 mod agree;
 mod among;
 mod bytes;
 mod contents;
-
 mod listed;
 mod log;
 mod questions;
+mod reports;
 mod told;
 mod verified;
 
