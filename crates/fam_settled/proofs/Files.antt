@@ -1,5 +1,5 @@
 -- Entries with their bytes.
-use Rattle.std.proofs.Common.{◌≡◌, ℕ, zero, suc, ◌+◌, ◌<◌, ◌≤◌, List, [], ◌∷◌, ◌++◌, length, take, get_or, map, Option, Some, None, refl, sym, ap, ap₂, subst, ◌∙◌, inl, inr, arith}
+use Rattle.std.proofs.Common.{◌≡◌, ℕ, zero, suc, ◌+◌, ◌≤◌, List, [], ◌∷◌, ◌++◌, length, take, Option, Some, None, refl, sym, ap, ap₂, ◌∙◌, arith}
 use Rattle.std.specs.List.{slice_get}
 use Rattle.std.proofs.lemmas.List.{length-append, map-append, take-append-le, take-map}
 use Rattle.std.proofs.lemmas.Option.{slice_get-get_or}
@@ -8,7 +8,6 @@ use Rattle.fam_base.specs.declared.entry.Entry.{Entry}
 use Rattle.fam_rules.specs.Asks.{File, entries_of}
 use Rattle.fam_journal.specs.Past.{with_pending}
 use Rattle.fam_settled.specs.declared.bytes.Bytes.{Bytes}
-use Rattle.fam_settled.specs.declared.bytes.Bytes.TheVariants.{Zero}
 use Rattle.fam_settled.specs.declared.bytes.Filed.{Filed}
 use Rattle.fam_settled.specs.Bytes.{file_of}
 use Rattle.fam_settled.specs.Settled.{all_of, filed, files_of, history_of, Settled}

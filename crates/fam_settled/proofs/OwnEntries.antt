@@ -1,14 +1,14 @@
 -- Which entry a host may be acknowledged.
-use Rattle.std.proofs.Common.{◌≡◌, ◌≢◌, ◌↔◌, ℕ, ◌+◌, List, [], ◌∷◌, ◌++◌, length, Option, None, Some, option_map, refl, sym, ap, ap₂, subst, ◌∙◌, arith}
+use Rattle.std.proofs.Common.{◌≡◌, ◌≢◌, ◌↔◌, ℕ, ◌+◌, List, [], ◌∷◌, ◌++◌, length, Option, None, Some, option_map, sym, ap, subst, ◌∙◌, arith}
 use Rattle.std.specs.List.{slice_get}
 use Rattle.std.proofs.lemmas.List.{length-append}
 use Rattle.std.proofs.lemmas.Option.{slice_get-get_or, slice_get-map}
 use Rattle.std.proofs.Math.Seq.{get_or-append_seam}
 use Rattle.fam_base.specs.declared.entry.Entry.{Entry}
 use Rattle.fam_journal.specs.Legal.{AppendedAllowed, IsAcknowledged}
-use Rattle.fam_journal.specs.Past.{HostPast, Sound, State, acknowledges, with_pending}
+use Rattle.fam_journal.specs.Past.{HostPast, State, acknowledges, with_pending}
 use Rattle.fam_protocol.specs.After.{Named}
-use Rattle.fam_rules.specs.Asks.{File, entries_of}
+use Rattle.fam_rules.specs.Asks.{File}
 use Rattle.fam_settled.specs.declared.bytes.Filed.{Filed}
 use Rattle.fam_settled.specs.Bytes.{file_of}
 use Rattle.fam_settled.specs.Settled.{Settled, filed, history_of, joined, state_of}

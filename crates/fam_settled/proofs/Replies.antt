@@ -1,17 +1,16 @@
 -- What a journal's answer tells, and which one fits.
 use Rattle.std.proofs.Common.{◌≡◌, ◌↔◌, ℕ, List, [], length, Option, Some, None, refl, sym, ap, subst, ◌∙◌}
-use Rattle.std.specs.FinMap as finmap
 use Rattle.fam_base.specs.declared.cmd.Cmd.{Cmd}
-use Rattle.fam_base.specs.declared.cmd.Cmd.TheVariants.{Logplay, Mount, Mkdir, Creat, Cp, Verify, Read, Check, Fsck}
+use Rattle.fam_base.specs.declared.cmd.Cmd.TheVariants.{Logplay, Mount, Verify, Read, Check}
 use Rattle.fam_base.specs.declared.cmd.Content.{Content}
 use Rattle.fam_base.specs.declared.entry.Entry.{Entry}
 use Rattle.fam_base.specs.declared.entry.Kind.{Kind}
 use Rattle.fam_base.specs.declared.entry.Kind.TheVariants as kind
-use Rattle.fam_format.specs.Tree.{Tree, replay}
+use Rattle.fam_format.specs.Tree.{replay}
 use Rattle.fam_history.specs.declared.answer.ToldAnswer.{ToldAnswer}
 use Rattle.fam_history.specs.declared.answer.ToldAnswer.TheVariants as told
 use Rattle.fam_history.specs.ToldAnswers.{reply_told}
-use Rattle.fam_rules.specs.Asks.{File, entries_of, file_at, file_bytes_from}
+use Rattle.fam_rules.specs.Asks.{File, entries_of, file_at}
 use Rattle.fam_rules.specs.Reply as reply
 use Rattle.fam_rules.specs.Reply.{Reply}
 use Rattle.fam_judge.specs.Fitting.{AskFits, FileFits, KindFits, ReadFits, VerifiedFits}

@@ -1,4 +1,4 @@
-use Rattle.std.proofs.Common.{◌≡◌, ◌-◌, length, sym, ◌∙◌, arith}
+use Rattle.std.proofs.Common.{◌≡◌, ◌-◌, length, arith}
 use Rattle.fam_settled.proofs.Counts.{files_among, kinds_told}
 use Rattle.fam_settled.proofs.reports.kinds_fit.Goals as goal
 

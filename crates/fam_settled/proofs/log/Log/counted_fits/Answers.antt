@@ -1,4 +1,4 @@
-use Rattle.std.proofs.Common.{sym, ◌∙◌, arith}
+use Rattle.std.proofs.Common.{arith}
 use Rattle.fam_settled.specs.Settled.{all_of}
 use Rattle.fam_settled.proofs.Counts.{report_told}
 use Rattle.fam_settled.proofs.log.Log.counted_fits.Goals as goal

@@ -1,4 +1,4 @@
-use Rattle.std.proofs.Common.{◌≡◌, ◌<◌, length, get_or, sym, arith}
+use Rattle.std.proofs.Common.{◌≡◌, get_or, sym, arith}
 use Rattle.std.proofs.lemmas.Option.{get_or_from_slice_get}
 use Rattle.fam_base.specs.PathOrder.{path_eq}
 use Rattle.fam_rules.specs.Asks.{File}

@@ -1,6 +1,5 @@
-use Rattle.std.proofs.Common.{rules, ◌≡◌, [], length, take, refl, sym}
+use Rattle.std.proofs.Common.{rules, ◌≡◌, length, take, refl, sym}
 use Rattle.std.proofs.lemmas.List.{length-take-le}
-use Rattle.fam_base.specs.declared.cmd.Cmd.TheVariants as cmd
 use Rattle.fam_settled.specs.Settled.{all_of}
 use Rattle.fam_settled.specs.Told.{cmd_of}
 use Rattle.fam_settled.proofs.Choices.{both, both_ok, empty, untrue}

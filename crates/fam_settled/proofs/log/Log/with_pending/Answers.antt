@@ -1,5 +1,4 @@
-use Rattle.std.proofs.Common.{List, [], ◌∷◌, ◌++◌, sym, ap, ◌∙◌}
-use Rattle.fam_base.specs.declared.entry.Entry.{Entry}
+use Rattle.std.proofs.Common.{[], ◌∷◌, ◌++◌, sym, ap, ◌∙◌}
 use Rattle.fam_rules.specs.Asks.{entries_of}
 use Rattle.fam_plan.specs.State.{PlanState}
 use Rattle.fam_settled.specs.Settled.{Settled, all_of}
