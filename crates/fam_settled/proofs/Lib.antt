@@ -6,3 +6,4 @@ pub mod Finding
 pub mod Replies
 pub mod Counts
 pub mod OwnEntries
+pub mod Appends

@@ -1,6 +1,6 @@
 //! Which entries may be acknowledged.
 
-ghost use Rattle.std.specs.Prelude.{◌≡◌, ◌↔◌, ◌+◌, ◌<◌, IsTrue, Some, length, option_map, slice_get};
+ghost use Rattle.std.specs.Prelude.{◌≡◌, ◌↔◌, ◌+◌, IsTrue, Some, length, option_map, slice_get};
 ghost use Rattle.fam_journal.specs.Legal.{AppendedAllowed};
 ghost use Rattle.fam_journal.specs.Past.{HostPast, acknowledges};
 ghost use Rattle.fam_settled.specs.Settled.{state_of};

@@ -1,6 +1,6 @@
 //! The first entries of a log, with the one that pends among them, and what stands at a path.
 
-ghost use Rattle.std.specs.Prelude.{◌≡◌, ◌≤◌, ◌<◌, IfOk, IsSome, Some, length, slice_get, take};
+ghost use Rattle.std.specs.Prelude.{◌≡◌, ◌≤◌, ◌<◌, IfOk, Some, length, slice_get, take};
 ghost use Rattle.fam_rules.specs.Asks.{entries_of, file_at};
 ghost use Rattle.fam_settled.specs.Bytes.{file_of};
 ghost use Rattle.fam_settled.specs.Settled.{all_of, filed, history_of};

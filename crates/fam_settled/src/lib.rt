@@ -10,13 +10,16 @@ mod agree;
 mod among;
 mod bytes;
 mod contents;
+mod laws;
 mod listed;
 mod log;
+mod notes;
 mod questions;
 mod reports;
 mod told;
 mod verified;
 
 pub use bytes::{Bytes, Filed};
+pub use laws::a_told_command_is_untold;
 pub use log::Log;
 pub use told::bytes_told;

@@ -1,13 +1,12 @@
 //! Which reports fit.
 
 ghost use Rattle.fam_rules.specs.declared.answers.LogState.TheVariants as log;
-ghost use Rattle.std.specs.Prelude.{◌≡◌, ◌↔◌, ℕ, ◌-◌, ◌<◌, ◌≤◌, IfOk, IsTrue, None, Some, count_by, length, slice_get};
-ghost use Rattle.fam_format.specs.Layout.{device_units};
+ghost use Rattle.std.specs.Prelude.{◌≡◌, ◌↔◌, ℕ, ◌-◌, ◌<◌, IfOk, IsTrue, None, Some, count_by, length, slice_get};
 ghost use Rattle.fam_format.specs.Slot.{Proper};
 ghost use Rattle.fam_journal.specs.Legal.{ReportAllowed};
 ghost use Rattle.fam_journal.specs.Past.{HostPast};
 ghost use Rattle.fam_rules.specs.ReportLaws.{IsSoundReport};
-ghost use Rattle.fam_rules.specs.Reports.{is_directory, is_file, used_count};
+ghost use Rattle.fam_rules.specs.Reports.{is_file, used_count};
 ghost use Rattle.fam_settled.specs.Reported.{HasKinds, HasSoundStates, HasUnits};
 ghost use Rattle.fam_settled.specs.Settled.{state_of};
 
