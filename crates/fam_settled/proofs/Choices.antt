@@ -1,6 +1,7 @@
 -- Choices by a test of two numbers.
-use Rattle.std.proofs.Common.{◌≡◌, ◌≢◌, ◌↔◌, ℕ, ◌==◌, Bool, true, false, IsTrue, if◌then◌else◌, refl, sym, arith}
+use Rattle.std.proofs.Common.{◌≡◌, ◌≢◌, ◌↔◌, ℕ, ◌==◌, IfOk, List, [], ◌∷◌, length, Result, Ok, Err, Bool, true, false, IsTrue, if◌then◌else◌, refl, sym, arith}
 use Rattle.std.proofs.lemmas.Bool.{true≢false}
+use Rattle.fam_base.specs.declared.line.OutOfMemory.{OutOfMemory}
 use Rattle.std.proofs.lemmas.Bool.Decides.{nat_tests}
 
 -- they are the same
@@ -28,3 +29,13 @@ both r same others = (λ h. others.0 (same.0 h), λ q. same.1 (others.1 q))
 -- no test fails that holds
 pub untrue : IsTrue false → ⊥
 untrue h = true≢false (sym h)
+
+-- a test of the same, where it is made
+pub both_ok : {P Q : Type 0} (r : Result Bool OutOfMemory) → IfOk r (λ b. IsTrue b ↔ P) → (P ↔ Q) → IfOk r (λ b. IsTrue b ↔ Q)
+both_ok (Ok b) same others = both b same others
+both_ok (Err e) same others = tt
+
+-- a list of no elements
+pub empty : {A : Type 0} (xs : List A) → length xs ≡ 0 → xs ≡ []
+empty [] none = refl
+empty (x ∷ xs) none = absurd (omega arith)

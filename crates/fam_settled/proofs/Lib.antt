@@ -2,3 +2,8 @@ pub mod Files
 pub mod Choices
 pub mod Fills
 pub mod Sources
+pub mod Finding
+pub mod Replies
+pub mod Counts
+pub mod OwnEntries
+pub mod Appends

@@ -1,13 +1,13 @@
 -- Bytes that are told, and bytes of files.
-use Rattle.std.proofs.Common.{◌≡◌, ◌≢◌, ◌⊎◌, ◌↔◌, ℕ, ◌+◌, ◌-◌, ◌<◌, ◌≤◌, Bool, IsTrue, List, length, get_or, take, drop, min, replicate, Option, Some, None, refl, sym, ap, subst, ◌∙◌, inl, inr, arith}
+use Rattle.std.proofs.Common.{◌≡◌, ◌≢◌, ◌⊎◌, ◌↔◌, ℕ, ◌+◌, ◌-◌, ◌<◌, Bool, IsTrue, List, length, get_or, drop, min, Option, Some, refl, sym, ap, subst, ◌∙◌, inl, arith}
 use Rattle.std.proofs.lemmas.List.{length-replicate, get_or-replicate, get_or-take, get_or-drop, length-take, length-drop}
 use Rattle.fam_base.specs.declared.cmd.Content.{Content}
 use Rattle.fam_base.specs.declared.cmd.Content.TheVariants as content
-use Rattle.fam_rules.specs.Content.{HoldsBytes, content_byte, fill}
+use Rattle.fam_rules.specs.Content.{content_byte}
 use Rattle.fam_rules.specs.Asks.{file_bytes_from}
 use Rattle.fam_rules.proofs.ContentLines.{byte_of_fill, content_byte_fits, length_of_fill}
 use Rattle.fam_judge.specs.Untold.{untold}
-use Rattle.fam_judge.specs.Fitting.{FitBytes, FitsByte, FitsWanted, IsLong, MayAgree, MayBeSame, MayDiffer, given_count}
+use Rattle.fam_judge.specs.Fitting.{FitBytes, FitsWanted, IsLong, MayAgree, given_count}
 use Rattle.fam_settled.specs.declared.against.Against.{Against}
 use Rattle.fam_settled.specs.declared.against.Against.TheVariants as against
 use Rattle.fam_settled.specs.declared.bytes.Bytes.{Bytes}

@@ -1,5 +1,5 @@
 -- Which told answers fit a question, as tables over what is told.
-use Rattle.std.specs.Prelude.{ℕ, ◌≡◌, ◌≢◌, ◌⊎◌, ◌+◌, ◌<◌, List, [], length, replicate, slice_index, Option, Some, None}
+use Rattle.std.specs.Prelude.{ℕ, ◌≡◌, ◌≢◌, List, length, replicate, Option, Some, None}
 use Rattle.std.specs.FinMap as map
 use Rattle.fam_base.specs.declared.cmd.Cmd.{Cmd}
 use Rattle.fam_base.specs.declared.cmd.Cmd.TheVariants.{Logplay, Mount, Mkdir, Creat, Cp, Verify, Read, Check, Fsck}
@@ -38,9 +38,9 @@ count_in against.Zero = None
 count_in (against.Seed seed) = None
 count_in (against.Untold count) = Some count
 
--- a listing of all entries
-pub record IsPlayed (files : List File) (answer : ToldAnswer) (listed : List Entry) : Type 0 where
-  pub told : answer ≡ told.Played (length files)
+-- a listing of the first m entries
+pub record IsPlayed (m : ℕ) (files : List File) (answer : ToldAnswer) (listed : List Entry) : Type 0 where
+  pub told : answer ≡ told.Played m
   pub lines : map.values (replay (entries_of files)) ≡ listed
 
 -- a file's bytes may be those of a content, of as many where these are given
@@ -107,3 +107,15 @@ KindTold m kind.File answer fits = fits
 abbrev pub FileTold : ℕ → Option File → ToldAnswer → (List ℕ → Type 0) → Type 0
 FileTold m None answer Fits = answer ≡ told.NotFound m
 FileTold m (Some f) answer Fits = KindTold m f.entry.kind answer (Fits f.bytes)
+
+-- what is told of the first m entries, where no lines follow
+abbrev pub PlainTold : ℕ → List File → Cmd → ToldAnswer → Type 0
+PlainTold m files Mount answer = answer ≡ told.Mounted m
+PlainTold m files (Verify path against) answer = FileTold m (file_at files path) answer (λ bytes. VerifiedTold m bytes against answer)
+PlainTold m files (Read path offset count) answer = FileTold m (file_at files path) answer (λ bytes. ReadTold m bytes offset count answer)
+PlainTold m files Logplay answer = ⊥
+PlainTold m files (Mkdir path attr) answer = ⊥
+PlainTold m files (Creat path size attr stripe fill) answer = ⊥
+PlainTold m files (Cp path attr stripe bytes) answer = ⊥
+PlainTold m files (Check listing) answer = ⊥
+PlainTold m files Fsck answer = ⊥

@@ -3,3 +3,4 @@ pub mod Settled
 pub mod Logs
 pub mod Told
 pub mod Fits
+pub mod Reported

@@ -1,5 +1,5 @@
 -- Commands and answers as a history tells them, among those of a journal.
-use Rattle.std.specs.Prelude.{ℕ, ⊤, ◌≡◌, List, [], length, replicate}
+use Rattle.std.specs.Prelude.{⊤, ◌≡◌, List, [], replicate}
 use Rattle.std.specs.FinMap as map
 use Rattle.fam_base.specs.declared.cmd.Cmd.{Cmd}
 use Rattle.fam_base.specs.declared.cmd.Cmd.TheVariants.{Logplay, Mount, Mkdir, Creat, Cp, Verify, Read, Check, Fsck}

@@ -1,7 +1,7 @@
 //! The bytes of fills beside others, as far as the first that differs.
 
-ghost use Rattle.std.specs.Prelude.{◌≡◌, ◌⊎◌, ◌↔◌, ◌+◌, ◌-◌, ◌*◌, ◌%◌, ◌^◌, ◌<◌, ◌≤◌, ℕ, IsTrue, length, slice_index};
-ghost use Rattle.fam_rules.specs.Content.{HoldsBytes, byte_in, content_byte};
+ghost use Rattle.std.specs.Prelude.{◌≡◌, ◌↔◌, ◌+◌, ◌-◌, ◌*◌, ◌%◌, ◌<◌, ◌≤◌, ℕ, IsTrue, length, slice_index};
+ghost use Rattle.fam_rules.specs.Content.{byte_in, content_byte};
 
 use fam_base::{Content, Line};
 use fam_content::{ContentStream, compare, holds_bytes, lines_of};

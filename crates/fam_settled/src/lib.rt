@@ -4,14 +4,22 @@
 //! is said by fam_judge, `specs/Fitting.antt`: a byte that isn't told may be any.
 #![tactic(auto)]
 
+mod acknowledged;
 mod against;
 mod agree;
+mod among;
 mod bytes;
 mod contents;
+mod laws;
+mod listed;
 mod log;
+mod notes;
+mod questions;
+mod reports;
 mod told;
 mod verified;
 
 pub use bytes::{Bytes, Filed};
+pub use laws::a_told_command_is_untold;
 pub use log::Log;
 pub use told::bytes_told;

@@ -1,6 +1,6 @@
 //! Settled entries in their order, and one that may follow them.
 
-ghost use Rattle.std.specs.Prelude.{◌≡◌, ◌+◌, ◌≤◌, ◌↔◌, ◌++◌, ◌∷◌, IfOk, IsTrue, IsSome, OnErr, OnOk, length, [], None};
+ghost use Rattle.std.specs.Prelude.{◌≡◌, ◌+◌, ◌++◌, ◌∷◌, IfOk, OnErr, OnOk, length, [], None};
 ghost use Rattle.fam_format.specs.Params.{SoundParams};
 ghost use Rattle.fam_journal.specs.Past.{acknowledges, finds, pends, shows, Sound};
 ghost use Rattle.fam_plan.specs.State.{MayBeAdded};

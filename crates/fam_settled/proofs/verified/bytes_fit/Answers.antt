@@ -1,4 +1,4 @@
-use Rattle.std.proofs.Common.{rules, ◌≡◌, ◌-◌, min, length, sym, ◌∙◌, arith}
+use Rattle.std.proofs.Common.{rules, ◌≡◌, ◌-◌, min, length, arith}
 use Rattle.fam_settled.proofs.Choices.{both, refuted, shown}
 use Rattle.fam_settled.proofs.Sources.{read_count, read_told}
 use Rattle.fam_settled.proofs.verified.bytes_fit.Goals as goal

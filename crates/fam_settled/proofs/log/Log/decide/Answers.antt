@@ -1,4 +1,4 @@
-use Rattle.std.proofs.Common.{List, Some, Ok, ap, sym, ◌∙◌}
+use Rattle.std.proofs.Common.{List, ap, sym, ◌∙◌}
 use Rattle.fam_base.specs.declared.entry.Entry.{Entry}
 use Rattle.fam_rules.specs.Decide.{decide}
 use Rattle.fam_settled.specs.Settled.{plan_of}

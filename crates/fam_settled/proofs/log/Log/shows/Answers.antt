@@ -1,4 +1,4 @@
-use Rattle.std.proofs.Common.{◌≡◌, ◌≢◌, ◌+◌, ℕ, length, sym, ap, subst, ◌∙◌, arith}
+use Rattle.std.proofs.Common.{◌≡◌, ◌+◌, length, subst, arith}
 use Rattle.std.specs.Result.{OnOk}
 use Rattle.fam_journal.specs.Past.{State}
 use Rattle.fam_settled.specs.Settled.{history_of, joined, state_of}

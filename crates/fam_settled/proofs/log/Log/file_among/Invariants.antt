@@ -1,0 +1,7 @@
+use Rattle.std.proofs.Common.{◌≡◌, None, take}
+use Rattle.fam_rules.specs.Asks.{file_at}
+use Rattle.fam_settled.specs.Settled.{all_of}
+use Rattle.fam_settled.proofs.log.Log.file_among.Given as goal
+
+abbrev pub invariant-loop-i : goal.invariant-loop-i
+invariant-loop-i l = file_at (take l.i (all_of l.self)) l.path ≡ None

@@ -1,0 +1,97 @@
+//! The first entries of a log, with the one that pends among them, and what stands at a path.
+
+ghost use Rattle.std.specs.Prelude.{◌≡◌, ◌≤◌, ◌<◌, IfOk, Some, length, slice_get, take};
+ghost use Rattle.fam_rules.specs.Asks.{entries_of, file_at};
+ghost use Rattle.fam_settled.specs.Bytes.{file_of};
+ghost use Rattle.fam_settled.specs.Settled.{all_of, filed, history_of};
+
+use crate::bytes::Filed;
+use crate::log::Log;
+use fam_base::{OutOfMemory, Path};
+use fam_plan::Plan;
+use std::alloc::Global;
+
+impl Log {
+    /// How many entries there are, with the one that pends.
+    pub fn all(&self) -> u64
+        ensures { result ≡ length (all_of self.now) }
+    {
+        self.is_settled();
+        let slots = self.params().slots;
+        let count = self.count();
+        match self.pending() {
+            Some(_) => count + 1,
+            None => count,
+        }
+    }
+
+    /// Entry `i` of those that are settled.
+    fn settled_at(&self, i: u64) -> Filed
+        requires { i < length self.now.entries }
+        ensures { slice_get (history_of self.now) i ≡ Some (file_of result.entry result.bytes) }
+    {
+        let bytes = self.bytes.as_slice()[i as usize];
+        match self.plan.at(i) {
+            Some(entry) => Filed { entry, bytes },
+            None => unreachable!(),
+        }
+    }
+
+    /// Entry `i`, from 0: one that is settled, or the one that pends.
+    fn entry_at(&self, i: u64) -> Filed
+        requires { i < length (all_of self.now) }
+        ensures { slice_get (all_of self.now) i ≡ Some (file_of result.entry result.bytes) }
+    {
+        if i < self.count() {
+            return self.settled_at(i);
+        }
+        match self.pending() {
+            Some(pending) => *pending,
+            None => unreachable!(),
+        }
+    }
+
+    /// What stands at a path, by the first `m` entries.
+    pub(crate) fn file_among(&self, m: u64, path: &Path) -> Option<Filed>
+        requires { m ≤ length (all_of self.now) }
+        ensures { filed result ≡ file_at (take m (all_of self.now)) path.now }
+    {
+        for i in 0..m {
+            let found = self.entry_at(i);
+            if found.entry.path == *path {
+                return Some(found);
+            }
+        }
+        None
+    }
+
+    /// A plan of all entries, with the one that pends.
+    fn with_pending(&self, alloc: Global) -> Result<Plan, OutOfMemory>
+        ensures params { IfOk result (λ plan. plan.params ≡ self.now.params) }
+        ensures entries { IfOk result (λ plan. plan.entries ≡ entries_of (all_of self.now)) }
+    {
+        let mut plan = self.plan.copy(alloc)?;
+        match &self.pending {
+            Some(pending) => match plan.add(&pending.entry) {
+                Ok(()) => Ok(plan),
+                Err(_) => Err(OutOfMemory),
+            },
+            None => Ok(plan),
+        }
+    }
+
+    /// A plan of the first `m` entries.
+    pub(crate) fn first(&self, alloc: Global, m: u64) -> Result<Plan, OutOfMemory>
+        requires { m ≤ length (all_of self.now) }
+        ensures params { IfOk result (λ plan. plan.params ≡ self.now.params) }
+        ensures entries { IfOk result (λ plan. plan.entries ≡ entries_of (take m (all_of self.now))) }
+    {
+        if m < self.count() {
+            return self.plan.first(alloc, m);
+        }
+        if m == self.count() {
+            return self.plan.copy(alloc);
+        }
+        self.with_pending(alloc)
+    }
+}
