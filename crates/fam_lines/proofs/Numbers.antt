@@ -1,5 +1,5 @@
 -- A host's name and its number.
-use Rattle.std.proofs.Common.{◌≡◌, ◌≢◌, ℕ, zero, suc, ◌+◌, ◌<◌, List, [], ◌∷◌, length, Option, Some, refl, ap, subst, ◌∙◌, arith}
+use Rattle.std.proofs.Common.{◌≡◌, ◌≢◌, ℕ, zero, suc, ◌+◌, ◌<◌, List, [], ◌∷◌, length, Option, Some, refl, ap, sym, subst, ◌∙◌, arith}
 use Rattle.std.specs.Prelude.{IsTrue, slice_get, if◌then◌else◌}
 use Rattle.std.proofs.lemmas.Option.{same_Some}
 use Rattle.std.proofs.lemmas.Slice.Eq.{bytes_eq-Decides}
@@ -9,10 +9,10 @@ use Rattle.fam_journal.specs.Members.{index_from}
 use Rattle.fam_outcomes.specs.Texts.{host_name}
 use Rattle.fam_history.specs.ToldNotes.{AreDistinctNames}
 use Rattle.fam_history.proofs.HostNumbers.{number_is}
-use Rattle.fam_judge.specs.Standing.{Face}
+use Rattle.fam_judge.specs.Standing.{AreDistinct, Face}
 use Rattle.fam_judge.proofs.Standing.Faces.{index_found}
 use Rattle.fam_lines.specs.declared.host.SeenHost.{SeenHost}
-use Rattle.fam_lines.specs.Hosts.{faces_of, names_of}
+use Rattle.fam_lines.specs.Hosts.{face_of, faces_of, names_of}
 use Rattle.fam_lines.specs.Resolved.{number_of}
 
 -- the name of the host of a number
@@ -50,3 +50,17 @@ pub own_number : (hosts : List SeenHost) (h : ℕ) → AreDistinctNames (names_o
 own_number hosts h distinct is =
     let names = names_of hosts in
     among hosts (host_name names h) 0 ∙ number_is names h (within names h (some_name (host_name names h) is)) distinct
+
+face_at : (hosts : List SeenHost) (i : ℕ) → i < length (names_of hosts)
+    → (f : Face) × (slice_get (faces_of hosts) i ≡ Some f) × (host_name (names_of hosts) i ≡ f.name)
+face_at [] i low = absurd (omega (arith, low))
+face_at (x ∷ hosts) zero low = (face_of x, refl, refl)
+face_at (x ∷ hosts) (suc i) low = face_at hosts i (omega (arith, low))
+
+-- distinct hosts have distinct names
+pub distinct_names : (hosts : List SeenHost) → AreDistinct (faces_of hosts) → AreDistinctNames (names_of hosts)
+distinct_names hosts is i j less low same =
+    let a = face_at hosts i (omega (arith, less, low)) in
+    let b = face_at hosts j low in
+    let one : i ≡ j = is.names i j a.0 b.0 a.1 b.1 (sym a.2 ∙ same ∙ b.2) in
+    absurd (omega (arith, one, less))
