@@ -1,14 +1,14 @@
 -- Which notes of a command that appends are allowed.
-use Rattle.std.proofs.Common.{◌≡◌, ◌≢◌, ◌⊎◌, ◌↔◌, ℕ, ◌+◌, Bool, IsTrue, List, length, nat_eq, Option, None, Some, option_map, Result, Ok, Err, refl, sym, ap, subst, ◌∙◌, inl, inr, arith}
+use Rattle.std.proofs.Common.{◌≡◌, ◌≢◌, ◌↔◌, ℕ, ◌+◌, Bool, IsTrue, List, length, nat_eq, Option, None, Some, option_map, Result, Err, refl, sym, ap, subst, ◌∙◌, inl, inr, arith}
 use Rattle.std.proofs.lemmas.Bool.Decides.{nat_tests}
 use Rattle.fam_base.specs.declared.cmd.Cmd.{Cmd}
 use Rattle.fam_base.specs.declared.entry.Entry.{Entry}
 use Rattle.fam_base.specs.declared.entry.Params.{Params}
-use Rattle.fam_journal.specs.Legal.{CauseAllowed, DecideAllowed, FoundPending, IsDecided, IsLong}
+use Rattle.fam_journal.specs.Legal.{CauseAllowed, FoundPending, IsDecided, IsLong}
 use Rattle.fam_journal.specs.Past.{HostPast}
 use Rattle.fam_rules.specs.Asks.{File, entries_of}
 use Rattle.fam_rules.specs.declared.answers.Refused.{Refused}
-use Rattle.fam_rules.specs.declared.answers.Refused.TheVariants.{NotMaster, LongPath, BadStripe, Exists, NoParent, ParentIsFile, LogFull, NoSpace}
+use Rattle.fam_rules.specs.declared.answers.Refused.TheVariants.{LongPath}
 use Rattle.fam_rules.specs.Decide.{Wish, decide, decide_wish, wish_of}
 use Rattle.fam_rules.specs.DecideLaws.{IsTooLong}
 use Rattle.fam_rules.proofs.RefusalProofs.{refused_for, refused_there}

@@ -138,7 +138,3 @@ pub line_told : (files : List File) (m : ℕ) (c : Cmd) (answer : ToldAnswer) (l
 line_told files m c answer listed same other no_check none =
     let P : ℕ → Type 0 = λ n. PlainTold n files c answer in
     (λ is. subst (IsToldFit files c answer) (sym none) (plain_so files c answer (subst P same is)), λ fit. subst P (sym same) (plain_in files c answer listed other no_check fit).0)
-
--- no lines follow such an answer
-pub no_lines : (files : List File) (c : Cmd) (answer : ToldAnswer) (listed : List Entry) → (c ≡ Logplay → ⊥) → IsNoCheck c → (listed ≡ [] → ⊥) → IsToldFit files c answer listed → ⊥
-no_lines files c answer listed other no_check some fit = some (plain_in files c answer listed other no_check fit).1

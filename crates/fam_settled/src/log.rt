@@ -44,7 +44,10 @@ fn add_beside(plan: &mut Plan, list: &mut Vec<Bytes>, added: &Filed) -> Result<(
     ensures plan_kept { OnErr result (plan.new ≡ plan.old) }
     ensures bytes_kept { OnErr result (list.new.items ≡ list.old.items) }
 {
-    if list.reserve(1).is_err() || plan.add(&added.entry).is_err() {
+    if list.reserve(1).is_err() {
+        return Err(OutOfMemory);
+    }
+    if plan.add(&added.entry).is_err() {
         return Err(OutOfMemory);
     }
     let _ = list.push(added.bytes);

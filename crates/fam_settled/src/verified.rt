@@ -41,8 +41,8 @@ fn is_long(against: Against, size: u64) -> bool
     ensures { IsTrue result ↔ IsLong (count_in against) size }
 {
     match against {
-        Against::Zero | Against::Seed(_) => true,
         Against::Untold(count) => count == size,
+        _ => true,
     }
 }
 
@@ -107,8 +107,8 @@ fn length_fits(size: u64, against: Against, found: u64, wanted: u64) -> bool
     ensures { IsTrue result ↔ ((found ≡ size) × (count_in against ≡ Some wanted) × (wanted ≢ found)) }
 {
     match against {
-        Against::Zero | Against::Seed(_) => false,
         Against::Untold(count) => found == size && count == wanted && wanted != found,
+        _ => false,
     }
 }
 

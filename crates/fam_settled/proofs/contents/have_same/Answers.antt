@@ -22,3 +22,11 @@ lines-preserved c =
       same = none_differs c.args.a.now c.args.b.now c.args.end c.lines.j found.result wanted.result c.holds_bytes.ensures c.holds_bytes-2.ensures
           (found.ensures.line c.lines.j c.lines.invariant.first) (wanted.ensures.line c.lines.j c.lines.invariant.second) c.in-None.ensures c.lines.invariant.same;
     }
+
+pub line-found-requires : goal.line-found-requires
+line-found-requires c =
+    record { given = c.lines.j; stands = c.lines.invariant.first; left = (c.lines_of-j-end.ensures.each c.lines.j).1 c.lines-test.true }
+
+pub line-wanted-requires : goal.line-wanted-requires
+line-wanted-requires c =
+    record { given = c.lines.j; stands = c.lines.invariant.second; left = (c.lines_of-j-end.ensures.each c.lines.j).1 c.lines-test.true }

@@ -14,5 +14,6 @@ returns-then-offset-size c = refuted (λ o. omega (arith, o.differ.within, lengt
 pub returns : goal.returns
 returns c =
     let a = c.args in
-    differs_told a.bytes a.size a.against c.may_differ.result a.offset a.found a.wanted (c.if-not-is_long.ensures.0 refl) (omega (arith, c.if-offset-size.false)) c.if-found-wanted.false (omega (arith, c.ranges.found.fits))
+    differs_told a.bytes a.size a.against c.may_differ.result a.offset a.found a.wanted (c.if-not-is_long.ensures.0 refl) (omega (arith, c.if-offset-size.false))
+    c.if-found-wanted.false (omega (arith, c.ranges.found.fits))
     (subst (λ (s : Bytes). IsTrue c.may_differ.result ↔ MayDifferAt a.bytes s a.offset a.found a.wanted) c.source_of.ensures c.may_differ.ensures)

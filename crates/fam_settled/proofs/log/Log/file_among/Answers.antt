@@ -13,7 +13,8 @@ returns-then-eq c =
     let found = c.entry_at-found.result in
     let x : File = file_of found.entry found.bytes in
     let at : get_or all c.loop-i.i x ≡ x = get_or_from_slice_get all c.loop-i.i x x c.entry_at-found.ensures in
-    sym (found_next (λ f. path_eq f.entry.path c.args.path.now) all c.args.m c.loop-i.i x c.loop-i-test.true (omega (arith, c.loop-i-test.true, c.requires)) at (sym c.if-eq.ensures.value) c.loop-i.invariant)
+    sym (found_next (λ f. path_eq f.entry.path c.args.path.now) all c.args.m c.loop-i.i x c.loop-i-test.true
+    (omega (arith, c.loop-i-test.true, c.requires)) at (sym c.if-eq.ensures.value) c.loop-i.invariant)
 
 pub loop-i-preserved : goal.loop-i-preserved
 loop-i-preserved c =

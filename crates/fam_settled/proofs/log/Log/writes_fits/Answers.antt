@@ -1,4 +1,4 @@
-use Rattle.std.proofs.Common.{◌≡◌, None, Ok, length, sym, ◌∙◌, ap, arith}
+use Rattle.std.proofs.Common.{◌≡◌, None, Ok, length, sym, ◌∙◌, arith}
 use Rattle.fam_settled.specs.Settled.{history_of}
 use Rattle.fam_settled.specs.Told.{cmd_of}
 use Rattle.fam_plan.proofs.FirstEntries.{none_of_false}
