@@ -5,8 +5,8 @@ use Rattle.fam_base.specs.Image.{Image}
 use Rattle.fam_journal.specs.Notes.{Note, Start}
 use Rattle.fam_journal.specs.Shapes.{Pairs}
 use Rattle.fam_judge.specs.Covering.{AreFitting, Direct, HostOver, Over, direct, late}
-use Rattle.fam_judge.specs.Fitting.{Fits}
-use Rattle.fam_judge.specs.Possible.{Leads, LeadsTo, Possible, Progress, after, as_is, past_in, shapes_in, written}
+use Rattle.fam_judge.specs.Fitting.{FitsNext}
+use Rattle.fam_judge.specs.Possible.{MayLead, LeadsTo, Possible, Progress, after_note, as_is, past_in, shapes_in, written}
 use Rattle.fam_judge.specs.Shows.{ShowsJournal, is_inner}
 use Rattle.fam_judge.specs.Standing.{MayStand}
 use Rattle.fam_judge.specs.Untold.{untold_note, untold_notes}
@@ -39,12 +39,12 @@ over_apart start x c (late l) apart =
 -- a state to which the line leads
 pub record LeadsIn (start : Image) (x c : Possible) (line : Note) : Type 0 where
   pub next : Possible
-  pub leads : Leads start x line next
-  pub over : Direct next (after start c line)
+  pub leads : MayLead start x line next
+  pub over : Direct next (after_note start c line)
 
 -- a line that follows the journal's notes follows the state
 pub line_over : (start : Image) (x c : Possible) → Over start x c → IsApart c → Each Wishful c.hosts → (y : Note) → MayStand (length start) (shapes_in c) y
-    → Fits (past_in start c) y
+    → FitsNext (past_in start c) y
     → LeadsIn start x c y
 line_over start x c (direct d) apart wishes y may fits =
     let next = line_follows start x c d (direct_apart x c d apart) (each_wishes c wishes) y may fits in
@@ -68,16 +68,16 @@ pub shown_reached : (start : Image) (history notes : List Note) → ShowsJournal
     → AreFitting start c (untold_notes notes) → Reached start x c (untold_notes history)
 shown_reached start [] [] shows x c over apart wishes fitting = record { state = x; leads = refl }
 shown_reached start [] (y ∷ notes) shows x c over apart wishes fitting =
-    let more = shown_reached start [] notes shows.1 x (after start c (untold_note y)) (inner_over start x c apart over (untold_note y) (inner_is y shows.0) (length start) fitting.0 fitting.1)
+    let more = shown_reached start [] notes shows.1 x (after_note start c (untold_note y)) (inner_over start x c apart over (untold_note y) (inner_is y shows.0) (length start) fitting.0 fitting.1)
     (apart_after start (length start) c (untold_note y) apart fitting.0) (wishes_after start (length start) c (untold_note y) wishes fitting.0) fitting.2 in
     record { state = more.state; leads = more.leads }
 shown_reached start (line ∷ history) [] shows x c over apart wishes fitting = absurd shows
 shown_reached start (line ∷ history) (y ∷ notes) (inl here) x c over apart wishes fitting =
     let next = line_over start x c over apart wishes (untold_note y) fitting.0 fitting.1 in
-    let more = shown_reached start history notes here.1 next.next (after start c (untold_note y)) (direct next.over)
+    let more = shown_reached start history notes here.1 next.next (after_note start c (untold_note y)) (direct next.over)
     (apart_after start (length start) c (untold_note y) apart fitting.0) (wishes_after start (length start) c (untold_note y) wishes fitting.0) fitting.2 in
-    record { state = more.state; leads = (next.next, subst (λ (z : Note). Leads start x z next.next) (sym (alike_untold line y here.0)) next.leads, more.leads) }
+    record { state = more.state; leads = (next.next, subst (λ (z : Note). MayLead start x z next.next) (sym (alike_untold line y here.0)) next.leads, more.leads) }
 shown_reached start (line ∷ history) (y ∷ notes) (inr out) x c over apart wishes fitting =
-    let more = shown_reached start (line ∷ history) notes out.1 x (after start c (untold_note y)) (inner_over start x c apart over (untold_note y) (inner_is y out.0) (length start) fitting.0 fitting.1)
+    let more = shown_reached start (line ∷ history) notes out.1 x (after_note start c (untold_note y)) (inner_over start x c apart over (untold_note y) (inner_is y out.0) (length start) fitting.0 fitting.1)
     (apart_after start (length start) c (untold_note y) apart fitting.0) (wishes_after start (length start) c (untold_note y) wishes fitting.0) fitting.2 in
     record { state = more.state; leads = more.leads }

@@ -19,7 +19,7 @@ use Rattle.fam_rules.specs.Checks.{checked}
 use Rattle.fam_rules.specs.Content.{content_byte}
 use Rattle.fam_rules.specs.Reply as reply
 use Rattle.fam_rules.specs.Reply.{Reply}
-use Rattle.fam_judge.specs.Fitting.{AskFits, FileFits, FitBytes, FitsByte, FitsWanted, IsLong, KindFits, MayAgree, VerifiedFits, given_count}
+use Rattle.fam_judge.specs.Fitting.{AskFits, FileFits, FitBytes, FitsByte, FitsWanted, AllowsSize, KindFits, MayAgree, VerifiedFits, given_count}
 use Rattle.fam_judge.specs.Formed.{IsSoundCommand}
 use Rattle.fam_judge.specs.Untold.{untold, untold_bytes, untold_cmd, untold_content}
 use Rattle.fam_judge.proofs.Filling.{FillBytes, FillFiles, FillsFile, filled_entries, filled_length}
@@ -38,7 +38,7 @@ at_path Stands a b path files =
 -- Contents.
 
 -- what is told of a byte that is wanted
-pub told_wanted : (against : Content) (n i : ℕ) → IsLong (given_count (untold_content against)) n → i < n
+pub told_wanted : (against : Content) (n i : ℕ) → AllowsSize (given_count (untold_content against)) n → i < n
     → FitsWanted (content_byte (untold_content against) i) (content_byte against i)
 told_wanted content.Zero n i long below = inl refl
 told_wanted (content.Seed seed) n i long below = inl refl
@@ -61,7 +61,7 @@ test_other : (a b : ℕ) → not (a == b) ≡ true → a ≢ b
 test_other a b e same = grind (arith, nat_tests)
 
 module _ (m : ℕ) (told bytes : List ℕ) (fill : FillBytes AnyFits told bytes) (against : Content) where
-  compared_told : IsLong (given_count (untold_content against)) (length told) → (given : Reply) → compared m bytes against ≡ given
+  compared_told : AllowsSize (given_count (untold_content against)) (length told) → (given : Reply) → compared m bytes against ≡ given
       → VerifiedFits m told (untold_content against) given
   compared_told long given e =
       subst (λ (r : Reply). VerifiedFits m told (untold_content against) r) e (by (first_difference bytes against) (searched _ (length bytes) 0))

@@ -10,7 +10,7 @@ use Rattle.fam_journal.specs.Legal.{Allowed, AnswerAllowed, AskAllowed, InBounds
 use Rattle.fam_journal.specs.Notes.{Answer, Replied, MediaFault, Note, Found, Writes, Answered}
 use Rattle.fam_journal.specs.Past.{Bad, BadHeader, BadSlot, HostPast, NoSuperblock, Past, Sound, State, acknowledges, past_of, with_pending}
 use Rattle.fam_judge.specs.Explained.{IsAllowedForSome}
-use Rattle.fam_judge.specs.Fitting.{AnswerFits, Fits, QuestionFits, ReplyFits}
+use Rattle.fam_judge.specs.Fitting.{AnswerFits, FitsNext, QuestionFits, ReplyFits}
 use Rattle.fam_judge.specs.Formed.{AreSoundNotes, IsSoundCommand}
 use Rattle.fam_judge.specs.Untold.{untold_cmd, untold_notes}
 use Rattle.fam_judge.proofs.Agreeing.{AgreeHosts, AgreeStates, agree_back, appended_agrees, cause_agrees, damage_agrees, found_agrees, hosts_back, report_agrees, writes_agrees}
@@ -160,7 +160,7 @@ to_host None (Some y) is P Q step fits = absurd is
 to_host (Some x) None is P Q step fits = absurd is
 to_host (Some x) (Some y) is P Q step fits = step x y is fits
 
-allowed_fits : (told past : Past) (note : Note) → AnyPast told past → Allowed past note → Fits told note
+allowed_fits : (told past : Past) (note : Note) → AnyPast told past → Allowed past note → FitsNext told note
 allowed_fits told past (Found h n) is allowed =
     found_agrees n past.state told.state (agree_back told.state past.state (states_agree told.state past.state is.state)) allowed
 allowed_fits told past (Writes h seq e) is allowed =
@@ -174,9 +174,9 @@ allowed_fits told past note is allowed = tt
 
 -- what is allowed for some bytes fits what is told
 pub explained_fits : (start : Image) (before : List Note) (note : Note) → IsAllowedForSome start before note
-    → Fits (past_of start (untold_notes before)) note
+    → FitsNext (past_of start (untold_notes before)) note
 explained_fits start before note is =
-    subst (λ (l : List Note). Fits (past_of start l) note) (sym (alike_notes_untold before is.chosen is.alike))
+    subst (λ (l : List Note). FitsNext (past_of start l) note) (sym (alike_notes_untold before is.chosen is.alike))
     (allowed_fits (past_of start (untold_notes is.chosen)) (past_of start is.chosen) note (sound_filled start is.chosen is.sound) is.allowed)
 
 -- What fits is allowed.
@@ -213,7 +213,7 @@ module _ (start : Image) (before : List Note) (sound : AreSoundNotes before) whe
       to_host _ _ (pairs_get AnyHost (past_of start (untold_notes before)).hosts (past_of start before).hosts h own_filled.hosts) P Q
       (λ x y one. step x y (hosts_agree x y one) (states_agree _ _ own_filled.state)) fits
 
-  reply_allowed : (h : ℕ) (given : Reply) → Fits (past_of start (untold_notes before)) (Answered h (Replied given))
+  reply_allowed : (h : ℕ) (given : Reply) → FitsNext (past_of start (untold_notes before)) (Answered h (Replied given))
       → IsAllowedForSome start before (Answered h (Replied given))
   reply_allowed h (reply.Appended seq) fits = as_before _
       (host_allowed h _ _ (λ x y host state. appended_agrees seq x y _ _ host
@@ -236,7 +236,7 @@ module _ (start : Image) (before : List Note) (sound : AreSoundNotes before) whe
   reply_allowed h (reply.IsDirectory m) fits = question_allowed h m (reply.IsDirectory m) _ fits (λ past is. is)
   reply_allowed h (reply.Checks m counts) fits = question_allowed h m (reply.Checks m counts) _ fits (λ past is. is)
 
-  fits_allowed : (note : Note) → Fits (past_of start (untold_notes before)) note → IsAllowedForSome start before note
+  fits_allowed : (note : Note) → FitsNext (past_of start (untold_notes before)) note → IsAllowedForSome start before note
   fits_allowed (Found h n) fits = as_before _ (found_agrees n _ _ (states_agree _ _ own_filled.state) fits)
   fits_allowed (Writes h seq e) fits = as_before _ (host_allowed h _ _ (λ x y host state. writes_agrees seq e x y _ _ host state) fits)
   fits_allowed (Answered h (Replied given)) fits = reply_allowed h given fits
@@ -245,5 +245,5 @@ module _ (start : Image) (before : List Note) (sound : AreSoundNotes before) whe
 
 -- what fits what is told is allowed for some bytes
 pub fits_explained : (start : Image) (before : List Note) (note : Note) → AreSoundNotes before
-    → Fits (past_of start (untold_notes before)) note → IsAllowedForSome start before note
+    → FitsNext (past_of start (untold_notes before)) note → IsAllowedForSome start before note
 fits_explained start before note sound fits = fits_allowed start before sound note fits

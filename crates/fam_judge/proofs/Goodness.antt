@@ -12,7 +12,7 @@ use Rattle.fam_journal.specs.Notes.{Note, Host, Made, Cut, Start, Mark, Found, W
 use Rattle.fam_journal.specs.Shapes.{Begun, CommandStage, Marked, Met, Named, OfRunning, TaskNote, TaskShape}
 use Rattle.fam_journal.proofs.Calls.Declares.{none_passes}
 use Rattle.fam_journal.proofs.Calls.Members.{changed_here, changed_other}
-use Rattle.fam_judge.specs.Possible.{Possible, Progress, after, new_progress, shapes_in}
+use Rattle.fam_judge.specs.Possible.{Possible, Progress, after_note, new_progress, shapes_in}
 use Rattle.fam_judge.specs.Standing.{Face, MayStand, face, faces, same_in}
 use Rattle.fam_judge.proofs.Folding.{shape_in}
 use Rattle.fam_judge.proofs.Masters.{AreApart, apart_last, last_at}
@@ -65,7 +65,7 @@ new_uuid c name uuid none k is = by (slice_get c.hosts k) refl (sym (slice_get-m
         cc
 
 -- behind a note they differ still
-pub apart_after : (start : Image) (lines : ℕ) (c : Possible) (y : Note) → IsApart c → MayStand lines (shapes_in c) y → IsApart (after start c y)
+pub apart_after : (start : Image) (lines : ℕ) (c : Possible) (y : Note) → IsApart c → MayStand lines (shapes_in c) y → IsApart (after_note start c y)
 apart_after start lines c (Host name uuid) apart may =
     subst AreApart (sym (map-append uuid_in c.hosts (new_progress name uuid ∷ []))) (apart_last (map uuid_in c.hosts) uuid apart (new_uuid c name uuid may.1))
 apart_after start lines c (Made h p) apart may = apart
@@ -114,7 +114,7 @@ found_wish c h m p is may (Some k) runs t e =
     subst (λ (z : TaskShape). HasWish z.cmd) (same_Some (record k { stage = Met m }) t e) (task_of c h (λ me t. TaskNote h me t (Found h m)) p k may is runs).1
 
 -- behind a note they do still
-pub wishes_after : (start : Image) (lines : ℕ) (c : Possible) (y : Note) → Each Wishful c.hosts → MayStand lines (shapes_in c) y → Each Wishful (after start c y).hosts
+pub wishes_after : (start : Image) (lines : ℕ) (c : Possible) (y : Note) → Each Wishful c.hosts → MayStand lines (shapes_in c) y → Each Wishful (after_note start c y).hosts
 wishes_after start lines c (Host name uuid) each may = λ k p is. elim (last_at c.hosts (new_progress name uuid) k p is) [
   | inl front ↦ each k p front
   | inr last ↦ subst Wishful last.1 (λ t n e met. absurd cc)

@@ -5,14 +5,14 @@ use Rattle.fam_base.specs.Image.{Image}
 use Rattle.fam_journal.specs.Notes.{Note, Start}
 use Rattle.fam_journal.specs.Past.{Past, past_of}
 use Rattle.fam_journal.specs.Shapes.{HostShape, shapes_after, shapes_behind, shapes_of}
-use Rattle.fam_judge.specs.Covering.{AreFitting, direct, same, state_of}
+use Rattle.fam_judge.specs.Covering.{AreFitting, direct, same, possible_behind}
 use Rattle.fam_judge.specs.Alike.{AreAlikeNotes, told_note}
 use Rattle.fam_judge.specs.Explained.{AreAllowedForSome, IsExplained}
-use Rattle.fam_judge.specs.Fitting.{Fits}
+use Rattle.fam_judge.specs.Fitting.{FitsNext}
 use Rattle.fam_judge.specs.Formed.{AreFormed, AreSoundNotes}
-use Rattle.fam_judge.specs.Possible.{IsPossible, Possible, after, first_possible, past_in, shapes_in}
+use Rattle.fam_judge.specs.Possible.{IsPossible, Possible, after_note, first_possible, past_in, shapes_in}
 use Rattle.fam_judge.specs.Standing.{AreStanding, MayStand}
-use Rattle.fam_judge.specs.ToldHosts.{told_behind, told_hosts}
+use Rattle.fam_judge.specs.ToldHosts.{told_hosts_behind, told_hosts}
 use Rattle.fam_judge.specs.Untold.{untold_note, untold_notes}
 use Rattle.fam_judge.proofs.Choices.{some_choices}
 use Rattle.fam_judge.proofs.Completing.{shown_reached}
@@ -30,12 +30,12 @@ use Rattle.fam_judge.proofs.Telling.{none_is_more, more_is_none}
 -- What isn't told of a note.
 
 -- it fits all the same
-fits_untold : (past : Past) (y : Note) → Fits past y → Fits past (untold_note y)
+fits_untold : (past : Past) (y : Note) → FitsNext past y → FitsNext past (untold_note y)
 fits_untold past (Start h cmd) fits = tt
 fits_untold past y fits = fits
 
 -- and the other way about
-untold_fits : (past : Past) (y : Note) → Fits past (untold_note y) → Fits past y
+untold_fits : (past : Past) (y : Note) → FitsNext past (untold_note y) → FitsNext past y
 untold_fits past (Start h cmd) fits = tt
 untold_fits past y fits = fits
 
@@ -56,23 +56,23 @@ untold_all_again (y ∷ notes) = ap₂ (λ (t : Note) (l : List Note). t ∷ l) 
 module _ (start : Image) where
   told_same : (before : List Note) → told_hosts (shapes_of (untold_notes before)) ≡ told_hosts (shapes_of before)
   told_same before =
-      behind_told (untold_notes before) [] ∙ ap (told_behind (told_hosts [])) (alike_of_untold before) ∙ sym (behind_told before [])
+      behind_told (untold_notes before) [] ∙ ap (told_hosts_behind (told_hosts [])) (alike_of_untold before) ∙ sym (behind_told before [])
 
   pub fitting_from : (before notes : List Note) → AreStanding (length start) (shapes_of before) notes → AreAllowedForSome start before notes
-      → AreFitting start (state_of start (untold_notes before)) (untold_notes notes)
+      → AreFitting start (possible_behind start (untold_notes before)) (untold_notes notes)
   fitting_from before [] stands allowed = tt
   fitting_from before (y ∷ notes) stands allowed = (
     subst (λ (s : List HostShape). MayStand (length start) s (untold_note y)) (sym (shapes_are start (untold_notes before)))
         (stands_told (length start) (shapes_of (untold_notes before)) y (untold_note y) (sym (untold_alike y))
         (stands_alike (length start) (shapes_of before) (shapes_of (untold_notes before)) (sym (told_same before)) y stands.0)),
-    subst (λ (p : Past). Fits p (untold_note y)) (sym (past_is start (untold_notes before)))
+    subst (λ (p : Past). FitsNext p (untold_note y)) (sym (past_is start (untold_notes before)))
         (fits_untold (past_of start (untold_notes before)) y (explained_fits start before y allowed.0)),
     subst (λ (c : Possible). AreFitting start c (untold_notes notes)) more
         (fitting_from (before ++ y ∷ []) notes (subst (λ (s : List HostShape). AreStanding (length start) s notes) shapes stands.1) allowed.1),
   )
     where
-      more : state_of start (untold_notes (before ++ y ∷ [])) ≡ after start (state_of start (untold_notes before)) (untold_note y)
-      more = ap (state_of start) (map-append untold_note before (y ∷ [])) ∙ behind_more start (first_possible start) (untold_notes before) (untold_note y)
+      more : possible_behind start (untold_notes (before ++ y ∷ [])) ≡ after_note start (possible_behind start (untold_notes before)) (untold_note y)
+      more = ap (possible_behind start) (map-append untold_note before (y ∷ [])) ∙ behind_more start (first_possible start) (untold_notes before) (untold_note y)
 
       behind_one : (hosts : List HostShape) (before : List Note) → shapes_after (shapes_behind hosts before) y ≡ shapes_behind hosts (before ++ y ∷ [])
       behind_one hosts [] = refl
@@ -92,7 +92,7 @@ module _ (start : Image) where
   -- A journal that fits explains.
 
   allowed_from : (before notes other rest : List Note) → AreAlikeNotes before other → AreAlikeNotes notes rest → untold_notes before ≡ before → untold_notes notes ≡ notes
-      → AreSoundNotes other → AreSoundNotes rest → AreFitting start (state_of start before) notes → AreAllowedForSome start other rest
+      → AreSoundNotes other → AreSoundNotes rest → AreFitting start (possible_behind start before) notes → AreAllowedForSome start other rest
   allowed_from before [] other [] alike more told_before told sound sounds fitting = tt
   allowed_from before [] other (z ∷ rest) alike more told_before told sound sounds fitting = absurd (none_is_more (told_note z) (map told_note rest) more)
   allowed_from before (y ∷ notes) other [] alike more told_before told sound sounds fitting = absurd (more_is_none (told_note y) (map told_note notes) more)
@@ -120,17 +120,17 @@ module _ (start : Image) where
       told_more : untold_notes (before ++ y ∷ []) ≡ before ++ y ∷ []
       told_more = map-append untold_note before (y ∷ []) ∙ ap₂ (λ (a : List Note) (b : Note). a ++ b ∷ []) told_before (heads told)
 
-      past_same : past_in start (state_of start before) ≡ past_of start (untold_notes other)
+      past_same : past_in start (possible_behind start before) ≡ past_of start (untold_notes other)
       past_same = past_is start before ∙ ap (past_of start) (sym told_before ∙ alike_notes_untold before other alike)
 
-      here : Fits (past_of start (untold_notes other)) z
+      here : FitsNext (past_of start (untold_notes other)) z
       here =
           untold_fits (past_of start (untold_notes other)) z
-          (subst (Fits (past_of start (untold_notes other))) (sym (heads told) ∙ alike_untold y z first) (subst (λ (p : Past). Fits p y) past_same fitting.1))
+          (subst (FitsNext (past_of start (untold_notes other))) (sym (heads told) ∙ alike_untold y z first) (subst (λ (p : Past). FitsNext p y) past_same fitting.1))
 
   standing_from : (c : Possible) (notes : List Note) → AreFitting start c notes → AreStanding (length start) (shapes_in c) notes
   standing_from c [] fitting = tt
-  standing_from c (y ∷ notes) fitting = (fitting.0, subst (λ (s : List HostShape). AreStanding (length start) s notes) (shape_after c y) (standing_from (after start c y) notes fitting.2))
+  standing_from c (y ∷ notes) fitting = (fitting.0, subst (λ (s : List HostShape). AreStanding (length start) s notes) (shape_after c y) (standing_from (after_note start c y) notes fitting.2))
 
   sound_formed : (lines : ℕ) (hosts : List HostShape) (notes : List Note) → AreFormed lines hosts notes → AreSoundNotes notes
   sound_formed lines hosts [] formed = tt

@@ -11,9 +11,9 @@ use Rattle.fam_journal.specs.Notes.{Answer, Replied, Answered, Found}
 use Rattle.fam_journal.specs.Past.{State, reply_count}
 use Rattle.fam_journal.specs.Shapes.{Begun, CommandStage, HasMet, IsHead, Marked, Met, Named, OfRunning, ReplyShape, TaskNote, TaskShape, with_stage}
 use Rattle.fam_judge.specs.Covering.{Direct, FloorUnder, StagesOver, StateOver, same}
-use Rattle.fam_judge.specs.Fitting.{AnswerFits, Fits, ReplyFits}
+use Rattle.fam_judge.specs.Fitting.{AnswerFits, FitsNext, ReplyFits}
 use Rattle.fam_judge.specs.Formed.{AnswerPlace, HasPlace, ReplyPlace}
-use Rattle.fam_judge.specs.Possible.{Possible, Progress, Reaches, after, marked, meets, past_in, shapes_in, stands, unmarked, left_out_met, with_mark, without_mark}
+use Rattle.fam_judge.specs.Possible.{Possible, Progress, Reaches, after_note, marked, meets, past_in, shapes_in, stands, unmarked, left_out_met, after_mark, without_mark}
 use Rattle.fam_judge.proofs.MetReplies.{Target, counted_marked, decided_met, met_target, place_met, shape_met}
 use Rattle.fam_judge.proofs.OverFits.{ReplyOver, reply_over}
 use Rattle.fam_judge.proofs.OverHosts.{Later, no_later}
@@ -44,7 +44,7 @@ pub record Comes (start : Image) (x c : Possible) (h : ℕ) (me : List ℕ) (ans
   pub later : Later x.state now.state
   pub may : OfRunning (slice_get (shapes_in now) h) (λ me t. TaskNote h me t (Answered h answer))
   pub placed : HasPlace (shapes_in now) (Answered h answer)
-  pub fits : Fits (past_in start now) (Answered h answer)
+  pub fits : FitsNext (past_in start now) (Answered h answer)
 
 module _ (start : Image) (x c : Possible) (d : Direct x c) (h : ℕ) (given : Reply)
     (both : Both x c h (λ me t. TaskNote h me t (Answered h (Replied given))))
@@ -69,7 +69,7 @@ module _ (start : Image) (x c : Possible) (d : Direct x c) (h : ℕ) (given : Re
         (subst (λ (k : Cmd). ReplyPlace k task.stage given) (sym (cmd ∙ both.cmd)) place)
 
     fits_there : StateOver now.state c.state → ReplyOver (f both.host).told both.other.told ((like.cmds both.host) ∙ both.over.told_cmd) given now.state c.state
-        → Fits (past_in start now) (Answered h (Replied given))
+        → FitsNext (past_in start now) (Answered h (Replied given))
     fits_there over needs =
         of_told start now h (λ host. AnswerFits (Replied given) host now.state) (f both.host) there
         (reply_over (f both.host).told both.other.told (like.cmds both.host ∙ both.over.told_cmd) given now.state c.state over (like.own both.host ∙ both.over.told_uuid) needs fits)
@@ -192,7 +192,7 @@ module _ (start : Image) (x c : Possible) (d : Direct x c) (h : ℕ) (given : Re
       let t = target n is in
       let f : Progress → Progress = λ p. record p { shape = with_stage (Met t.count) p.shape } in
       let like : Same f = record { names = λ p. refl; uuids = λ p. refl; keeps = λ p. refl; own = λ p. refl; cmds = λ p. refl } in
-      let now = after start x (Found h t.count) in
+      let now = after_note start x (Found h t.count) in
       let there : slice_get now.hosts h ≡ Some (f both.host) = changed_is h f x.hosts both.host both.is in
       from_met n now f like refl t.comes (found_later t.count x.state t.found) there (record both.task { stage = Met t.count })
       (ap (option_map (λ (k : TaskShape). record k { stage = Met t.count })) both.runs) refl t.count refl
@@ -240,7 +240,7 @@ module _ (start : Image) (x c : Possible) (d : Direct x c) (h : ℕ) (given : Re
   at_marked Begun e is stages =
       let f : Progress → Progress = λ p. record p { shape = with_stage Marked p.shape } in
       let like : Same f = record { names = λ p. refl; uuids = λ p. refl; keeps = λ p. refl; own = λ p. refl; cmds = λ p. refl } in
-      from_mark (with_mark h x) f like refl refl (changed_is h f x.hosts both.host both.is) (record both.task { stage = Marked })
+      from_mark (after_mark h x) f like refl refl (changed_is h f x.hosts both.host both.is) (record both.task { stage = Marked })
       (ap (option_map (λ (k : TaskShape). record k { stage = Marked })) both.runs) refl refl
       (marked (runs_at x h (λ me t. t.stage ≡ Begun) both.host both.task both.is both.runs e) refl) is stages
   at_marked Marked e is stages =

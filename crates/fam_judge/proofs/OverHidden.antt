@@ -9,7 +9,7 @@ use Rattle.fam_journal.specs.Notes.{Mark, Found, Writes}
 use Rattle.fam_journal.specs.Past.{HostPast, State, settled_length}
 use Rattle.fam_journal.specs.Shapes.{Begun, CommandStage, Marked, Met, Named, OfRunning, Pairs, TaskNote, TaskShape, with_stage}
 use Rattle.fam_judge.specs.Covering.{Direct, FloorUnder, HasFloor, HostOver, Late, StagesOver, StateOver, TasksOver}
-use Rattle.fam_judge.specs.Possible.{Possible, Progress, Wrote, after, progress_after, shapes_in}
+use Rattle.fam_judge.specs.Possible.{Possible, Progress, Wrote, after_note, progress_after, shapes_in}
 use Rattle.fam_judge.proofs.Members.{changed_same}
 use Rattle.fam_judge.proofs.Over.{over_hidden, over_settled}
 use Rattle.fam_judge.proofs.OverHosts.{IsApart, no_later}
@@ -98,11 +98,11 @@ module _ (x c : Possible) (d : Direct x c) (h : ℕ) where
 
 module _ (start : Image) (x c : Possible) (d : Direct x c) where
   -- so a mark is passed over
-  pub over_mark : (h : ℕ) → OfRunning (slice_get (shapes_in c) h) (λ me t. TaskNote h me t (Mark h)) → Direct x (after start c (Mark h))
+  pub over_mark : (h : ℕ) → OfRunning (slice_get (shapes_in c) h) (λ me t. TaskNote h me t (Mark h)) → Direct x (after_note start c (Mark h))
   over_mark h may = record { state = d.state; hosts = hidden_mark x c d h (settled_length c.state) (over_settled x.state c.state d.state) may }
 
   -- and a count
-  pub over_found : (h n : ℕ) → OfRunning (slice_get (shapes_in c) h) (λ me t. TaskNote h me t (Found h n)) → FoundAllowed n c.state → Direct x (after start c (Found h n))
+  pub over_found : (h n : ℕ) → OfRunning (slice_get (shapes_in c) h) (λ me t. TaskNote h me t (Found h n)) → FoundAllowed n c.state → Direct x (after_note start c (Found h n))
   over_found h n may found = record { state = over_hidden n x.state c.state d.state found; hosts = hidden_found x c d h n may }
 
 -- An entry that was named, where the first state hasn't named it yet.
@@ -119,12 +119,12 @@ pub late_now : (start : Image) (x c : Possible) → IsApart x → (late : Late s
 late_now start x c apart late =
     let is = writes_in start x late.pre late.direct apart late.host late.seq late.entry late.may late.fits in
     record {
-      now = after start is.met (Writes late.host late.seq late.entry);
+      now = after_note start is.met (Writes late.host late.seq late.entry);
       wrote = record { met = is.met; meets = is.meets; seq = late.seq; entry = late.entry; may = is.may; fits = is.fits; is = refl };
       number = refl;
       direct = record {
         state = subst (λ (s : State). StateOver s c.state) (sym is.state) late.state;
-        hosts = subst (λ (l : List Progress). Pairs (HostOver (after start is.met (Writes late.host late.seq late.entry)).state) (after start is.met (Writes late.host late.seq late.entry)).hosts l)
+        hosts = subst (λ (l : List Progress). Pairs (HostOver (after_note start is.met (Writes late.host late.seq late.entry)).state) (after_note start is.met (Writes late.host late.seq late.entry)).hosts l)
             (sym late.hosts) is.over.hosts;
       };
     }

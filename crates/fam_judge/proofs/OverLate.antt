@@ -12,8 +12,8 @@ use Rattle.fam_journal.specs.Notes.{Note, Mark, Found, Writes}
 use Rattle.fam_journal.specs.Past.{State, cmd_of, pends, settled_length}
 use Rattle.fam_journal.specs.Shapes.{Begun, CommandStage, Marked, Met, Named, OfRunning, TaskNote, TaskShape, with_stage}
 use Rattle.fam_judge.specs.Covering.{Direct, HostOver, Late, Over, StateOver, direct, late, same}
-use Rattle.fam_judge.specs.Fitting.{Fits}
-use Rattle.fam_judge.specs.Possible.{Possible, Progress, after, past_in, shapes_in}
+use Rattle.fam_judge.specs.Fitting.{FitsNext}
+use Rattle.fam_judge.specs.Possible.{Possible, Progress, after_note, past_in, shapes_in}
 use Rattle.fam_judge.specs.Shows.{is_inner}
 use Rattle.fam_judge.specs.Standing.{MayStand}
 use Rattle.fam_judge.proofs.Members.{changed_apart}
@@ -81,13 +81,13 @@ module _ (start : Image) (x c : Possible) (l : Late start x c) where
     kept f = changed_other j l.host f l.pre.hosts (λ e. ne (sym e)) ∙ runs_pre.is
 
     -- the same entry pends behind it
-    pends_same : (f : Progress → Progress) → (after start l.pre (Writes l.host l.seq l.entry)).state ≡ (after start (moved_pre f) (Writes l.host l.seq l.entry)).state
+    pends_same : (f : Progress → Progress) → (after_note start l.pre (Writes l.host l.seq l.entry)).state ≡ (after_note start (moved_pre f) (Writes l.host l.seq l.entry)).state
     pends_same f =
         ap (λ (cmd : Option Cmd). pends (named_file cmd l.entry) l.pre.state) (cmd_at start l.pre l.host runs_pre.host runs_pre.is ∙ sym (cmd_at start (moved_pre f) l.host runs_pre.host (kept f)))
 
     -- it changes in both, and the entry is named behind that
     pub late_moved : (y d : Possible) (f : Progress → Progress) → Direct y (moved_pre f) → d.hosts ≡ changed_at j f c.hosts
-        → StateOver (after start l.pre (Writes l.host l.seq l.entry)).state d.state → Late start y d
+        → StateOver (after_note start l.pre (Writes l.host l.seq l.entry)).state d.state → Late start y d
     late_moved y d f first hosts over = record {
       host = l.host;
       pre = moved_pre f;
@@ -107,11 +107,11 @@ module _ (start : Image) (x c : Possible) (l : Late start x c) where
 
     -- it isn't the master, so it names no entry
     pub no_other : IsApart c → (seq : ℕ) (e : Entry) → OfRunning (slice_get (shapes_in c) j) (λ me t. TaskNote j me t (Writes j seq e))
-        → Fits (past_in start c) (Writes j seq e) → ⊥
+        → FitsNext (past_in start c) (Writes j seq e) → ⊥
     no_other apart seq e may fits =
         let q = running_at c j (λ me t. TaskNote j me t (Writes j seq e)) may in
         let other = write_says seq e q.host.told c.state (told_at start c j (λ host. WritesAllowed seq e host c.state) q.host q.is fits) in
-        let first : master_of (after start l.pre (Writes l.host l.seq l.entry)).state ≡ Some says.params.master = ap (λ (s : State). master_of (pends (named_file (cmd_of (slice_get (past_in start l.pre).hosts l.host)) l.entry) s)) says.is in
+        let first : master_of (after_note start l.pre (Writes l.host l.seq l.entry)).state ≡ Some says.params.master = ap (λ (s : State). master_of (pends (named_file (cmd_of (slice_get (past_in start l.pre).hosts l.host)) l.entry) s)) says.is in
         let second : master_of c.state ≡ Some other.params.master = ap master_of other.is in
         let same_master : says.params.master ≡ other.params.master = same_Some says.params.master other.params.master (sym first ∙ over_master _ c.state l.state ∙ second) in
         ne (one_place c apart j l.host q.host (naming runs_pre.host) q.is there
@@ -121,7 +121,7 @@ module _ (start : Image) (x c : Possible) (l : Late start x c) where
 
 module _ (start : Image) (x c : Possible) where
   late_mark : (l : Late start x c) (j : ℕ) → OfRunning (slice_get (shapes_in c) j) (λ me t. TaskNote j me t (Mark j)) → (j ≡ l.host) ⊎ (j ≢ l.host)
-      → Late start x (after start c (Mark j))
+      → Late start x (after_note start c (Mark j))
   late_mark l j may (inl e) =
       absurd (named_begun l.seq (stage_is start x c l (λ s. s ≡ Begun) (subst (λ (k : ℕ). OfRunning (slice_get (shapes_in c) k) (λ me t. t.stage ≡ Begun)) e (begins c j may))))
     where
@@ -129,7 +129,7 @@ module _ (start : Image) (x c : Possible) where
           → OfRunning (slice_get (shapes_in c) j) (λ me t. t.stage ≡ Begun)
       begins c j may = let r = running_at c j (λ me t. TaskNote j me t (Mark j)) may in runs_at c j (λ me t. t.stage ≡ Begun) r.host r.task r.is r.runs r.holds.1
   late_mark l j may (inr ne) =
-      late_moved start x c l j ne x (after start c (Mark j)) _
+      late_moved start x c l j ne x (after_note start c (Mark j)) _
       (record { state = l.direct.state; hosts = hidden_mark x l.pre l.direct j (settled_length c.state) low (other_runs start x c l j ne (λ me t. TaskNote j me t (Mark j)) may) })
       refl l.state
     where
@@ -138,14 +138,14 @@ module _ (start : Image) (x c : Possible) where
           let a = over_settled x.state l.pre.state l.direct.state in
           let s = says start x c l in
           let b : settled_length l.pre.state ≡ length s.history = ap settled_length s.is in
-          let d : settled_length (after start l.pre (Writes l.host l.seq l.entry)).state ≡ length s.history =
+          let d : settled_length (after_note start l.pre (Writes l.host l.seq l.entry)).state ≡ length s.history =
           ap (λ (u : State). settled_length (pends (named_file (cmd_of (slice_get (past_in start l.pre).hosts l.host)) l.entry) u)) s.is in
-          let e = over_settled (after start l.pre (Writes l.host l.seq l.entry)).state c.state l.state in
+          let e = over_settled (after_note start l.pre (Writes l.host l.seq l.entry)).state c.state l.state in
           omega (arith, a, b, d, e)
 
   late_found : (l : Late start x c) (j n : ℕ) → OfRunning (slice_get (shapes_in c) j) (λ me t. TaskNote j me t (Found j n)) → FoundAllowed n c.state
       → (j ≡ l.host) ⊎ (j ≢ l.host)
-      → Late start x (after start c (Found j n))
+      → Late start x (after_note start c (Found j n))
   late_found l j n may found (inl e) =
       absurd (named_marked l.seq (stage_is start x c l (λ s. s ≡ Marked) (subst (λ (k : ℕ). OfRunning (slice_get (shapes_in c) k) (λ me t. t.stage ≡ Marked)) e (finds_it c j may))))
     where
@@ -153,13 +153,13 @@ module _ (start : Image) (x c : Possible) where
           → OfRunning (slice_get (shapes_in c) j) (λ me t. t.stage ≡ Marked)
       finds_it c j may = let r = running_at c j (λ me t. TaskNote j me t (Found j n)) may in runs_at c j (λ me t. t.stage ≡ Marked) r.host r.task r.is r.runs r.holds.2
   late_found l j n may found (inr ne) =
-      late_moved start x c l j ne x (after start c (Found j n)) _
+      late_moved start x c l j ne x (after_note start c (Found j n)) _
       (record { state = l.direct.state; hosts = hidden_found x l.pre l.direct j n (other_runs start x c l j ne (λ me t. TaskNote j me t (Found j n)) may) })
       refl (over_hidden n _ c.state l.state found)
 
   -- no entry is named behind it
   pub late_writes : (l : Late start x c) → IsApart c → (j seq : ℕ) (e : Entry) → OfRunning (slice_get (shapes_in c) j) (λ me t. TaskNote j me t (Writes j seq e))
-      → Fits (past_in start c) (Writes j seq e)
+      → FitsNext (past_in start c) (Writes j seq e)
       → (j ≡ l.host) ⊎ (j ≢ l.host) → ⊥
   late_writes l apart j seq e may fits (inl e_same) =
       named_met l.seq seq (stage_is start x c l (λ s. s ≡ Met seq) (subst (λ (k : ℕ). OfRunning (slice_get (shapes_in c) k) (λ me t. t.stage ≡ Met seq)) e_same (met_it c j may)))
@@ -170,8 +170,8 @@ module _ (start : Image) (x c : Possible) where
   late_writes l apart j seq e may fits (inr ne) = no_other start x c l j ne apart seq e may fits
 
   -- a note that a history leaves out is passed over
-  pub inner_over : IsApart c → Over start x c → (y : Note) → IsTrue (is_inner y) → (lines : ℕ) → MayStand lines (shapes_in c) y → Fits (past_in start c) y
-      → Over start x (after start c y)
+  pub inner_over : IsApart c → Over start x c → (y : Note) → IsTrue (is_inner y) → (lines : ℕ) → MayStand lines (shapes_in c) y → FitsNext (past_in start c) y
+      → Over start x (after_note start c y)
   inner_over apart (direct d) (Mark j) inner lines may fits = direct (over_mark start x c d j may)
   inner_over apart (direct d) (Found j n) inner lines may fits = direct (over_found start x c d j n may fits)
   inner_over apart (direct d) (Writes j seq e) inner lines may fits =

@@ -15,7 +15,7 @@ use Rattle.fam_journal.specs.Notes.{Answer, Replied, MediaFault, Note, Host, Mad
 use Rattle.fam_journal.specs.Past.{Bad, HostPast, Sound, State, acknowledges, ended_state, shows, shows_count, with_pending, reported_count}
 use Rattle.fam_journal.specs.Shapes.{Met, Pairs, TaskNote, TaskShape, keeps_behind}
 use Rattle.fam_judge.specs.Covering.{Direct, HostOver, StateOver}
-use Rattle.fam_judge.specs.Fitting.{AnswerFits, Fits, QuestionFits, ReplyFits}
+use Rattle.fam_judge.specs.Fitting.{AnswerFits, FitsNext, QuestionFits, ReplyFits}
 use Rattle.fam_judge.specs.Formed.{AnswerPlace, HasPlace}
 use Rattle.fam_judge.specs.Possible.{Possible, Progress, after_line, meets, past_in, shapes_in}
 use Rattle.fam_judge.specs.Standing.{MayStand}
@@ -129,7 +129,7 @@ module _ (start : Image) (x c : Possible) (d : Direct x c) where
     };
   }
 
-  reply_follows : (h : ℕ) (given : Reply) → MetWish c → MayStand (length start) (shapes_in c) (Answered h (Replied given)) → Fits (past_in start c) (Answered h (Replied given))
+  reply_follows : (h : ℕ) (given : Reply) → MetWish c → MayStand (length start) (shapes_in c) (Answered h (Replied given)) → FitsNext (past_in start c) (Answered h (Replied given))
       → FollowsIn start x c (Answered h (Replied given))
   reply_follows h given wishes may fits =
       let both = both_run x c d h (λ me t. TaskNote h me t (Answered h (Replied given))) may.0 in
@@ -139,7 +139,7 @@ module _ (start : Image) (x c : Possible) (d : Direct x c) where
       (λ n is. wishes h both.other both.other_task n both.other_is both.other_runs is))
       (reply_within given both.other.told c.state fit)
 
-  writes_follows : IsApart x → (h seq : ℕ) (e : Entry) → MayStand (length start) (shapes_in c) (Writes h seq e) → Fits (past_in start c) (Writes h seq e)
+  writes_follows : IsApart x → (h seq : ℕ) (e : Entry) → MayStand (length start) (shapes_in c) (Writes h seq e) → FitsNext (past_in start c) (Writes h seq e)
       → FollowsIn start x c (Writes h seq e)
   writes_follows apart h seq e may fits =
       let is = writes_in start x c d apart h seq e may fits in
@@ -150,7 +150,7 @@ module _ (start : Image) (x c : Possible) (d : Direct x c) where
       }
 
   -- by the line
-  pub line_follows : IsApart x → MetWish c → (y : Note) → MayStand (length start) (shapes_in c) y → Fits (past_in start c) y → FollowsIn start x c y
+  pub line_follows : IsApart x → MetWish c → (y : Note) → MayStand (length start) (shapes_in c) y → FitsNext (past_in start c) y → FollowsIn start x c y
   line_follows apart wishes (Mark h) may fits = own_mark start x c d h may
   line_follows apart wishes (Found h n) may fits = own_found start x c d h n fits may
   line_follows apart wishes (Writes h seq e) may fits = writes_follows apart h seq e may fits

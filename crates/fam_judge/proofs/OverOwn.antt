@@ -9,7 +9,7 @@ use Rattle.fam_journal.specs.Notes.{Note, Mark, Found}
 use Rattle.fam_journal.specs.Past.{HostPast, State, finds, settled_length}
 use Rattle.fam_journal.specs.Shapes.{Begun, CommandStage, Marked, Met, Named, OfRunning, TaskNote, TaskShape, with_stage}
 use Rattle.fam_judge.specs.Covering.{Direct, HostOver, StagesOver, StateOver, TasksOver, same}
-use Rattle.fam_judge.specs.Possible.{Steps, Possible, Progress, StageIs, after, after_line, marked, shapes_in, stands, unmarked, with_mark, without_mark}
+use Rattle.fam_judge.specs.Possible.{StepsTo, Possible, Progress, StageIs, after_note, after_line, marked, shapes_in, stands, unmarked, after_mark, without_mark}
 use Rattle.fam_judge.proofs.Over.{master_finds, none_finds, over_finds, over_settled, settled_finds}
 use Rattle.fam_judge.proofs.OverHosts.{Later, no_later}
 use Rattle.fam_judge.proofs.Pairing.{paired}
@@ -20,8 +20,8 @@ use Rattle.fam_judge.proofs.Places.{Running, changed_is, once_pairs, own_pairs, 
 -- the line leads from x to a state that allows no less than the one behind c
 pub record FollowsIn (start : Image) (x c : Possible) (line : Note) : Type 0 where
   pub next : Possible
-  pub leads : Steps start x line next
-  pub over : Direct next (after start c line)
+  pub leads : StepsTo start x line next
+  pub over : Direct next (after_note start c line)
 
 -- of a host that runs a command in both states
 pub record Both (x c : Possible) (h : ℕ) (P : List ℕ → TaskShape → Type 0) : Type 0 where
@@ -206,7 +206,7 @@ module _ (start : Image) (x c : Possible) (d : Direct x c) (h n : ℕ) (found : 
     where
       by : (both : Both x c h (λ me t. TaskNote h me t (Found h n))) → MarkedFirst both.task.stage both.host.told both.other.told → FollowsIn start x c (Found h n)
       by both (no_mark begun) =
-          let now = with_mark h x in
+          let now = after_mark h x in
           let there = changed_is h (λ (p : Progress). record p { shape = with_stage Marked p.shape }) x.hosts both.host both.is in
           record {
             next = after_line start now (Found h n);

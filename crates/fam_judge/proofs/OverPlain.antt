@@ -11,7 +11,7 @@ use Rattle.fam_journal.specs.Past.{Sound, State, halted, settled_length}
 use Rattle.fam_journal.specs.Shapes.{Pairs, TaskNote, TaskShape}
 use Rattle.fam_journal.proofs.Calls.Declares.{none_passes}
 use Rattle.fam_judge.specs.Covering.{Direct, HostOver, StateOver, TasksOver, same}
-use Rattle.fam_judge.specs.Possible.{Possible, Progress, after, after_line, giver, new_progress, past_in, shapes_in, ReachesFor}
+use Rattle.fam_judge.specs.Possible.{Possible, Progress, after_note, after_line, giver, new_progress, past_in, shapes_in, ReachesFor}
 use Rattle.fam_judge.specs.Standing.{Face, MayStand, engaged_in, face, faces, is_own}
 use Rattle.fam_judge.proofs.Folding.{shape_in}
 use Rattle.fam_judge.proofs.OverHosts.{no_later}
@@ -19,7 +19,7 @@ use Rattle.fam_judge.proofs.OverOwn.{FollowsIn, both_run}
 use Rattle.fam_judge.proofs.Pairing.{pairs_all, pairs_more}
 use Rattle.fam_judge.proofs.Places.{once_pairs, own_pairs, runs_at, of_told}
 use Rattle.fam_judge.proofs.Standing.Alike.{stands_seen}
-use Rattle.fam_judge.specs.Fitting.{Fits}
+use Rattle.fam_judge.specs.Fitting.{FitsNext}
 use Rattle.fam_judge.specs.Formed.{AnswerPlace}
 
 -- Faces.
@@ -70,8 +70,8 @@ all_idle x none k p is =
 
 module _ (start : Image) (x c : Possible) (d : Direct x c) where
   -- a line that speaks of faces leads on, where what it leaves allows no less
-  plain_leads : (y : Note) → giver y ≡ None → is_own y ≡ false → Fits (past_in start x) y → MayStand (length start) (shapes_in c) y
-      → Direct (after_line start x y) (after start c y) → FollowsIn start x c y
+  plain_leads : (y : Note) → giver y ≡ None → is_own y ≡ false → FitsNext (past_in start x) y → MayStand (length start) (shapes_in c) y
+      → Direct (after_line start x y) (after_note start c y) → FollowsIn start x c y
   plain_leads y none plain fits may over = record {
     next = after_line start x y;
     leads = record {
@@ -111,7 +111,7 @@ module _ (start : Image) (x c : Possible) (d : Direct x c) where
       by true = over
       by false = same refl
 
-  started_over : (h : ℕ) (cmd : Cmd) → Pairs (HostOver x.state) (after_line start x (Start h cmd)).hosts (after start c (Start h cmd)).hosts
+  started_over : (h : ℕ) (cmd : Cmd) → Pairs (HostOver x.state) (after_line start x (Start h cmd)).hosts (after_note start c (Start h cmd)).hosts
   started_over h cmd = own_pairs x c d h x.state _ _ _ (no_later x.state) (λ p q is other over. record {
     name = over.name;
     uuid = over.uuid;

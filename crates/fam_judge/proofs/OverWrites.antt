@@ -14,7 +14,7 @@ use Rattle.fam_journal.specs.Notes.{Found, Writes}
 use Rattle.fam_journal.specs.Past.{Bad, HostPast, Sound, State, cmd_of, filled_bytes, finds, pends, settled_length}
 use Rattle.fam_journal.specs.Shapes.{Begun, CommandStage, EntryShape, IsHead, Marked, Met, Named, OfRunning, Pairs, TaskNote, TaskShape, with_stage}
 use Rattle.fam_judge.specs.Covering.{Direct, HostOver, StagesOver, StateOver, TasksOver, same}
-use Rattle.fam_judge.specs.Possible.{Meets, NonePends, Possible, Progress, after, past_in, shapes_in, shown_met, left_out_met}
+use Rattle.fam_judge.specs.Possible.{MeetsEntries, NonePends, Possible, Progress, after_note, past_in, shapes_in, shown_met, left_out_met}
 use Rattle.fam_judge.proofs.Folding.{told_in}
 use Rattle.fam_judge.proofs.Over.{over_met, over_none, over_settled, settled_finds, over_master}
 use Rattle.fam_judge.proofs.OverHosts.{IsApart, LaterOf, host_later_of, one_place}
@@ -23,7 +23,7 @@ use Rattle.fam_judge.proofs.Pairing.{pairs_step}
 use Rattle.fam_judge.proofs.Places.{changed_is, changed_twice, of_told, runs_at, told_at}
 use Rattle.fam_judge.proofs.Replies.{decided_master}
 use Rattle.fam_rules.specs.Decide.{decide}
-use Rattle.fam_judge.specs.Fitting.{Fits}
+use Rattle.fam_judge.specs.Fitting.{FitsNext}
 
 -- What an entry that is named tells of the state.
 
@@ -110,11 +110,11 @@ module _ (start : Image) (x c : Possible) (d : Direct x c) (apart : IsApart x) (
   -- what the first state comes to
   pub record WritesIn : Type 0 where
     pub met : Possible
-    pub meets : Meets start h x met
+    pub meets : MeetsEntries start h x met
     pub may : OfRunning (slice_get (shapes_in met) h) (λ me t. TaskNote h me t (Writes h seq e))
-    pub fits : Fits (past_in start met) (Writes h seq e)
-    pub over : Direct (after start met (Writes h seq e)) (after start c (Writes h seq e))
-    pub state : (after start met (Writes h seq e)).state ≡ (after start c (Writes h seq e)).state
+    pub fits : FitsNext (past_in start met) (Writes h seq e)
+    pub over : Direct (after_note start met (Writes h seq e)) (after_note start c (Writes h seq e))
+    pub state : (after_note start met (Writes h seq e)).state ≡ (after_note start c (Writes h seq e)).state
 
   module _ (both : Both x c h (λ me t. TaskNote h me t (Writes h seq e))) (says : WriteSays seq e both.other.told c.state) where
     counted : FoundAllowed seq x.state × (finds seq x.state ≡ c.state)
@@ -135,18 +135,18 @@ module _ (start : Image) (x c : Possible) (d : Direct x c) (apart : IsApart x) (
     file_is = ap (λ (o : Option Cmd). named_file o e) (cmd_at start c h both.other both.other_is ∙ sym both.over.told_cmd)
 
     writes_there : (now : Possible) (p : Progress) → slice_get now.hosts h ≡ Some p → p.told.cmd ≡ both.host.told.cmd → p.told.uuid ≡ both.host.told.uuid → now.state ≡ c.state
-        → Fits (past_in start now) (Writes h seq e)
+        → FitsNext (past_in start now) (Writes h seq e)
     writes_there now p is cmd uuid state =
         of_told start now h (λ host. WritesAllowed seq e host now.state) p is
         (subst (λ (s : State). WritesAllowed seq e p.told s) (sym state)
         (may_write seq e p.told both.other.told c.state (uuid ∙ both.over.told_uuid) (cmd ∙ both.over.told_cmd) says))
 
     next_state : (now : Possible) (p : Progress) → slice_get now.hosts h ≡ Some p → p.told.cmd ≡ both.host.told.cmd → now.state ≡ c.state
-        → (after start now (Writes h seq e)).state ≡ Sound says.params says.history (Some (named_file both.host.told.cmd e))
+        → (after_note start now (Writes h seq e)).state ≡ Sound says.params says.history (Some (named_file both.host.told.cmd e))
     next_state now p is cmd state =
         ap (λ (f : File). pends f now.state) (ap (λ (o : Option Cmd). named_file o e) (cmd_at start now h p is ∙ cmd)) ∙ pended now.state both.host.told.cmd state
 
-    left_state : (after start c (Writes h seq e)).state ≡ Sound says.params says.history (Some (named_file both.host.told.cmd e))
+    left_state : (after_note start c (Writes h seq e)).state ≡ Sound says.params says.history (Some (named_file both.host.told.cmd e))
     left_state = ap (λ (f : File). pends f c.state) file_is ∙ pended c.state both.host.told.cmd refl
 
     host_written : (f : Progress → Progress) → ((a : Progress) → (f a).shape.name ≡ a.shape.name) → ((a : Progress) → (f a).shape.uuid ≡ a.shape.uuid)
@@ -171,7 +171,7 @@ module _ (start : Image) (x c : Possible) (d : Direct x c) (apart : IsApart x) (
     from_head head =
         let wish : EntryShape both.other_task.cmd e = both.holds.1 in
         let found : Progress → Progress = λ p. record p { shape = with_stage (Met seq) p.shape } in
-        let now = after start x (Found h seq) in
+        let now = after_note start x (Found h seq) in
         let there : slice_get now.hosts h ≡ Some (found both.host) = changed_is h found x.hosts both.host both.is in
         record {
           met = now;
@@ -182,9 +182,9 @@ module _ (start : Image) (x c : Possible) (d : Direct x c) (apart : IsApart x) (
           fits = writes_there now (found both.host) there refl refl counted.1;
           over = record {
             state = same (left_state ∙ sym (next_state now (found both.host) there refl counted.1));
-            hosts = subst (λ (s : State). Pairs (HostOver s) (after start now (Writes h seq e)).hosts (after start c (Writes h seq e)).hosts)
+            hosts = subst (λ (s : State). Pairs (HostOver s) (after_note start now (Writes h seq e)).hosts (after_note start c (Writes h seq e)).hosts)
                 (sym (next_state now (found both.host) there refl counted.1))
-                (subst (λ (l : List Progress). Pairs (HostOver (Sound says.params says.history (Some (named_file both.host.told.cmd e)))) l (after start c (Writes h seq e)).hosts)
+                (subst (λ (l : List Progress). Pairs (HostOver (Sound says.params says.history (Some (named_file both.host.told.cmd e)))) l (after_note start c (Writes h seq e)).hosts)
                 (sym (changed_twice h found _ x.hosts))
                 (written_pairs x c d apart h seq e both.host both.other both.is both.other_is both.over says low (named_file both.host.told.cmd e) _ _
                 (λ a b is other over. host_written found (λ p. refl) (λ p. refl) (λ p. refl) (λ p. refl) (λ p. staged p.shape.task) _ a b over)));
@@ -208,7 +208,7 @@ module _ (start : Image) (x c : Possible) (d : Direct x c) (apart : IsApart x) (
           fits = writes_there x both.host both.is refl refl state;
           over = record {
             state = same (left_state ∙ sym (next_state x both.host both.is refl state));
-            hosts = subst (λ (s : State). Pairs (HostOver s) (after start x (Writes h seq e)).hosts (after start c (Writes h seq e)).hosts)
+            hosts = subst (λ (s : State). Pairs (HostOver s) (after_note start x (Writes h seq e)).hosts (after_note start c (Writes h seq e)).hosts)
                 (sym (next_state x both.host both.is refl state))
                 (written_pairs x c d apart h seq e both.host both.other both.is both.other_is both.over says low (named_file both.host.told.cmd e) _ _
                 (λ a b is other over. host_written (λ p. p) (λ p. refl) (λ p. refl) (λ p. refl) (λ p. refl) (λ p. refl) _ a b over));
@@ -223,7 +223,7 @@ module _ (start : Image) (x c : Possible) (d : Direct x c) (apart : IsApart x) (
     by_stage (Named k) is stages = absurd stages
 
   -- an entry that is named behind the second state is named behind the first one
-  pub writes_in : OfRunning (slice_get (shapes_in c) h) (λ me t. TaskNote h me t (Writes h seq e)) → Fits (past_in start c) (Writes h seq e)
+  pub writes_in : OfRunning (slice_get (shapes_in c) h) (λ me t. TaskNote h me t (Writes h seq e)) → FitsNext (past_in start c) (Writes h seq e)
       → WritesIn
   writes_in may fits =
       let both = both_run x c d h (λ me t. TaskNote h me t (Writes h seq e)) may in

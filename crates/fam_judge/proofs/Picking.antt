@@ -14,7 +14,7 @@ use Rattle.fam_rules.specs.Asks.{File, compared, compared_at, file_bytes_from, f
 use Rattle.fam_rules.specs.Content.{content_byte}
 use Rattle.fam_rules.specs.Reply as reply
 use Rattle.fam_rules.specs.Reply.{Reply}
-use Rattle.fam_judge.specs.Fitting.{FileFits, FitBytes, FitsByte, FitsWanted, IsLong, KindFits, MayBeSame, MayDiffer, ReadFits, VerifiedFits, given_count}
+use Rattle.fam_judge.specs.Fitting.{FileFits, FitBytes, FitsByte, FitsWanted, AllowsSize, KindFits, MayBeSame, MayDiffer, ReadFits, VerifiedFits, given_count}
 use Rattle.fam_judge.specs.Untold.{untold, untold_content}
 use Rattle.fam_judge.proofs.Choosing.{ChosenBytes, ChosenFile, Choice, IsChosenContent, any}
 use Rattle.fam_judge.proofs.Fitted.{read_at, read_inside, read_length}
@@ -90,7 +90,7 @@ wanted_is w a c (inr (none, is)) fits = is
 
 -- a content's bytes are told, or chosen
 content_is : (wanted : ℕ → ℕ) (against : Content) → IsChosenContent wanted against → (n i : ℕ)
-    → IsLong (given_count (untold_content against)) n → i < n
+    → AllowsSize (given_count (untold_content against)) n → i < n
     → IsWanted (wanted i) (content_byte (untold_content against) i) (content_byte against i)
 content_is wanted content.Zero is n i long below = inl (refl, omega arith)
 content_is wanted (content.Seed seed) is n i long below = inl (refl, omega arith)
@@ -99,7 +99,7 @@ content_is wanted (content.Bytes bytes) is n i long below =
     inr (get_or-replicate (length bytes) i untold 0 short, is i short)
 
 -- given bytes that are as many are compared
-verified_compared : (m : ℕ) (bytes : List ℕ) (against : Content) → IsLong (given_count (untold_content against)) (length bytes)
+verified_compared : (m : ℕ) (bytes : List ℕ) (against : Content) → AllowsSize (given_count (untold_content against)) (length bytes)
     → verified m bytes against ≡ compared m bytes against
 verified_compared m bytes content.Zero long = refl
 verified_compared m bytes (content.Seed seed) long = refl
@@ -177,10 +177,10 @@ module _ (m : ℕ) (told : List ℕ) (content : Content) where
   abbrev differs_choice : (o f w : ℕ) → f < 256 → Choice
   differs_choice o f w low = record any { source = except o f; wanted = except o w; bytes = λ i. except_below o f i low }
 
-  module _ (bytes : List ℕ) (against : Content) (is : content ≡ untold_content against) (long : IsLong (given_count content) (length told)) where
-    long_own : (n : ℕ) → length told ≡ n → IsLong (given_count (untold_content against)) n
+  module _ (bytes : List ℕ) (against : Content) (is : content ≡ untold_content against) (long : AllowsSize (given_count content) (length told)) where
+    long_own : (n : ℕ) → length told ≡ n → AllowsSize (given_count (untold_content against)) n
     long_own n same =
-        subst (λ (k : ℕ). IsLong (given_count (untold_content against)) k) same (subst (λ (c : Content). IsLong (given_count c) (length told)) is long)
+        subst (λ (k : ℕ). AllowsSize (given_count (untold_content against)) k) same (subst (λ (c : Content). AllowsSize (given_count c) (length told)) is long)
 
     compares : length bytes ≡ length told → verified m bytes against ≡ compared m bytes against
     compares count = verified_compared m bytes against (long_own (length bytes) (sym count))

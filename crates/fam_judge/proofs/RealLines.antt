@@ -9,9 +9,9 @@ use Rattle.fam_journal.specs.Members.{changed_at}
 use Rattle.fam_journal.specs.Notes.{Replied, MediaFault, Note, Host, Made, Cut, Start, Mark, Found, Writes, Answered, Stop, Halt, Umount, Refused}
 use Rattle.fam_journal.specs.Past.{HostPast, State, settled_length, state_after, pends, filled_bytes, cmd_of, Past}
 use Rattle.fam_journal.specs.Shapes.{Begun, CommandStage, Marked, Met, Named, OfRunning, Pairs, TaskNote, TaskShape, with_stage}
-use Rattle.fam_judge.specs.Fitting.{AnswerFits, Fits}
+use Rattle.fam_judge.specs.Fitting.{AnswerFits, FitsNext}
 use Rattle.fam_judge.specs.Formed.{AnswerPlace}
-use Rattle.fam_judge.specs.Possible.{Leads, LeadsTo, Possible, Progress, ReachesFor, Steps, after, after_line, giver, new_progress, past_in, shapes_in}
+use Rattle.fam_judge.specs.Possible.{MayLead, LeadsTo, Possible, Progress, ReachesFor, StepsTo, after_note, after_line, giver, new_progress, past_in, shapes_in}
 use Rattle.fam_judge.specs.Standing.{Face, MayStand, OfFace, face, faces, is_own}
 use Rattle.fam_judge.specs.Untold.{untold_note, untold_notes}
 use Rattle.fam_judge.proofs.Choices.{Chosen, IsBegun, as_it_is, at_mark, chosen_back, chosen_begins, chosen_last, faces_chosen, mark_came, no_mark_came, Begins}
@@ -44,7 +44,7 @@ module _ (start : Image) (lines : List Note) where
   -- Lines of a running command.
 
   own_line : (h : ℕ) (now : Possible) (y : Note) → giver y ≡ Some h → untold_note y ≡ y → IsRealizedAt start lines h now → MayStand (length start) (shapes_in now) y
-      → Fits (past_in start now) y
+      → FitsNext (past_in start now) y
       → IsRealized start (lines ++ y ∷ []) (after_line start now y)
   own_line h now (Mark k) is told real may fits =
       let same : h ≡ k = same_Some h k (sym is) in
@@ -84,16 +84,16 @@ module _ (start : Image) (lines : List Note) where
     stands_chosen old pairs y plain is = stands_seen (length start) (shapes_in x) (shapes_in (with_hosts x old)) y (sym (faces_chosen x.hosts old pairs)) plain is
 
     -- hosts stay as they are
-    same_hosts : (y : Note) (s : State) → untold_note y ≡ y → is_own y ≡ false → MayStand (length start) (shapes_in x) y → ((p : Past) → Fits p y)
-        → ((old : List Progress) → after start (with_hosts x old) y ≡ record { state = s; hosts = old }) → IsRealized start (lines ++ y ∷ []) (record { state = s; hosts = x.hosts })
+    same_hosts : (y : Note) (s : State) → untold_note y ≡ y → is_own y ≡ false → MayStand (length start) (shapes_in x) y → ((p : Past) → FitsNext p y)
+        → ((old : List Progress) → after_note start (with_hosts x old) y ≡ record { state = s; hosts = old }) → IsRealized start (lines ++ y ∷ []) (record { state = s; hosts = x.hosts })
     same_hosts y s told plain may fits is hosts pairs =
         subst (ComesTo start (lines ++ y ∷ [])) (is hosts) (line_more start lines (with_hosts x hosts) y (real hosts pairs) told (stands_chosen hosts pairs y plain may) (fits (past_in start (with_hosts x hosts))))
 
     -- a host's command ends, or what it keeps
     ended_host : (h : ℕ) (y : Note) (f : Progress → Progress) → untold_note y ≡ y
         → ((old : List Progress) → Pairs Chosen x.hosts old → MayStand (length start) (shapes_in (with_hosts x old)) y)
-        → ((old : List Progress) → Pairs Chosen x.hosts old → Fits (past_in start (with_hosts x old)) y)
-        → ((old : List Progress) → after start (with_hosts x old) y ≡ record { state = x.state; hosts = changed_at h f old })
+        → ((old : List Progress) → Pairs Chosen x.hosts old → FitsNext (past_in start (with_hosts x old)) y)
+        → ((old : List Progress) → after_note start (with_hosts x old) y ≡ record { state = x.state; hosts = changed_at h f old })
         → ((p : Progress) → slice_get x.hosts h ≡ Some p → IsBegun (f p) → ⊥) → ((p : Progress) → slice_get x.hosts h ≡ Some p → IsBegun p → f (at_mark p) ≡ f p)
         → IsRealized start (lines ++ y ∷ []) (record { state = x.state; hosts = changed_at h f x.hosts })
     ended_host h y f told may fits is none same hosts pairs =
@@ -139,19 +139,19 @@ module _ (start : Image) (lines : List Note) where
         by : Begins h begin mark x.hosts hosts → ComesTo start (lines ++ Start h cmd ∷ []) (with_hosts x hosts)
         by b = last b.is
           where
-            first : ComesTo start (lines ++ Start h cmd ∷ []) (after start (with_hosts x b.old) (Start h cmd))
+            first : ComesTo start (lines ++ Start h cmd ∷ []) (after_note start (with_hosts x b.old) (Start h cmd))
             first = line_more start lines (with_hosts x b.old) (Start h cmd) (real b.old b.chosen) told (stands_chosen b.old b.chosen (Start h cmd) refl may) tt
 
-            running : OfRunning (slice_get (shapes_in (after start (with_hosts x b.old) (Start h cmd))) h) (λ me t. TaskNote h me t (Mark h))
+            running : OfRunning (slice_get (shapes_in (after_note start (with_hosts x b.old) (Start h cmd))) h) (λ me t. TaskNote h me t (Mark h))
             running =
                 let p = host_of h _ may.1 in
                 let q = pairs_at Chosen x.hosts b.old h p.0 b.chosen p.1 in
-                runs_at (after start (with_hosts x b.old) (Start h cmd)) h (λ me t. TaskNote h me t (Mark h)) (begin q.0) (record { cmd = cmd; stage = Begun }) (changed_is h begin b.old q.0 q.1) refl (refl, refl)
+                runs_at (after_note start (with_hosts x b.old) (Start h cmd)) h (λ me t. TaskNote h me t (Mark h)) (begin q.0) (record { cmd = cmd; stage = Begun }) (changed_is h begin b.old q.0 q.1) refl (refl, refl)
 
             last : (changed_at h begin b.old ≡ hosts) ⊎ (changed_at h mark (changed_at h begin b.old) ≡ hosts) → ComesTo start (lines ++ Start h cmd ∷ []) (with_hosts x hosts)
             last (inl e) = subst (λ (l : List Progress). ComesTo start (lines ++ Start h cmd ∷ []) (with_hosts x l)) e first
             last (inr e) = subst (λ (l : List Progress). ComesTo start (lines ++ Start h cmd ∷ []) (with_hosts x l)) e
-                (hidden_more start (lines ++ Start h cmd ∷ []) (after start (with_hosts x b.old) (Start h cmd)) (Mark h) first refl refl running tt)
+                (hidden_more start (lines ++ Start h cmd ∷ []) (after_note start (with_hosts x b.old) (Start h cmd)) (Mark h) first refl refl running tt)
 
     media_runs : (h line : ℕ) → MayStand (length start) (shapes_in x) (Answered h (MediaFault line)) → (old : List Progress) → Pairs Chosen x.hosts old
         → MayStand (length start) (shapes_in (with_hosts x old)) (Answered h (MediaFault line))
@@ -167,7 +167,7 @@ module _ (start : Image) (lines : List Note) where
         runs_still p q t e (mark_came begun is) = (record t { stage = Marked }, ap (λ (z : Progress). z.shape.task) is ∙ ap (option_map (λ (t : TaskShape). record t { stage = Marked })) e)
 
     media_fits : (h line : ℕ) → MayStand (length start) (shapes_in x) (Answered h (MediaFault line)) → (old : List Progress) → Pairs Chosen x.hosts old
-        → Fits (past_in start (with_hosts x old)) (Answered h (MediaFault line))
+        → FitsNext (past_in start (with_hosts x old)) (Answered h (MediaFault line))
     media_fits h line may old pairs =
         let r = running_at x h (λ me t. TaskNote h me t (Answered h (MediaFault line))) may.0 in
         let q = pairs_at Chosen x.hosts old h r.host pairs r.is in
@@ -198,7 +198,7 @@ module _ (start : Image) (lines : List Note) where
     plain_line (Writes h seq e) is told may = absurd cc
 
   -- a line that leads on
-  steps_real : (x : Possible) → IsRealized start lines x → (y : Note) → untold_note y ≡ y → (z : Possible) → Steps start x y z → IsRealized start (lines ++ y ∷ []) z
+  steps_real : (x : Possible) → IsRealized start lines x → (y : Note) → untold_note y ≡ y → (z : Possible) → StepsTo start x y z → IsRealized start (lines ++ y ∷ []) z
   steps_real x real y told z steps = by (giver y) refl steps.reaches
     where
       by : (o : Option ℕ) → giver y ≡ o → ReachesFor start o x steps.now → IsRealized start (lines ++ y ∷ []) z
@@ -209,7 +209,7 @@ module _ (start : Image) (lines : List Note) where
           subst (IsRealized start (lines ++ y ∷ [])) (sym steps.is)
           (own_line h steps.now y e told (real_reaches start lines h x real steps.now reaches) steps.may steps.fits)
 
-  pub leads_real : (x : Possible) → IsRealized start lines x → (y : Note) → untold_note y ≡ y → (z : Possible) → Leads start x y z → IsRealized start (lines ++ y ∷ []) z
+  pub leads_real : (x : Possible) → IsRealized start lines x → (y : Note) → untold_note y ≡ y → (z : Possible) → MayLead start x y z → IsRealized start (lines ++ y ∷ []) z
   leads_real x real y told z leads = steps_real leads.first (real_before start lines x leads.first real leads.before) y told z leads.steps
 
 -- one line more in front

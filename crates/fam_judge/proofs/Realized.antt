@@ -7,7 +7,7 @@ use Rattle.fam_commands.specs.Appends.{HasWish}
 use Rattle.fam_journal.specs.Members.{changed_at}
 use Rattle.fam_journal.specs.Notes.{Note, Found}
 use Rattle.fam_journal.specs.Shapes.{Begun, CommandStage, IsHead, Marked, Met, Named, Pairs, TaskNote, TaskShape, with_stage}
-use Rattle.fam_judge.specs.Possible.{Before, Meets, Possible, Progress, Reaches, StageIs, Wrote, after, as_is, marked, meets, stands, shown_met, unmarked, left_out_met, with_mark, written, wrote}
+use Rattle.fam_judge.specs.Possible.{MayHaveNamed, MeetsEntries, Possible, Progress, Reaches, StageIs, Wrote, after_note, as_is, marked, meets, stands, shown_met, unmarked, left_out_met, after_mark, written, wrote}
 use Rattle.fam_judge.proofs.Choices.{Chosen, IsBegun, at_mark, chosen_back, faces_chosen, floorless, mark_came, no_mark_came, as_it_is, ButOne, chosen_but}
 use Rattle.fam_judge.proofs.Members.{changed_same}
 use Rattle.fam_judge.proofs.Places.{Running, changed_is, changed_twice, running_at, runs_at}
@@ -41,9 +41,9 @@ module _ (start : Image) (lines : List Note) (h : ℕ) (x : Possible) (real : Is
       by r (Met n) e head = absurd head
       by r (Named n) e head = absurd head
 
-  twice : (n : ℕ) → (after start (with_mark h x) (Found h n)) ≡ after start x (Found h n)
+  twice : (n : ℕ) → (after_note start (after_mark h x) (Found h n)) ≡ after_note start x (Found h n)
   twice n =
-      ap (λ (l : List Progress). let z : Possible = record { state = (after start x (Found h n)).state; hosts = l } in z)
+      ap (λ (l : List Progress). let z : Possible = record { state = (after_note start x (Found h n)).state; hosts = l } in z)
       (changed_twice h at_mark (λ p. record p { shape = with_stage (Met n) p.shape }) x.hosts ∙ same h x.hosts)
     where
       one : (p : Progress) → (record p { shape = with_stage (Met n) (with_stage Marked p.shape) }) ≡ (record p { shape = with_stage (Met n) p.shape })
@@ -59,7 +59,7 @@ module _ (start : Image) (lines : List Note) (h : ℕ) (x : Possible) (real : Is
       same (Prim.Native.Nat.suc k) (p ∷ xs) = ap (λ (l : List Progress). p ∷ l) (same k xs)
 
   -- so where its command has found entries
-  real_meets : (m : Possible) → Meets start h x m → IsRealizedAt start lines h m
+  real_meets : (m : Possible) → MeetsEntries start h x m → IsRealizedAt start lines h m
   real_meets m (shown_met n is e) = subst (IsRealizedAt start lines h) (sym e) (real_stands start lines h x real (not_begun (Met n) (met_begun n) is))
   real_meets m (left_out_met n head wish found e) = subst (IsRealizedAt start lines h) (sym e) (by (head_is head))
     where
@@ -70,12 +70,12 @@ module _ (start : Image) (lines : List Note) (h : ℕ) (x : Possible) (real : Is
           let task : r.task ≡ t = same_Some r.task t (sym r.runs ∙ ap (λ (z : Progress). z.shape.task) one ∙ runs) in
           subst (λ (k : TaskShape). HasWish k.cmd) task r.holds
 
-      by : HeadIs → IsRealizedAt start lines h (after start x (Found h n))
+      by : HeadIs → IsRealizedAt start lines h (after_note start x (Found h n))
       by (has_begun begun) =
           let r = running_at x h (λ me t. t.stage ≡ Begun) begun in
           subst (IsRealizedAt start lines h) (twice n)
-          (real_found start lines h n (with_mark h x) (real_marked start lines h x real begun)
-          (runs_at (with_mark h x) h (λ me t. TaskNote h me t (Found h n)) (at_mark r.host) (record r.task { stage = Marked }) (changed_is h at_mark x.hosts r.host r.is)
+          (real_found start lines h n (after_mark h x) (real_marked start lines h x real begun)
+          (runs_at (after_mark h x) h (λ me t. TaskNote h me t (Found h n)) (at_mark r.host) (record r.task { stage = Marked }) (changed_is h at_mark x.hosts r.host r.is)
           (ap (option_map (λ (t : TaskShape). record t { stage = Marked })) r.runs) (refl, wishes r.host r.task r.is r.runs, refl)) found)
       by (has_mark is) =
           let r = running_at x h (λ me t. t.stage ≡ Marked) is in
@@ -117,6 +117,6 @@ real_written start lines k x w real is =
         begun_stage p (record r.task { stage = Named is.seq }) (Named is.seq)
         (ap (λ (z : Progress). z.shape.task) one ∙ ap (option_map (λ (t : TaskShape). record t { stage = Named is.seq })) r.runs) refl (named_begun is.seq) begun
 
-pub real_before : (start : Image) (lines : List Note) (x first : Possible) → IsRealized start lines x → Before start x first → IsRealized start lines first
+pub real_before : (start : Image) (lines : List Note) (x first : Possible) → IsRealized start lines x → MayHaveNamed start x first → IsRealized start lines first
 real_before start lines x first real (as_is e) = subst (IsRealized start lines) (sym e) real
 real_before start lines x first real (written k is) = real_written start lines k x first real is

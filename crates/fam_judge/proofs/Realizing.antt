@@ -10,9 +10,9 @@ use Rattle.fam_journal.specs.Members.{changed_at}
 use Rattle.fam_journal.specs.Notes.{Note, Found, Writes}
 use Rattle.fam_journal.specs.Past.{HostPast, State, settled_length, state_after, pends, filled_bytes, cmd_of}
 use Rattle.fam_journal.specs.Shapes.{Begun, CommandStage, Met, OfRunning, Pairs, TaskNote, TaskShape, with_stage}
-use Rattle.fam_judge.specs.Covering.{AreFitting, behind, state_of}
-use Rattle.fam_judge.specs.Fitting.{Fits}
-use Rattle.fam_judge.specs.Possible.{Possible, Progress, StageIs, after, first_possible, past_in, progress_after, shapes_in, with_mark, without_mark}
+use Rattle.fam_judge.specs.Covering.{AreFitting, behind, possible_behind}
+use Rattle.fam_judge.specs.Fitting.{FitsNext}
+use Rattle.fam_judge.specs.Possible.{Possible, Progress, StageIs, after_note, first_possible, past_in, progress_after, shapes_in, after_mark, without_mark}
 use Rattle.fam_judge.specs.Shows.{ShowsJournal, is_inner}
 use Rattle.fam_judge.specs.Standing.{MayStand}
 use Rattle.fam_judge.specs.Untold.{untold_note, untold_notes}
@@ -30,42 +30,42 @@ pub record ComesTo (start : Image) (lines : List Note) (c : Possible) : Type 0 w
   pub shows : ShowsJournal lines journal
   pub told : untold_notes journal ≡ journal
   pub fitting : AreFitting start (first_possible start) journal
-  pub is : state_of start journal ≡ c
+  pub is : possible_behind start journal ≡ c
 
 -- notes more fit
 fitting_more : (start : Image) (c : Possible) (notes : List Note) (y : Note) → AreFitting start c notes → MayStand (length start) (shapes_in (behind start c notes)) y
-    → Fits (past_in start (behind start c notes)) y
+    → FitsNext (past_in start (behind start c notes)) y
     → AreFitting start c (notes ++ y ∷ [])
 fitting_more start c [] y fitting may fits = (may, fits, tt)
-fitting_more start c (first ∷ notes) y fitting may fits = (fitting.0, fitting.1, fitting_more start (after start c first) notes y fitting.2 may fits)
+fitting_more start c (first ∷ notes) y fitting may fits = (fitting.0, fitting.1, fitting_more start (after_note start c first) notes y fitting.2 may fits)
 
 untold_more : (notes : List Note) (y : Note) → untold_notes notes ≡ notes → untold_note y ≡ y → untold_notes (notes ++ y ∷ []) ≡ notes ++ y ∷ []
 untold_more notes y all one = map-append untold_note notes (y ∷ []) ∙ ap₂ (λ (a : List Note) (b : Note). a ++ b ∷ []) all one
 
 -- a note that the lines leave out
 pub hidden_more : (start : Image) (lines : List Note) (c : Possible) (y : Note) → ComesTo start lines c → IsTrue (is_inner y) → untold_note y ≡ y
-    → MayStand (length start) (shapes_in c) y → Fits (past_in start c) y
-    → ComesTo start lines (after start c y)
+    → MayStand (length start) (shapes_in c) y → FitsNext (past_in start c) y
+    → ComesTo start lines (after_note start c y)
 hidden_more start lines c y come inner told may fits = record {
   journal = come.journal ++ y ∷ [];
   shows = subst (λ (l : List Note). ShowsJournal l (come.journal ++ y ∷ [])) (append-nil lines) (shows_both lines [] come.journal (y ∷ []) come.shows (inner, tt));
   told = untold_more come.journal y come.told told;
   fitting = fitting_more start (first_possible start) come.journal y come.fitting (subst (λ (x : Possible). MayStand (length start) (shapes_in x) y) (sym come.is) may)
-      (subst (λ (x : Possible). Fits (past_in start x) y) (sym come.is) fits);
-  is = behind_more start (first_possible start) come.journal y ∙ ap (λ (x : Possible). after start x y) come.is;
+      (subst (λ (x : Possible). FitsNext (past_in start x) y) (sym come.is) fits);
+  is = behind_more start (first_possible start) come.journal y ∙ ap (λ (x : Possible). after_note start x y) come.is;
 }
 
 -- a note that is a line more
 pub line_more : (start : Image) (lines : List Note) (c : Possible) (y : Note) → ComesTo start lines c → untold_note y ≡ y → MayStand (length start) (shapes_in c) y
-    → Fits (past_in start c) y
-    → ComesTo start (lines ++ y ∷ []) (after start c y)
+    → FitsNext (past_in start c) y
+    → ComesTo start (lines ++ y ∷ []) (after_note start c y)
 line_more start lines c y come told may fits = record {
   journal = come.journal ++ y ∷ [];
   shows = shows_both lines (y ∷ []) come.journal (y ∷ []) come.shows (inl (refl, tt));
   told = untold_more come.journal y come.told told;
   fitting = fitting_more start (first_possible start) come.journal y come.fitting (subst (λ (x : Possible). MayStand (length start) (shapes_in x) y) (sym come.is) may)
-      (subst (λ (x : Possible). Fits (past_in start x) y) (sym come.is) fits);
-  is = behind_more start (first_possible start) come.journal y ∙ ap (λ (x : Possible). after start x y) come.is;
+      (subst (λ (x : Possible). FitsNext (past_in start x) y) (sym come.is) fits);
+  is = behind_more start (first_possible start) come.journal y ∙ ap (λ (x : Possible). after_note start x y) come.is;
 }
 
 -- States.
@@ -108,7 +108,7 @@ module _ (start : Image) (lines : List Note) where
   pub real_unmarked : (h : ℕ) (x : Possible) → IsRealized start lines x → StageIs (λ stage. stage ≡ Begun) h x → IsRealizedAt start lines h (without_mark h x)
   real_unmarked h x real begun hosts but = real hosts (but_chosen h floorless x.hosts hosts but (λ p is. no_mark_came (begun_at x h begun p is) refl))
 
-  pub real_marked : (h : ℕ) (x : Possible) → IsRealized start lines x → StageIs (λ stage. stage ≡ Begun) h x → IsRealizedAt start lines h (with_mark h x)
+  pub real_marked : (h : ℕ) (x : Possible) → IsRealized start lines x → StageIs (λ stage. stage ≡ Begun) h x → IsRealizedAt start lines h (after_mark h x)
   real_marked h x real begun hosts but = real hosts (but_chosen h at_mark x.hosts hosts but (λ p is. mark_came (begun_at x h begun p is) refl))
 
   -- A note of a host's own, which changes it alone.
@@ -117,17 +117,17 @@ module _ (start : Image) (lines : List Note) where
       (prog : (old : List Progress) → progress_after (settled_length m.state) old y ≡ changed_at h g old)
       (state : (old : List Progress) → slice_get old h ≡ slice_get m.hosts h → state_after (past_in start (with_hosts m old)) y ≡ state_after (past_in start m) y)
       (may : (old : List Progress) → slice_get old h ≡ slice_get m.hosts h → MayStand (length start) (shapes_in (with_hosts m old)) y)
-      (fits : (old : List Progress) → slice_get old h ≡ slice_get m.hosts h → Fits (past_in start (with_hosts m old)) y) where
+      (fits : (old : List Progress) → slice_get old h ≡ slice_get m.hosts h → FitsNext (past_in start (with_hosts m old)) y) where
     own_back : (hosts : List Progress) → ButOne h (progress_after (settled_length m.state) m.hosts y) hosts → Back h (λ p. p) g m.hosts hosts
     own_back hosts but = but_back h g (λ p. p) g m.hosts hosts (λ p is. refl) (subst (λ (l : List Progress). ButOne h l hosts) (prog m.hosts) but)
 
     own_is : (hosts : List Progress) (back : Back h (λ p. p) g m.hosts hosts) → slice_get back.old h ≡ slice_get m.hosts h
-        → after start (with_hosts m back.old) y ≡ with_hosts (after start m y) hosts
+        → after_note start (with_hosts m back.old) y ≡ with_hosts (after_note start m y) hosts
     own_is hosts back here =
         ap₂ (λ (s : State) (l : List Progress). let x : Possible = record { state = s; hosts = l } in x) (state back.old here) (prog back.old ∙ back.is)
 
     -- it is left out
-    pub real_hidden : IsTrue (is_inner y) → IsRealizedAt start lines h m → IsRealizedAt start lines h (after start m y)
+    pub real_hidden : IsTrue (is_inner y) → IsRealizedAt start lines h m → IsRealizedAt start lines h (after_note start m y)
     real_hidden inner real hosts but =
         let back = own_back hosts but in
         let old = unchanged_but h m.hosts back.old back.but in
@@ -135,7 +135,7 @@ module _ (start : Image) (lines : List Note) where
         subst (ComesTo start lines) (own_is hosts back here) (hidden_more start lines (with_hosts m back.old) y (real back.old old) inner told (may back.old here) (fits back.old here))
 
     -- or is a line
-    pub real_line : ((p : Progress) → slice_get m.hosts h ≡ Some p → IsBegun (g p) → ⊥) → IsRealizedAt start lines h m → IsRealized start (lines ++ y ∷ []) (after start m y)
+    pub real_line : ((p : Progress) → slice_get m.hosts h ≡ Some p → IsBegun (g p) → ⊥) → IsRealizedAt start lines h m → IsRealized start (lines ++ y ∷ []) (after_note start m y)
     real_line none real hosts pairs =
         let but = subst (λ (l : List Progress). ButOne h l hosts) (sym (prog m.hosts)) (chosen_but h g m.hosts hosts none (subst (λ (l : List Progress). Pairs Chosen l hosts) (prog m.hosts) pairs)) in
         let back = own_back hosts but in
@@ -163,15 +163,15 @@ module _ (start : Image) (lines : List Note) where
   -- a count that is found
   pub real_found : (h n : ℕ) (m : Possible) → IsRealizedAt start lines h m → OfRunning (slice_get (shapes_in m) h) (λ me t. TaskNote h me t (Found h n))
       → FoundAllowed n m.state
-      → IsRealizedAt start lines h (after start m (Found h n))
+      → IsRealizedAt start lines h (after_note start m (Found h n))
   real_found h n m real may found =
       real_hidden h m (Found h n) (λ p. record p { shape = with_stage (Met n) p.shape }) refl (λ old. refl) (λ old same. refl)
       (λ old same. runs_here h m old same (λ me t. TaskNote h me t (Found h n)) may) (λ old same. found) refl real
 
   -- an entry that is named
   pub real_writes : (h seq : ℕ) (e : Entry) (m : Possible) → IsRealizedAt start lines h m → OfRunning (slice_get (shapes_in m) h) (λ me t. TaskNote h me t (Writes h seq e))
-      → Fits (past_in start m) (Writes h seq e)
-      → IsRealizedAt start lines h (after start m (Writes h seq e))
+      → FitsNext (past_in start m) (Writes h seq e)
+      → IsRealizedAt start lines h (after_note start m (Writes h seq e))
   real_writes h seq e m real may fits =
       real_hidden h m (Writes h seq e) _ refl (λ old. refl)
       (λ old same. ap (λ (o : Option HostPast). pends (record { entry = e; bytes = filled_bytes (cmd_of o) e.size }) m.state) (told_here h m old same))

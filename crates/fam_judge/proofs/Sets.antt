@@ -7,10 +7,10 @@ use Rattle.std.proofs.lemmas.List.{map-append}
 use Rattle.fam_base.specs.Image.{Image}
 use Rattle.fam_journal.specs.Notes.{Note, Host, Made, Cut, Start, Mark, Found, Writes, Answered, Stop, Halt, Umount, Refused}
 use Rattle.fam_judge.specs.Alike.{told_note}
-use Rattle.fam_judge.specs.Covering.{AreFitting, GoesOn, HasBelow, IsBelow, IsOf, Judges, Over, behind, direct, late, same, state_of}
+use Rattle.fam_judge.specs.Covering.{AreFitting, LeadsStates, HasBelow, IsBelow, IsOf, Judges, Over, behind, direct, late, same, possible_behind}
 use Rattle.fam_judge.specs.Explained.{IsExplained, AreAllowedForSome}
-use Rattle.fam_judge.specs.Fitting.{Fits}
-use Rattle.fam_judge.specs.Possible.{Elsewhere, IsPossible, Leads, LeadsTo, Possible, after, first_possible, past_in, settled_by, shapes_in}
+use Rattle.fam_judge.specs.Fitting.{FitsNext}
+use Rattle.fam_judge.specs.Possible.{Elsewhere, IsPossible, MayLead, LeadsTo, Possible, after_note, first_possible, past_in, answer_settles, shapes_in}
 use Rattle.fam_judge.specs.Shows.{ShowsJournal, is_inner}
 use Rattle.fam_judge.specs.Standing.{MayStand, faces, AreStanding}
 use Rattle.fam_judge.specs.Untold.{untold_note, untold_notes}
@@ -33,11 +33,11 @@ use Rattle.fam_judge.proofs.Standing.Journals.{explained_stands}
 
 pub fitting_front : (start : Image) (c : Possible) (a b : List Note) → AreFitting start c (a ++ b) → AreFitting start c a
 fitting_front start c [] b fitting = tt
-fitting_front start c (y ∷ a) b fitting = (fitting.0, fitting.1, fitting_front start (after start c y) a b fitting.2)
+fitting_front start c (y ∷ a) b fitting = (fitting.0, fitting.1, fitting_front start (after_note start c y) a b fitting.2)
 
 pub fitting_back : (start : Image) (c : Possible) (a b : List Note) → AreFitting start c (a ++ b) → AreFitting start (behind start c a) b
 fitting_back start c [] b fitting = fitting
-fitting_back start c (y ∷ a) b fitting = fitting_back start (after start c y) a b fitting.2
+fitting_back start c (y ∷ a) b fitting = fitting_back start (after_note start c y) a b fitting.2
 
 -- what holds behind each note
 pub record IsGood (c : Possible) : Type 0 where
@@ -50,7 +50,7 @@ good_first start = record { apart = λ k l u a b. absurd cc; wishes = λ k p at.
 good_behind : (start : Image) (c : Possible) (notes : List Note) → IsGood c → AreFitting start c notes → IsGood (behind start c notes)
 good_behind start c [] good fitting = good
 good_behind start c (y ∷ notes) good fitting =
-    good_behind start (after start c y) notes (record {
+    good_behind start (after_note start c y) notes (record {
       apart = apart_after start (length start) c y good.apart fitting.0;
       wishes = wishes_after start (length start) c y good.wishes fitting.0;
     }) fitting.2
@@ -60,7 +60,7 @@ inner_all : (start : Image) (x c : Possible) (notes : List Note) → Over start 
     → Over start x (behind start c notes)
 inner_all start x c [] over good shows fitting = over
 inner_all start x c (y ∷ notes) over good shows fitting =
-    inner_all start x (after start c y) notes (inner_over start x c good.apart over y shows.0 (length start) fitting.0 fitting.1)
+    inner_all start x (after_note start c y) notes (inner_over start x c good.apart over y shows.0 (length start) fitting.0 fitting.1)
     (record { apart = apart_after start (length start) c y good.apart fitting.0; wishes = wishes_after start (length start) c y good.wishes fitting.0 }) shows.1 fitting.2
 
 pub untold_parts : (a b : List Note) → untold_notes (a ++ b) ≡ a ++ b → (untold_notes a ≡ a) × (untold_notes b ≡ b)
@@ -75,9 +75,9 @@ untold_parts (y ∷ a) b told = let more = untold_parts a b (tails told) in (ap�
 
 -- Lines.
 
-leads_more : (start : Image) (x : Possible) (lines : List Note) (y : Note) (z mid : Possible) → LeadsTo start x lines mid → Leads start mid y z
+leads_more : (start : Image) (x : Possible) (lines : List Note) (y : Note) (z mid : Possible) → LeadsTo start x lines mid → MayLead start mid y z
     → LeadsTo start x (lines ++ y ∷ []) z
-leads_more start x [] y z mid leads one = (z, subst (λ (w : Possible). Leads start w y z) leads one, refl)
+leads_more start x [] y z mid leads one = (z, subst (λ (w : Possible). MayLead start w y z) leads one, refl)
 leads_more start x (line ∷ lines) y z mid leads one = (leads.0, leads.1, leads_more start leads.0 lines y z mid leads.2 one)
 
 -- a journal that lines show, at the last of them
@@ -160,7 +160,7 @@ elsewhere_or k seq (Found h n) = by (cases_eq h k) (cases_eq n (seq + 1))
     by (inl e) second = inr (λ both. both.0 e)
     by (inr ne) (inl e) = inr (λ both. both.1 e)
     by (inr ne) (inr other) = inl (ne, other)
-elsewhere_or k seq (Answered h answer) = by (cases_eq h k) (settled_by answer) refl
+elsewhere_or k seq (Answered h answer) = by (cases_eq h k) (answer_settles answer) refl
   where
     at_count : (m : ℕ) → (m ≡ seq + 1) ⊎ (m ≢ seq + 1) → (Some m ≡ Some (seq + 1)) ⊎ (Some m ≢ Some (seq + 1))
     at_count m (inl e) = inl (ap Some e)
@@ -169,17 +169,17 @@ elsewhere_or k seq (Answered h answer) = by (cases_eq h k) (settled_by answer) r
     none_count : None ≡ Some (seq + 1) → ⊥
     none_count e = cc
 
-    both : h ≢ k → (Some_is : (settled_by answer ≡ Some (seq + 1)) ⊎ (settled_by answer ≢ Some (seq + 1)))
+    both : h ≢ k → (Some_is : (answer_settles answer ≡ Some (seq + 1)) ⊎ (answer_settles answer ≢ Some (seq + 1)))
         → Elsewhere k seq (Answered h answer) ⊎ (Elsewhere k seq (Answered h answer) → ⊥)
     both ne (inl e) = inr (λ pair. pair.1 e)
     both ne (inr other) = inl (ne, other)
 
-    by : (h ≡ k) ⊎ (h ≢ k) → (o : Option ℕ) → settled_by answer ≡ o → Elsewhere k seq (Answered h answer) ⊎ (Elsewhere k seq (Answered h answer) → ⊥)
+    by : (h ≡ k) ⊎ (h ≢ k) → (o : Option ℕ) → answer_settles answer ≡ o → Elsewhere k seq (Answered h answer) ⊎ (Elsewhere k seq (Answered h answer) → ⊥)
     by (inl e) o is = inr (λ pair. pair.0 e)
     by (inr ne) None is = both ne (inr (λ e. none_count (sym is ∙ e)))
     by (inr ne) (Some m) is = both ne (subst (λ (o : Option ℕ). (o ≡ Some (seq + 1)) ⊎ (o ≢ Some (seq + 1))) (sym is) (at_count m (cases_eq m (seq + 1))))
 
-module _ (start : Image) (lines : List Note) (xs zs : List Possible) (y : Note) (judges : Judges start lines xs) (on : GoesOn start y xs zs) where
+module _ (start : Image) (lines : List Note) (xs zs : List Possible) (y : Note) (judges : Judges start lines xs) (on : LeadsStates start y xs zs) where
   -- a state to which the line leads, and what it covers
   pub record Next (c : Possible) : Type 0 where
     pub next : Possible
@@ -204,35 +204,35 @@ module _ (start : Image) (lines : List Note) (xs zs : List Possible) (y : Note) 
   below_next : (c z : Possible) → HasBelow zs z → Over start z c → Next c
   below_next c z has over = record { next = has.state; is = has.is; over = below_over z has.state c has.below over }
 
-  by_over : (x c : Possible) → IsOf xs x → IsGood c → MayStand (length start) (shapes_in c) y → Fits (past_in start c) y → Over start x c → Next (after start c y)
+  by_over : (x c : Possible) → IsOf xs x → IsGood c → MayStand (length start) (shapes_in c) y → FitsNext (past_in start c) y → Over start x c → Next (after_note start c y)
   by_over x c is good may fits (direct d) =
       let f = line_follows start x c d (over_apart start x c (direct d) good.apart) (each_wishes c good.wishes) y may fits in
-      below_next (after start c y) f.next (on.own x f.next is f.leads) (direct f.over)
+      below_next (after_note start c y) f.next (on.own x f.next is f.leads) (direct f.over)
   by_over x c is good may fits (late l) = by (elsewhere_or l.host l.seq y)
     where
-      by : Elsewhere l.host l.seq y ⊎ (Elsewhere l.host l.seq y → ⊥) → Next (after start c y)
+      by : Elsewhere l.host l.seq y ⊎ (Elsewhere l.host l.seq y → ⊥) → Next (after_note start c y)
       by (inl other) =
           let s = late_stays start x c l good.apart good.wishes y other may fits in
-          below_next (after start c y) s.next (on.own x s.next is s.leads) (late s.late)
+          below_next (after_note start c y) s.next (on.own x s.next is s.leads) (late s.late)
       by (inr tells) =
           let now = late_now start x c (over_apart start x c (late l) good.apart) l in
           let f = line_follows start now.now c now.direct (over_apart start now.now c (direct now.direct) good.apart) (each_wishes c good.wishes) y may fits in
-          below_next (after start c y) f.next (on.named x now.now f.next l.host is now.wrote (λ other. tells (subst (λ (n : ℕ). Elsewhere l.host n y) now.number other)) f.leads) (direct f.over)
+          below_next (after_note start c y) f.next (on.named x now.now f.next l.host is now.wrote (λ other. tells (subst (λ (n : ℕ). Elsewhere l.host n y) now.number other)) f.leads) (direct f.over)
 
-  at_line : (journal : List Note) → LineAt lines y journal → AreFitting start (first_possible start) journal → Next (state_of start journal)
+  at_line : (journal : List Note) → LineAt lines y journal → AreFitting start (first_possible start) journal → Next (possible_behind start journal)
   at_line journal at fitting =
       let all = subst (AreFitting start (first_possible start)) at.whole fitting in
       let front = fitting_front start (first_possible start) at.before (y ∷ at.back) all in
       let rest = fitting_back start (first_possible start) at.before (y ∷ at.back) all in
       let good = good_behind start (first_possible start) at.before (good_first start) front in
       let x = judges.complete at.before at.shows at.told front in
-      let next = by_over x.0 (state_of start at.before) x.1 good rest.0 rest.1 x.2 in
-      subst Next (sym (ap (state_of start) at.whole ∙ behind_both start (first_possible start) at.before (y ∷ at.back)))
+      let next = by_over x.0 (possible_behind start at.before) x.1 good rest.0 rest.1 x.2 in
+      subst Next (sym (ap (possible_behind start) at.whole ∙ behind_both start (first_possible start) at.before (y ∷ at.back)))
       (record {
         next = next.next;
         is = next.is;
-        over = inner_all start next.next (after start (state_of start at.before) y) at.back next.over
-            (good_behind start (state_of start at.before) (y ∷ []) good (rest.0, rest.1, tt)) at.hidden rest.2;
+        over = inner_all start next.next (after_note start (possible_behind start at.before) y) at.back next.over
+            (good_behind start (possible_behind start at.before) (y ∷ []) good (rest.0, rest.1, tt)) at.hidden rest.2;
       })
 
   more_sound : (z : Possible) → IsOf zs z → IsPossible start (lines ++ y ∷ []) z
@@ -287,7 +287,7 @@ judges_none start history judges explained = none (judges.complete (untold_notes
     shows : ShowsJournal (untold_notes history) (untold_notes j.0)
     shows = untold_shows history j.0 j.1
 
-    none : ((x : Possible) × IsOf [] x × Over start x (state_of start (untold_notes j.0))) → ⊥
+    none : ((x : Possible) × IsOf [] x × Over start x (possible_behind start (untold_notes j.0))) → ⊥
     none x = by x.1
       where
         by : IsOf [] x.0 → ⊥
@@ -306,7 +306,7 @@ pub record StandsLast (start : Image) (xs : List Possible) (y : Note) : Type 0 w
   pub is : IsOf xs state
   pub over : Over start state covered
   pub may : MayStand (length start) (shapes_in covered) y
-  pub fits : Fits (past_in start covered) y
+  pub fits : FitsNext (past_in start covered) y
 
 pub stands_last : (start : Image) (lines other : List Note) (n : Note) (xs : List Possible) → Judges start lines xs → untold_notes other ≡ lines
     → IsExplained start (other ++ n ∷ []) → StandsLast start xs (untold_note n)
@@ -326,4 +326,4 @@ stands_last start lines other n xs judges told is = by (split_at lines (untold_n
         let front = fitting_front start (first_possible start) at.before (untold_note n ∷ at.back) all in
         let rest = fitting_back start (first_possible start) at.before (untold_note n ∷ at.back) all in
         let x = judges.complete at.before at.shows at.told front in
-        record { state = x.0; covered = state_of start at.before; is = x.1; over = x.2; may = rest.0; fits = rest.1 }
+        record { state = x.0; covered = possible_behind start at.before; is = x.1; over = x.2; may = rest.0; fits = rest.1 }

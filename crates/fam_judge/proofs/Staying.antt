@@ -14,9 +14,9 @@ use Rattle.fam_journal.specs.Past.{HostPast, Sound, State, cmd_of, ended_state, 
 use Rattle.fam_journal.specs.Shapes.{Begun, CommandStage, HostShape, Marked, Met, Named, TaskNote, TaskShape, with_stage}
 use Rattle.fam_journal.proofs.Calls.Members.{changed_here, changed_other}
 use Rattle.fam_judge.specs.Covering.{Direct, FloorUnder, HostOver, Late, StagesOver, StateOver, TasksOver, late}
-use Rattle.fam_judge.specs.Fitting.{AnswerFits, Fits}
+use Rattle.fam_judge.specs.Fitting.{AnswerFits, FitsNext}
 use Rattle.fam_judge.specs.Formed.{AnswerPlace}
-use Rattle.fam_judge.specs.Possible.{Elsewhere, Possible, Progress, Steps, after, new_progress, past_in, settled_by, shapes_in}
+use Rattle.fam_judge.specs.Possible.{Elsewhere, Possible, Progress, StepsTo, after_note, new_progress, past_in, answer_settles, shapes_in}
 use Rattle.fam_judge.specs.Standing.{Face, MayStand, OfFace, engaged_in, face, faces, is_own}
 use Rattle.fam_judge.proofs.Completing.{over_apart}
 use Rattle.fam_judge.proofs.Folding.{shape_in}
@@ -79,8 +79,8 @@ module _ (s : State) (low high : ℕ) (up : low ≤ high) where
 -- the line leads from x to a state that hasn't named it either: the same host has named the same entry behind c
 pub record Stays (start : Image) (x c : Possible) (l : Late start x c) (line : Note) : Type 0 where
   pub next : Possible
-  pub leads : Steps start x line next
-  pub late : Late start next (after start c line)
+  pub leads : StepsTo start x line next
+  pub late : Late start next (after_note start c line)
   pub host : late.host ≡ l.host
   pub seq : late.seq ≡ l.seq
   pub entry : late.entry ≡ l.entry
@@ -88,12 +88,12 @@ pub record Stays (start : Image) (x c : Possible) (l : Late start x c) (line : N
 module _ (start : Image) (x c : Possible) (l : Late start x c) where
   -- the state behind the entry
   abbrev named_state : State
-  named_state = (after start l.pre (Writes l.host l.seq l.entry)).state
+  named_state = (after_note start l.pre (Writes l.host l.seq l.entry)).state
 
   -- its host stands where it stood, and may name it still
-  stays_at : (y : Note) (next : Possible) → Steps start x y next → (pre : Possible) → Direct next pre → pre.state ≡ l.pre.state
+  stays_at : (y : Note) (next : Possible) → StepsTo start x y next → (pre : Possible) → Direct next pre → pre.state ≡ l.pre.state
       → slice_get pre.hosts l.host ≡ Some (runs_pre start x c l).host
-      → (after start c y).hosts ≡ changed_at l.host (naming start x c l) pre.hosts → StateOver named_state (after start c y).state → Stays start x c l y
+      → (after_note start c y).hosts ≡ changed_at l.host (naming start x c l) pre.hosts → StateOver named_state (after_note start c y).state → Stays start x c l y
   stays_at y next leads pre first state is hosts over = record {
     next = next;
     leads = leads;
@@ -108,7 +108,7 @@ module _ (start : Image) (x c : Possible) (l : Late start x c) where
           (subst (λ (s : State). WritesAllowed l.seq l.entry r.host.told s) (sym state)
           (told_at start l.pre l.host (λ host. WritesAllowed l.seq l.entry host l.pre.state) r.host r.is l.fits));
       hosts = hosts;
-      state = subst (λ (s : State). StateOver s (after start c y).state) pends_same over;
+      state = subst (λ (s : State). StateOver s (after_note start c y).state) pends_same over;
     };
     host = refl;
     seq = refl;
@@ -118,7 +118,7 @@ module _ (start : Image) (x c : Possible) (l : Late start x c) where
       r : Running l.pre l.host (λ me t. TaskNote l.host me t (Writes l.host l.seq l.entry))
       r = runs_pre start x c l
 
-      pends_same : named_state ≡ (after start pre (Writes l.host l.seq l.entry)).state
+      pends_same : named_state ≡ (after_note start pre (Writes l.host l.seq l.entry)).state
       pends_same =
           ap (λ (cmd : Option Cmd). pends (named_file cmd l.entry) l.pre.state) (cmd_at start l.pre l.host r.host r.is ∙ sym (cmd_at start pre l.host r.host is))
           ∙ ap (pends (named_file (cmd_of (slice_get (past_in start pre).hosts l.host)) l.entry)) (sym state)
@@ -185,18 +185,18 @@ module _ (start : Image) (x c : Possible) (l : Late start x c) where
     ]
 
     -- the line leads on from before the entry
-    follows : (y : Note) → MayStand (length start) (shapes_in l.pre) y → Fits (past_in start l.pre) y → FollowsIn start x l.pre y
+    follows : (y : Note) → MayStand (length start) (shapes_in l.pre) y → FitsNext (past_in start l.pre) y → FollowsIn start x l.pre y
     follows y may fits = line_follows start x l.pre l.direct (over_apart start x c (late l) apart) wish_pre y may fits
 
-    seen : (y : Note) → is_own y ≡ false → MayStand (length start) (shapes_in c) y → Fits (past_in start l.pre) y → FollowsIn start x l.pre y
+    seen : (y : Note) → is_own y ≡ false → MayStand (length start) (shapes_in c) y → FitsNext (past_in start l.pre) y → FollowsIn start x l.pre y
     seen y own may fits = follows y (stands_seen (length start) (shapes_in c) (shapes_in l.pre) y faces_pre own may) fits
 
     -- another host changes
-    moves : (y : Note) (j : ℕ) (f : Progress → Progress) → j ≢ l.host → (after start l.pre y).hosts ≡ changed_at j f l.pre.hosts
-        → (after start c y).hosts ≡ changed_at j f c.hosts → (after start l.pre y).state ≡ l.pre.state
-        → StateOver named_state (after start c y).state → FollowsIn start x l.pre y → Stays start x c l y
+    moves : (y : Note) (j : ℕ) (f : Progress → Progress) → j ≢ l.host → (after_note start l.pre y).hosts ≡ changed_at j f l.pre.hosts
+        → (after_note start c y).hosts ≡ changed_at j f c.hosts → (after_note start l.pre y).state ≡ l.pre.state
+        → StateOver named_state (after_note start c y).state → FollowsIn start x l.pre y → Stays start x c l y
     moves y j f ne first second state over n =
-        stays_at y n.next n.leads (after start l.pre y) n.over state
+        stays_at y n.next n.leads (after_note start l.pre y) n.over state
         (ap (λ (hosts : List Progress). slice_get hosts l.host) first ∙ changed_other j l.host f l.pre.hosts (λ e. ne (sym e)) ∙ (runs_pre start x c l).is)
         (second ∙ ap (changed_at j f) l.hosts ∙ changed_apart j l.host f (naming start x c l) l.pre.hosts ne
         ∙ ap (changed_at l.host (naming start x c l)) (sym first)) over
@@ -208,14 +208,14 @@ module _ (start : Image) (x c : Possible) (l : Late start x c) where
         let n = seen (Host name uuid) refl may tt in
         let new = new_progress name uuid in
         let within = slice_get_within l.pre.hosts l.host (runs_pre start x c l).host (runs_pre start x c l).is in
-        stays_at (Host name uuid) n.next n.leads (after start l.pre (Host name uuid)) n.over refl
+        stays_at (Host name uuid) n.next n.leads (after_note start l.pre (Host name uuid)) n.over refl
         (front_member l.host l.pre.hosts new within ∙ (runs_pre start x c l).is)
         (ap (λ (hosts : List Progress). hosts ++ new ∷ []) l.hosts ∙ sym (changed_append l.host (naming start x c l) l.pre.hosts new within)) l.state
 
     refused : (name : List ℕ) (cause : Refusal) → MayStand (length start) (shapes_in c) (Refused name cause) → Stays start x c l (Refused name cause)
     refused name cause may =
         let n = seen (Refused name cause) refl may tt in
-        stays_at (Refused name cause) n.next n.leads (after start l.pre (Refused name cause)) n.over refl (runs_pre start x c l).is l.hosts l.state
+        stays_at (Refused name cause) n.next n.leads (after_note start l.pre (Refused name cause)) n.over refl (runs_pre start x c l).is l.hosts l.state
 
     -- a mark's floor is higher behind the entry than before it, where the entry is settled
     marked_line : (j : ℕ) → j ≢ l.host → MayStand (length start) (shapes_in c) (Mark j) → Stays start x c l (Mark j)
@@ -224,12 +224,12 @@ module _ (start : Image) (x c : Possible) (l : Late start x c) where
         let low = settled_length l.pre.state in
         let high = settled_length c.state in
         let g : Progress → Progress = λ p. record { told = record p.told { floor = Some high }; shape = with_stage Marked p.shape } in
-        let pre : Possible = record { state = l.pre.state; hosts = changed_at j (raised high) (after start l.pre (Mark j)).hosts } in
+        let pre : Possible = record { state = l.pre.state; hosts = changed_at j (raised high) (after_note start l.pre (Mark j)).hosts } in
         let is : pre.hosts ≡ changed_at j g l.pre.hosts = changed_twice j _ (raised high) l.pre.hosts in
         stays_at (Mark j) n.next n.leads pre
         (record {
           state = n.over.state;
-          hosts = one_side n.next (after start l.pre (Mark j)) n.over j (raised high)
+          hosts = one_side n.next (after_note start l.pre (Mark j)) n.over j (raised high)
               (λ p q at over. let was = floor_is q (slice_get l.pre.hosts j) (sym (changed_here j _ l.pre.hosts) ∙ at) in
               host_raised n.next.state low high higher p q was over);
         })
@@ -260,19 +260,19 @@ module _ (start : Image) (x c : Possible) (l : Late start x c) where
         (follows (Found j n) (other_runs start x c l j ne (λ me t. TaskNote j me t (Found j n)) may)
         (subst (FoundAllowed n) (sym before) is))
 
-    answered_line : (j : ℕ) (answer : Answer) → j ≢ l.host → settled_by answer ≢ Some (l.seq + 1) → MayStand (length start) (shapes_in c) (Answered j answer)
-        → Fits (past_in start c) (Answered j answer) → Stays start x c l (Answered j answer)
+    answered_line : (j : ℕ) (answer : Answer) → j ≢ l.host → answer_settles answer ≢ Some (l.seq + 1) → MayStand (length start) (shapes_in c) (Answered j answer)
+        → FitsNext (past_in start c) (Answered j answer) → Stays start x c l (Answered j answer)
     answered_line j answer ne other may fits =
         let p = (says start x c l).params in
         let q = running_at c j (λ me t. TaskNote j me t (Answered j answer)) may.0 in
-        let more : settled_by answer ≢ Some (length history + 1) = (λ e. other (e ∙ ap Some (sym count_is))) in
+        let more : answer_settles answer ≢ Some (length history + 1) = (λ e. other (e ∙ ap Some (sym count_is))) in
         let fit : AnswerFits answer q.host.told c.state = told_at start c j (λ host. AnswerFits answer host c.state) q.host q.is fits in
         let first = answer_first p history file q.host.told (not_master apart j ne q.host q.is) c.state came answer more fit in
-        let none : (s : State) → shows_count (settled_by answer) s ≡ s → ended_state answer s ≡ s =
+        let none : (s : State) → shows_count (answer_settles answer) s ≡ s → ended_state answer s ≡ s =
         (λ s e. ended_is answer s ∙ ap (λ (o : Option ℕ). shows_count o s) (sym (settled_is answer)) ∙ e) in
         moves (Answered j answer) j _ ne refl refl
-        (none l.pre.state (ap (shows_count (settled_by answer)) before ∙ counts_none (settled_by answer) p history ∙ sym before))
-        (subst (StateOver named_state) (sym (none c.state (settles_none p history file c.state came (settled_by answer) more))) l.state)
+        (none l.pre.state (ap (shows_count (answer_settles answer)) before ∙ counts_none (answer_settles answer) p history ∙ sym before))
+        (subst (StateOver named_state) (sym (none c.state (settles_none p history file c.state came (answer_settles answer) more))) l.state)
         (follows (Answered j answer) (
           other_runs start x c l j ne (λ me t. TaskNote j me t (Answered j answer)) may.0,
           other_runs start x c l j ne (λ me t. AnswerPlace t.cmd t.stage answer) may.1,
@@ -286,7 +286,7 @@ module _ (start : Image) (x c : Possible) (l : Late start x c) where
     umount_line j (inr ne) may = moves (Umount j) j _ ne refl refl refl l.state (seen (Umount j) refl may tt)
 
     -- a line that tells nothing of an entry that was named: x follows it without naming the entry
-    pub late_stays : (y : Note) → Elsewhere l.host l.seq y → MayStand (length start) (shapes_in c) y → Fits (past_in start c) y → Stays start x c l y
+    pub late_stays : (y : Note) → Elsewhere l.host l.seq y → MayStand (length start) (shapes_in c) y → FitsNext (past_in start c) y → Stays start x c l y
     late_stays (Host name uuid) other may fits = declares name uuid may
     late_stays (Made h p) other may fits = absurd (idle_not may.0)
     late_stays (Cut h k) other may fits = absurd (idle_not may.0.1)

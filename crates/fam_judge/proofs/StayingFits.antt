@@ -17,17 +17,17 @@ use Rattle.fam_journal.specs.Notes.{Answer, Replied, MediaFault}
 use Rattle.fam_journal.specs.Past.{BadHeader, BadSlot, Damage, HostPast, NoSuperblock, Sound, State, acknowledges, reported_count, shows_count}
 use Rattle.fam_judge.specs.Covering.{StateOver, dropped, joined, same}
 use Rattle.fam_judge.specs.Fitting.{AnswerFits, AskFits, IsFitting, QuestionFits, ReplyFits}
-use Rattle.fam_judge.specs.Possible.{settled_by, settled_in}
+use Rattle.fam_judge.specs.Possible.{answer_settles, reply_settles}
 use Rattle.fam_judge.proofs.Replies.{IsDecline, IsMasters, decided_master, reported_is}
 use Rattle.fam_judge.proofs.Sizes.{acknowledged, effect, effect_in}
 use Rattle.fam_judge.proofs.States.{Goes, counts_none, goes, joined_length, joins, stays}
 
 -- what an answer settles
-pub settled_is : (answer : Answer) → settled_by answer ≡ effect answer
+pub settled_is : (answer : Answer) → answer_settles answer ≡ effect answer
 settled_is (MediaFault line) = refl
 settled_is (Replied given) = by (reply_class given)
   where
-    by : (c : ReplyClass) → settled_in c ≡ effect_in c
+    by : (c : ReplyClass) → reply_settles c ≡ effect_in c
     by (Appending seq) = refl
     by (Declining why) = refl
     by (Showing m) = refl
@@ -159,7 +159,7 @@ module _ (p : Params) (history : List File) (f : File) where
 
       -- Replies.
 
-      reply_first : (t : State) → Behind t → (given : Reply) → settled_by (Replied given) ≢ Some (length history + 1) → ReplyFits given host t
+      reply_first : (t : State) → Behind t → (given : Reply) → answer_settles (Replied given) ≢ Some (length history + 1) → ReplyFits given host t
           → ReplyFits given host (Sound p history None)
       reply_first t at (reply.Appended seq) ne is = appended_first t at seq ne is
       reply_first t at (reply.NotAppended why) ne is = cause_first t at why is
@@ -170,7 +170,7 @@ module _ (p : Params) (history : List File) (f : File) where
       reply_first t at given ne is = asked_first t at _ given ne is
 
       -- an answer of another host that tells nothing of the entry fits before it was named
-      pub answer_first : (t : State) → Behind t → (answer : Answer) → settled_by answer ≢ Some (length history + 1) → AnswerFits answer host t
+      pub answer_first : (t : State) → Behind t → (answer : Answer) → answer_settles answer ≢ Some (length history + 1) → AnswerFits answer host t
           → AnswerFits answer host (Sound p history None)
       answer_first t at (MediaFault line) ne is = tt
       answer_first t at (Replied given) ne is = reply_first t at given ne is

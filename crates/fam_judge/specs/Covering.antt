@@ -9,8 +9,8 @@ use Rattle.fam_journal.specs.Legal.{master_of}
 use Rattle.fam_journal.specs.Notes.{Note, Writes}
 use Rattle.fam_journal.specs.Past.{HostPast, Sound, State, settled_length}
 use Rattle.fam_journal.specs.Shapes.{Begun, CommandStage, Marked, Met, Named, OfRunning, Pairs, TaskNote, TaskShape}
-use Rattle.fam_judge.specs.Fitting.{Fits}
-use Rattle.fam_judge.specs.Possible.{Elsewhere, IsPossible, Leads, NonePends, Possible, Progress, Steps, Wrote, after, first_possible, past_in, shapes_in}
+use Rattle.fam_judge.specs.Fitting.{FitsNext}
+use Rattle.fam_judge.specs.Possible.{Elsewhere, IsPossible, MayLead, NonePends, Possible, Progress, StepsTo, Wrote, after_note, first_possible, past_in, shapes_in}
 use Rattle.fam_judge.specs.Shows.{ShowsJournal}
 use Rattle.fam_judge.specs.Standing.{MayStand}
 use Rattle.fam_judge.specs.Untold.{untold_notes}
@@ -82,16 +82,16 @@ pub record Direct (x c : Possible) : Type 0 where
 -- notes one behind another
 abbrev pub behind : Image → Possible → List Note → Possible
 behind start x [] = x
-behind start x (y ∷ notes) = behind start (after start x y) notes
+behind start x (y ∷ notes) = behind start (after_note start x y) notes
 
 -- the state behind a journal
-abbrev pub state_of : Image → List Note → Possible
-state_of start journal = behind start (first_possible start) journal
+abbrev pub possible_behind : Image → List Note → Possible
+possible_behind start journal = behind start (first_possible start) journal
 
 -- each of these notes stands, and fits
 abbrev pub AreFitting : Image → Possible → List Note → Type 0
 AreFitting start c [] = ⊤
-AreFitting start c (y ∷ notes) = MayStand (length start) (shapes_in c) y × Fits (past_in start c) y × AreFitting start (after start c y) notes
+AreFitting start c (y ∷ notes) = MayStand (length start) (shapes_in c) y × FitsNext (past_in start c) y × AreFitting start (after_note start c y) notes
 
 -- An entry that was named, where the first state hasn't named it yet.
 
@@ -103,9 +103,9 @@ pub record Late (start : Image) (x c : Possible) : Type 0 where
   pub seq : ℕ
   pub entry : Entry
   pub may : OfRunning (slice_get (shapes_in pre) host) (λ me t. TaskNote host me t (Writes host seq entry))
-  pub fits : Fits (past_in start pre) (Writes host seq entry)
-  pub hosts : c.hosts ≡ (after start pre (Writes host seq entry)).hosts
-  pub state : StateOver (after start pre (Writes host seq entry)).state c.state
+  pub fits : FitsNext (past_in start pre) (Writes host seq entry)
+  pub hosts : c.hosts ≡ (after_note start pre (Writes host seq entry)).hosts
+  pub state : StateOver (after_note start pre (Writes host seq entry)).state c.state
 
 -- the first state is one that allows no less, or one in which the entry isn't named yet
 pub data Over (start : Image) (x c : Possible) : Type 0 where
@@ -155,11 +155,11 @@ pub record HasBelow (xs : List Possible) (y : Possible) : Type 0 where
 pub record Judges (start : Image) (lines : List Note) (xs : List Possible) : Type 0 where
   pub sound : (x : Possible) → IsOf xs x → IsPossible start lines x
   pub complete : (journal : List Note) → ShowsJournal lines journal → untold_notes journal ≡ journal → AreFitting start (first_possible start) journal
-      → (x : Possible) × IsOf xs x × Over start x (state_of start journal)
+      → (x : Possible) × IsOf xs x × Over start x (possible_behind start journal)
 
 -- the line leads from the first states to the second ones: to no others than it may; and for each state to which it leads, from one of the
 -- first ones or from one that has named an entry of which the line tells, to one that allows no less
-pub record GoesOn (start : Image) (line : Note) (xs zs : List Possible) : Type 0 where
-  pub sound : (z : Possible) → IsOf zs z → (x : Possible) × IsOf xs x × Leads start x line z
-  pub own : (x z : Possible) → IsOf xs x → Steps start x line z → HasBelow zs z
-  pub named : (x w z : Possible) (k : ℕ) → IsOf xs x → (wrote : Wrote start k x w) → (Elsewhere k wrote.seq line → ⊥) → Steps start w line z → HasBelow zs z
+pub record LeadsStates (start : Image) (line : Note) (xs zs : List Possible) : Type 0 where
+  pub sound : (z : Possible) → IsOf zs z → (x : Possible) × IsOf xs x × MayLead start x line z
+  pub own : (x z : Possible) → IsOf xs x → StepsTo start x line z → HasBelow zs z
+  pub named : (x w z : Possible) (k : ℕ) → IsOf xs x → (wrote : Wrote start k x w) → (Elsewhere k wrote.seq line → ⊥) → StepsTo start w line z → HasBelow zs z

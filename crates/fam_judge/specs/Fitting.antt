@@ -62,15 +62,15 @@ given_count (content.Seed seed) = None
 given_count (content.Bytes given) = Some (length given)
 
 -- a content has any size, or so many bytes
-abbrev pub IsLong : Option ℕ → ℕ → Type 0
-IsLong None size = ⊤
-IsLong (Some count) size = count ≡ size
+abbrev pub AllowsSize : Option ℕ → ℕ → Type 0
+AllowsSize None size = ⊤
+AllowsSize (Some count) size = count ≡ size
 
 -- what a verify of the first m entries may give of a file
 abbrev pub VerifiedFits : ℕ → List ℕ → Content → Reply → Type 0
-VerifiedFits m bytes against (reply.Same n) = (n ≡ m) × IsLong (given_count against) (length bytes) × MayBeSame bytes against
+VerifiedFits m bytes against (reply.Same n) = (n ≡ m) × AllowsSize (given_count against) (length bytes) × MayBeSame bytes against
 VerifiedFits m bytes against (reply.Differs n offset found wanted) =
-    (n ≡ m) × IsLong (given_count against) (length bytes) × MayDiffer bytes against offset found wanted
+    (n ≡ m) × AllowsSize (given_count against) (length bytes) × MayDiffer bytes against offset found wanted
 VerifiedFits m bytes against (reply.Length n size wanted) =
     (n ≡ m) × (size ≡ length bytes) × (given_count against ≡ Some wanted) × (wanted ≢ size)
 VerifiedFits m bytes against (reply.Appended seq) = ⊥
@@ -98,8 +98,8 @@ KindFits m kind.File given fits = fits
 
 -- a question about a file
 abbrev pub FileFits : ℕ → Option File → Reply → (List ℕ → Type 0) → Type 0
-FileFits m None given Fits = given ≡ reply.NotFound m
-FileFits m (Some f) given Fits = KindFits m f.entry.kind given (Fits f.bytes)
+FileFits m None given FitsNext = given ≡ reply.NotFound m
+FileFits m (Some f) given FitsNext = KindFits m f.entry.kind given (FitsNext f.bytes)
 
 -- how a tree may differ from a listing of which so much is told
 pub record CheckFits (tree : Tree) (told : Cmd) (counts : Checked) : Type 0 where
@@ -161,16 +161,16 @@ AnswerFits (Replied given) host state = ReplyFits given host state
 AnswerFits (MediaFault line) host state = ⊤
 
 -- what fits next. Where it says ⊤ any such note does
-abbrev pub Fits : Past → Note → Type 0
-Fits past (Host name uuid) = ⊤
-Fits past (Made h p) = ⊤
-Fits past (Cut h k) = ⊤
-Fits past (Start h cmd) = ⊤
-Fits past (Mark h) = ⊤
-Fits past (Found h n) = FoundAllowed n past.state
-Fits past (Writes h seq e) = OfHost (slice_get past.hosts h) (λ host. WritesAllowed seq e host past.state)
-Fits past (Answered h answer) = OfHost (slice_get past.hosts h) (λ host. AnswerFits answer host past.state)
-Fits past (Stop h) = ⊤
-Fits past (Halt h) = ⊤
-Fits past (Umount h) = ⊤
-Fits past (Refused name cause) = ⊤
+abbrev pub FitsNext : Past → Note → Type 0
+FitsNext past (Host name uuid) = ⊤
+FitsNext past (Made h p) = ⊤
+FitsNext past (Cut h k) = ⊤
+FitsNext past (Start h cmd) = ⊤
+FitsNext past (Mark h) = ⊤
+FitsNext past (Found h n) = FoundAllowed n past.state
+FitsNext past (Writes h seq e) = OfHost (slice_get past.hosts h) (λ host. WritesAllowed seq e host past.state)
+FitsNext past (Answered h answer) = OfHost (slice_get past.hosts h) (λ host. AnswerFits answer host past.state)
+FitsNext past (Stop h) = ⊤
+FitsNext past (Halt h) = ⊤
+FitsNext past (Umount h) = ⊤
+FitsNext past (Refused name cause) = ⊤

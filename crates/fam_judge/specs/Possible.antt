@@ -11,7 +11,7 @@ use Rattle.fam_journal.specs.Members.{changed_at}
 use Rattle.fam_journal.specs.Notes.{Answer, Replied, MediaFault, Note, Host, Made, Cut, Start, Mark, Found, Writes, Answered, Stop, Halt, Umount, Refused}
 use Rattle.fam_journal.specs.Past.{HostPast, Past, State, Bad, Sound, first_state, new_host, reported_count, settled_length, state_after}
 use Rattle.fam_journal.specs.Shapes.{Begun, CommandStage, HostShape, IsHead, Marked, Met, Named, OfRunning, TaskNote, keeps_behind, with_stage}
-use Rattle.fam_judge.specs.Fitting.{Fits}
+use Rattle.fam_judge.specs.Fitting.{FitsNext}
 use Rattle.fam_judge.specs.Standing.{MayStand}
 
 -- A state, and what follows it.
@@ -42,7 +42,7 @@ shapes_in x = map (λ (p : Progress). p.shape) x.hosts
 abbrev pub new_progress : List ℕ → List ℕ → Progress
 new_progress name uuid = record { told = new_host name uuid; shape = record { name = name; uuid = uuid; task = None; keeps = false } }
 
--- the hosts after a note; so much is settled before it
+-- the hosts after_note a note; so much is settled before it
 abbrev pub progress_after : ℕ → List Progress → Note → List Progress
 progress_after settled hosts (Host name uuid) = hosts ++ new_progress name uuid ∷ []
 progress_after settled hosts (Made h p) = hosts
@@ -61,25 +61,25 @@ progress_after settled hosts (Halt h) = changed_at h (λ p. record p { shape = r
 progress_after settled hosts (Umount h) = changed_at h (λ p. record p { shape = record p.shape { keeps = false } }) hosts
 progress_after settled hosts (Refused name cause) = hosts
 
--- after a note, as it stands in a journal
-abbrev pub after : Image → Possible → Note → Possible
-after start x note = record { state = state_after (past_in start x) note; hosts = progress_after (settled_length x.state) x.hosts note }
+-- after_note a note, as it stands in a journal
+abbrev pub after_note : Image → Possible → Note → Possible
+after_note start x note = record { state = state_after (past_in start x) note; hosts = progress_after (settled_length x.state) x.hosts note }
 
--- after a line of a history. Where a command begins, what is settled then is kept as for its mark
+-- after_note a line of a history. Where a command begins, what is settled then is kept as for its mark
 abbrev pub after_line : Image → Possible → Note → Possible
 after_line start x (Start h cmd) =
-    record (after start x (Start h cmd)) { hosts = changed_at h (λ p. record p { told = record p.told { floor = Some (settled_length x.state) } }) (after start x (Start h cmd)).hosts }
-after_line start x (Host name uuid) = after start x (Host name uuid)
-after_line start x (Made h p) = after start x (Made h p)
-after_line start x (Cut h k) = after start x (Cut h k)
-after_line start x (Mark h) = after start x (Mark h)
-after_line start x (Found h n) = after start x (Found h n)
-after_line start x (Writes h seq e) = after start x (Writes h seq e)
-after_line start x (Answered h answer) = after start x (Answered h answer)
-after_line start x (Stop h) = after start x (Stop h)
-after_line start x (Halt h) = after start x (Halt h)
-after_line start x (Umount h) = after start x (Umount h)
-after_line start x (Refused name cause) = after start x (Refused name cause)
+    record (after_note start x (Start h cmd)) { hosts = changed_at h (λ p. record p { told = record p.told { floor = Some (settled_length x.state) } }) (after_note start x (Start h cmd)).hosts }
+after_line start x (Host name uuid) = after_note start x (Host name uuid)
+after_line start x (Made h p) = after_note start x (Made h p)
+after_line start x (Cut h k) = after_note start x (Cut h k)
+after_line start x (Mark h) = after_note start x (Mark h)
+after_line start x (Found h n) = after_note start x (Found h n)
+after_line start x (Writes h seq e) = after_note start x (Writes h seq e)
+after_line start x (Answered h answer) = after_note start x (Answered h answer)
+after_line start x (Stop h) = after_note start x (Stop h)
+after_line start x (Halt h) = after_note start x (Halt h)
+after_line start x (Umount h) = after_note start x (Umount h)
+after_line start x (Refused name cause) = after_note start x (Refused name cause)
 
 -- Notes that a history leaves out.
 
@@ -88,38 +88,38 @@ abbrev pub StageIs : (CommandStage → Type 0) → ℕ → Possible → Type 0
 StageIs P h x = OfRunning (slice_get (shapes_in x) h) (λ me t. P t.stage)
 
 -- it runs a command that wants to append
-abbrev pub Wishes : ℕ → Possible → Type 0
-Wishes h x = OfRunning (slice_get (shapes_in x) h) (λ me t. HasWish t.cmd)
+abbrev pub WantsToAppend : ℕ → Possible → Type 0
+WantsToAppend h x = OfRunning (slice_get (shapes_in x) h) (λ me t. HasWish t.cmd)
 
 -- the state where the mark of host h's command, which wasn't told, hasn't come
 abbrev pub without_mark : ℕ → Possible → Possible
 without_mark h x = record x { hosts = changed_at h (λ p. record p { told = record p.told { floor = None } }) x.hosts }
 
 -- the state where it came right behind the command's start
-abbrev pub with_mark : ℕ → Possible → Possible
-with_mark h x = record x { hosts = changed_at h (λ p. record p { shape = with_stage Marked p.shape }) x.hosts }
+abbrev pub after_mark : ℕ → Possible → Possible
+after_mark h x = record x { hosts = changed_at h (λ p. record p { shape = with_stage Marked p.shape }) x.hosts }
 
 -- host h's command has found entries by now
-pub data Meets (start : Image) (h : ℕ) (x met : Possible) : Type 0 where
-  shown_met : (n : ℕ) → StageIs (λ stage. stage ≡ Met n) h x → met ≡ x → Meets start h x met
-  left_out_met : (n : ℕ) → StageIs IsHead h x → Wishes h x → FoundAllowed n x.state → met ≡ after start x (Found h n) → Meets start h x met
+pub data MeetsEntries (start : Image) (h : ℕ) (x met : Possible) : Type 0 where
+  shown_met : (n : ℕ) → StageIs (λ stage. stage ≡ Met n) h x → met ≡ x → MeetsEntries start h x met
+  left_out_met : (n : ℕ) → StageIs IsHead h x → WantsToAppend h x → FoundAllowed n x.state → met ≡ after_note start x (Found h n) → MeetsEntries start h x met
 
 -- it has named an entry by now
 pub record Wrote (start : Image) (h : ℕ) (x wrote : Possible) : Type 0 where
   pub met : Possible
-  pub meets : Meets start h x met
+  pub meets : MeetsEntries start h x met
   pub seq : ℕ
   pub entry : Entry
   pub may : OfRunning (slice_get (shapes_in met) h) (λ me t. TaskNote h me t (Writes h seq entry))
-  pub fits : Fits (past_in start met) (Writes h seq entry)
-  pub is : wrote ≡ after start met (Writes h seq entry)
+  pub fits : FitsNext (past_in start met) (Writes h seq entry)
+  pub is : wrote ≡ after_note start met (Writes h seq entry)
 
 -- how far host h's command may have come
 pub data Reaches (start : Image) (h : ℕ) (x now : Possible) : Type 0 where
   unmarked : StageIs (λ stage. stage ≡ Begun) h x → now ≡ without_mark h x → Reaches start h x now
-  marked : StageIs (λ stage. stage ≡ Begun) h x → now ≡ with_mark h x → Reaches start h x now
+  marked : StageIs (λ stage. stage ≡ Begun) h x → now ≡ after_mark h x → Reaches start h x now
   stands : now ≡ x → (StageIs (λ stage. stage ≡ Begun) h x → ⊥) → Reaches start h x now
-  meets : Meets start h x now → Reaches start h x now
+  meets : MeetsEntries start h x now → Reaches start h x now
   wrote : Wrote start h x now → Reaches start h x now
 
 -- Lines.
@@ -155,28 +155,28 @@ NonePends (Bad origin damage gate) = ⊤
 NonePends (Sound p history pending) = pending ≡ None
 
 -- the state, or one in which a host has named an entry by now
-pub data Before (start : Image) (x now : Possible) : Type 0 where
-  as_is : now ≡ x → Before start x now
-  written : (k : ℕ) → Wrote start k x now → Before start x now
+pub data MayHaveNamed (start : Image) (x now : Possible) : Type 0 where
+  as_is : now ≡ x → MayHaveNamed start x now
+  written : (k : ℕ) → Wrote start k x now → MayHaveNamed start x now
 
 -- a line leads from a state to another one, with its command as far as it may have come
-pub record Steps (start : Image) (x : Possible) (line : Note) (y : Possible) : Type 0 where
+pub record StepsTo (start : Image) (x : Possible) (line : Note) (y : Possible) : Type 0 where
   pub now : Possible
   pub reaches : ReachesFor start (giver line) x now
   pub may : MayStand (length start) (shapes_in now) line
-  pub fits : Fits (past_in start now) line
+  pub fits : FitsNext (past_in start now) line
   pub is : y ≡ after_line start now line
 
 -- so it does where some host may have named an entry before
-pub record Leads (start : Image) (x : Possible) (line : Note) (y : Possible) : Type 0 where
+pub record MayLead (start : Image) (x : Possible) (line : Note) (y : Possible) : Type 0 where
   pub first : Possible
-  pub before : Before start x first
-  pub steps : Steps start first line y
+  pub before : MayHaveNamed start x first
+  pub steps : StepsTo start first line y
 
 -- the lines lead from a state to another one
 abbrev pub LeadsTo : Image → Possible → List Note → Possible → Type 0
 LeadsTo start x [] y = y ≡ x
-LeadsTo start x (line ∷ lines) y = (mid : Possible) × Leads start x line mid × LeadsTo start mid lines y
+LeadsTo start x (line ∷ lines) y = (mid : Possible) × MayLead start x line mid × LeadsTo start mid lines y
 
 -- a state that stands for some in which hosts may be behind these lines
 abbrev pub IsPossible : Image → List Note → Possible → Type 0
@@ -185,17 +185,17 @@ IsPossible start lines x = LeadsTo start (first_possible start) lines x
 -- Lines behind an entry that was named.
 
 -- up to how many entries a reply settles, by its class: one that appended settles its own
-abbrev pub settled_in : ReplyClass → Option ℕ
-settled_in (Appending seq) = Some (seq + 1)
-settled_in (Declining why) = None
-settled_in (Showing m) = Some m
-settled_in (Reporting report) = reported_count report.log
-settled_in Faulty = None
+abbrev pub reply_settles : ReplyClass → Option ℕ
+reply_settles (Appending seq) = Some (seq + 1)
+reply_settles (Declining why) = None
+reply_settles (Showing m) = Some m
+reply_settles (Reporting report) = reported_count report.log
+reply_settles Faulty = None
 
 -- so of an answer
-abbrev pub settled_by : Answer → Option ℕ
-settled_by (Replied given) = settled_in (reply_class given)
-settled_by (MediaFault line) = None
+abbrev pub answer_settles : Answer → Option ℕ
+answer_settles (Replied given) = reply_settles (reply_class given)
+answer_settles (MediaFault line) = None
 
 -- a line that tells nothing of entry seq, which host k has named. It tells of it where it ends k's command, is another one of it, or shows or
 -- counts the entry; a file system that is made, an umount of k and another entry that is named can't stand there
@@ -207,7 +207,7 @@ Elsewhere k seq (Start h cmd) = h ≢ k
 Elsewhere k seq (Mark h) = h ≢ k
 Elsewhere k seq (Found h n) = (h ≢ k) × (n ≢ seq + 1)
 Elsewhere k seq (Writes h n e) = ⊤
-Elsewhere k seq (Answered h answer) = (h ≢ k) × (settled_by answer ≢ Some (seq + 1))
+Elsewhere k seq (Answered h answer) = (h ≢ k) × (answer_settles answer ≢ Some (seq + 1))
 Elsewhere k seq (Stop h) = h ≢ k
 Elsewhere k seq (Halt h) = h ≢ k
 Elsewhere k seq (Umount h) = ⊤

@@ -48,8 +48,8 @@ abbrev pub faces : List HostShape → List Face
 faces hosts = map face hosts
 
 -- the number of the host of a name
-abbrev pub number_in : List ℕ → List Face → Option ℕ
-number_in name all = index_of (λ f. path_eq f.name name) all
+abbrev pub host_number_in : List ℕ → List Face → Option ℕ
+host_number_in name all = index_of (λ f. path_eq f.name name) all
 
 -- the first host that has the name or the UUID
 abbrev pub same_in : List ℕ → List ℕ → List Face → Option ℕ
@@ -71,14 +71,14 @@ AtFace (Some k) all P = OfFace (slice_get all k) (P k)
 
 -- so it is of the host of this name
 abbrev pub AtNamed : List ℕ → List Face → (ℕ → Face → Type 0) → Type 0
-AtNamed name all P = AtFace (number_in name all) all P
+AtNamed name all P = AtFace (host_number_in name all) all P
 
 -- a host of this name is declared
-abbrev pub IsDeclared : List ℕ → List Face → Type 0
-IsDeclared name all = AtNamed name all (λ k f. ⊤)
+abbrev pub IsDeclaredName : List ℕ → List Face → Type 0
+IsDeclaredName name all = AtNamed name all (λ k f. ⊤)
 
 -- hosts as calls declare them: their UUIDs are such, no two have the same name or UUID, and there are no more than may be
-pub record AreDistinct (all : List Face) : Type 0 where
+pub record AreDistinctHosts (all : List Face) : Type 0 where
   pub uuids : (k : ℕ) (f : Face) → slice_get all k ≡ Some f → IsUuid f.uuid
   pub names : (k l : ℕ) (f g : Face) → slice_get all k ≡ Some f → slice_get all l ≡ Some g → f.name ≡ g.name → k ≡ l
   pub apart : (k l : ℕ) (f g : Face) → slice_get all k ≡ Some f → slice_get all l ≡ Some g → f.uuid ≡ g.uuid → k ≡ l
@@ -87,12 +87,12 @@ pub record AreDistinct (all : List Face) : Type 0 where
 -- File systems.
 
 -- some file system fits a media of so many lines: one of the smallest unit, whose log has one unit, does
-abbrev pub HasRoom : ℕ → Type 0
-HasRoom lines = need least_unit least_unit ≤ line_bytes * lines
+abbrev pub HasSystemRoom : ℕ → Type 0
+HasSystemRoom lines = need least_unit least_unit ≤ line_bytes * lines
 
 -- none is busy where one is made
 abbrev pub MayMake : ℕ → List Face → Type 0
-MayMake lines all = HasRoom lines × (engaged_in all ≡ None)
+MayMake lines all = HasSystemRoom lines × (engaged_in all ≡ None)
 
 -- parameters of a file system that a host of this UUID made on a media of so many lines
 pub record IsMadeBy (me : List ℕ) (lines : ℕ) (p : Params) : Type 0 where
@@ -169,25 +169,25 @@ IsNotBefore h None = ⊤
 IsNotBefore h (Some k) = h ≤ k
 
 -- a call for the host of this name is refused for this cause
-abbrev pub MayRefuse : ℕ → List Face → List ℕ → Refusal → Type 0
-MayRefuse lines all name why.NoHost = number_in name all ≡ None
-MayRefuse lines all name (why.SameHost host) = (host.0 < length all) × IsNotBefore host.0 (number_in name all)
-MayRefuse lines all name why.TooManyHosts = (number_in name all ≡ None) × (host_limit ≤ length all)
-MayRefuse lines all name (why.BadGeometry unit log) = IsDeclared name all × (is_geometry unit log ≡ false)
-MayRefuse lines all name (why.TooSmall bytes have) = IsDeclared name all × IsTrue (is_need bytes) × (have ≡ line_bytes * lines) × (have < bytes)
-MayRefuse lines all name (why.ImageSmall count) = IsDeclared name all × (count ≡ lines) × (lines < least_lines)
-MayRefuse lines all name (why.Busy host) =
-    AtNamed name all (λ k f. (k ≡ host.0) × (f.runs ≡ true)) ⊎ (IsDeclared name all × HasRoom lines × (engaged_in all ≡ Some host.0))
-MayRefuse lines all name (why.Dirty host) = MayMake lines all × (host.0 < length all) × AtNamed name all (λ k f. host.0 ≢ k)
-MayRefuse lines all name (why.HasSuper uuid) = MayMake lines all × IsDeclared name all
-MayRefuse lines all name why.Idle = AtNamed name all (λ k f. f.runs ≡ false)
-MayRefuse lines all name why.Mounted = (least_lines ≤ lines) × AtNamed name all (λ k f. (f.runs ≡ false) × (f.keeps ≡ true))
-MayRefuse lines all name why.NotMounted = AtNamed name all (λ k f. (f.runs ≡ false) × (f.keeps ≡ false))
-MayRefuse lines all name (why.NoLine line count) = IsDeclared name all × (count ≡ lines) × (lines ≤ line)
-MayRefuse lines all name (why.NoFile source) = MayAsk lines all name
-MayRefuse lines all name (why.CopyLimit sum) = MayAsk lines all name
-MayRefuse lines all name (why.BadListing line) = MayAsk lines all name
-MayRefuse lines all name (why.MediaFault line) = IsDeclared name all × (line.0 < lines)
+abbrev pub MayRefuseCall : ℕ → List Face → List ℕ → Refusal → Type 0
+MayRefuseCall lines all name why.NoHost = host_number_in name all ≡ None
+MayRefuseCall lines all name (why.SameHost host) = (host.0 < length all) × IsNotBefore host.0 (host_number_in name all)
+MayRefuseCall lines all name why.TooManyHosts = (host_number_in name all ≡ None) × (host_limit ≤ length all)
+MayRefuseCall lines all name (why.BadGeometry unit log) = IsDeclaredName name all × (is_geometry unit log ≡ false)
+MayRefuseCall lines all name (why.TooSmall bytes have) = IsDeclaredName name all × IsTrue (is_need bytes) × (have ≡ line_bytes * lines) × (have < bytes)
+MayRefuseCall lines all name (why.ImageSmall count) = IsDeclaredName name all × (count ≡ lines) × (lines < least_lines)
+MayRefuseCall lines all name (why.Busy host) =
+    AtNamed name all (λ k f. (k ≡ host.0) × (f.runs ≡ true)) ⊎ (IsDeclaredName name all × HasSystemRoom lines × (engaged_in all ≡ Some host.0))
+MayRefuseCall lines all name (why.Dirty host) = MayMake lines all × (host.0 < length all) × AtNamed name all (λ k f. host.0 ≢ k)
+MayRefuseCall lines all name (why.HasSuper uuid) = MayMake lines all × IsDeclaredName name all
+MayRefuseCall lines all name why.Idle = AtNamed name all (λ k f. f.runs ≡ false)
+MayRefuseCall lines all name why.Mounted = (least_lines ≤ lines) × AtNamed name all (λ k f. (f.runs ≡ false) × (f.keeps ≡ true))
+MayRefuseCall lines all name why.NotMounted = AtNamed name all (λ k f. (f.runs ≡ false) × (f.keeps ≡ false))
+MayRefuseCall lines all name (why.NoLine line count) = IsDeclaredName name all × (count ≡ lines) × (lines ≤ line)
+MayRefuseCall lines all name (why.NoFile source) = MayAsk lines all name
+MayRefuseCall lines all name (why.CopyLimit sum) = MayAsk lines all name
+MayRefuseCall lines all name (why.BadListing line) = MayAsk lines all name
+MayRefuseCall lines all name (why.MediaFault line) = IsDeclaredName name all × (line.0 < lines)
 
 -- Notes.
 
@@ -204,7 +204,7 @@ MayStand lines hosts (Answered h answer) = OfRunning (slice_get hosts h) (λ me 
 MayStand lines hosts (Stop h) = OfFace (slice_get (faces hosts) h) (λ f. f.runs ≡ true)
 MayStand lines hosts (Halt h) = OfFace (slice_get (faces hosts) h) (λ f. ⊤)
 MayStand lines hosts (Umount h) = OfFace (slice_get (faces hosts) h) (λ f. (f.runs ≡ false) × (f.keeps ≡ true))
-MayStand lines hosts (Refused name cause) = MayRefuse lines (faces hosts) name cause
+MayStand lines hosts (Refused name cause) = MayRefuseCall lines (faces hosts) name cause
 
 -- so does each of these notes, behind those before it
 abbrev pub AreStanding : ℕ → List HostShape → List Note → Type 0

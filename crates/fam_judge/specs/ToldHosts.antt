@@ -58,6 +58,6 @@ told_after hosts (Tells (Umount h)) = changed_at h (λ host. record host { keeps
 told_after hosts (Tells (Refused name why)) = hosts
 
 -- the hosts after some notes more
-abbrev pub told_behind : List ToldHost → List ToldNote → List ToldHost
-told_behind hosts [] = hosts
-told_behind hosts (note ∷ notes) = told_behind (told_after hosts note) notes
+abbrev pub told_hosts_behind : List ToldHost → List ToldNote → List ToldHost
+told_hosts_behind hosts [] = hosts
+told_hosts_behind hosts (note ∷ notes) = told_hosts_behind (told_after hosts note) notes

@@ -24,15 +24,15 @@ ghost use Rattle.fam_journal.specs.Shapes.{AreShaped, HostShape, TaskNote, TaskS
 ghost use Rattle.fam_judge.specs.Alike.{AreAlikeNotes, AreWhollyTold, told_note};
 ghost use Rattle.fam_judge.specs.Asks.{AskSoundCommands};
 ghost use Rattle.fam_judge.specs.Explained.{IsAllowedForSome, IsExplained, IsExplainedBy, AreAllowedForSome};
-ghost use Rattle.fam_judge.specs.Fitting.{Fits, CheckFits};
+ghost use Rattle.fam_judge.specs.Fitting.{FitsNext, CheckFits};
 ghost use Rattle.fam_judge.specs.Formed.{AreFormed, HavePlaces, AreSoundNotes, IsFormedNote, HasPlace, AreListedNotes};
 ghost use Rattle.fam_judge.specs.GivesWay.{GiveWay};
-ghost use Rattle.fam_judge.specs.Covering.{GoesOn, IsOf, Judges};
+ghost use Rattle.fam_judge.specs.Covering.{LeadsStates, IsOf, Judges};
 ghost use Rattle.fam_judge.specs.Possible.{IsPossible, Possible, first_possible};
 ghost use Rattle.fam_judge.specs.Untold.{untold_cmd, untold_note, untold_notes};
 ghost use Rattle.fam_judge.specs.Shows.{ShowsJournal};
-ghost use Rattle.fam_judge.specs.Standing.{AreDistinct, AreStanding, IsFormedAs, MayList, MayStand, faces, is_own};
-ghost use Rattle.fam_judge.specs.ToldHosts.{told_behind, told_hosts};
+ghost use Rattle.fam_judge.specs.Standing.{AreDistinctHosts, AreStanding, IsFormedAs, MayList, MayStand, faces, is_own};
+ghost use Rattle.fam_judge.specs.ToldHosts.{told_hosts_behind, told_hosts};
 ghost use Rattle.fam_judge.specs.Counting.{CountsFit};
 
 /// A legal journal whose notes have the form of the tables (`AreFormed`) is explained as it stands.
@@ -136,18 +136,18 @@ pub fn an_answer_moves_down()
         → IsExplained start (a ++ Answered h answer ∷ (lines ++ b)) → IsExplained start (a ++ (lines ++ Answered h answer ∷ b)) }
 {}
 
-/// A note that is allowed behind some notes for some bytes of sources (`IsAllowedForSome`) fits what these notes tell (`Fits`),
+/// A note that is allowed behind some notes for some bytes of sources (`IsAllowedForSome`) fits what these notes tell (`FitsNext`),
 /// which chooses no bytes.
 pub fn what_is_allowed_fits()
     ensures { (start : Image) (before : List Note) (note : Note) → IsAllowedForSome start before note
-        → Fits (past_of start (untold_notes before)) note }
+        → FitsNext (past_of start (untold_notes before)) note }
 {}
 
-/// A note that fits what some notes tell (`Fits`) is allowed behind them for some bytes of sources (`IsAllowedForSome`), where
+/// A note that fits what some notes tell (`FitsNext`) is allowed behind them for some bytes of sources (`IsAllowedForSome`), where
 /// their commands are sound.
 pub fn what_fits_is_allowed()
     ensures { (start : Image) (before : List Note) (note : Note) → AreSoundNotes before
-        → Fits (past_of start (untold_notes before)) note → IsAllowedForSome start before note }
+        → FitsNext (past_of start (untold_notes before)) note → IsAllowedForSome start before note }
 {}
 
 /// A note that has the form of the tables stands in the table over the note alone (`MayStand`), which speaks of no event.
@@ -156,12 +156,12 @@ pub fn what_is_formed_stands()
 {}
 
 /// Where a note stands in that table, one that tells the same has the form of the tables (`stands`): of hosts that have UUIDs, of
-/// which no two have the same name or UUID, and that are no more than may be declared (`AreDistinct`). So are those of each
+/// which no two have the same name or UUID, and that are no more than may be declared (`AreDistinctHosts`). So are those of each
 /// journal of this form (`hosts`).
 pub fn what_stands_is_formed()
-    ensures stands { (lines : ℕ) (hosts : List HostShape) (note : Note) → AreDistinct (faces hosts) → MayStand lines hosts note
+    ensures stands { (lines : ℕ) (hosts : List HostShape) (note : Note) → AreDistinctHosts (faces hosts) → MayStand lines hosts note
         → IsFormedAs lines hosts note }
-    ensures hosts { (lines : ℕ) (journal : List Note) → AreFormed lines [] journal → AreDistinct (faces (shapes_of journal)) }
+    ensures hosts { (lines : ℕ) (journal : List Note) → AreFormed lines [] journal → AreDistinctHosts (faces (shapes_of journal)) }
 {}
 
 /// Whether a note stands in that table is settled by what is told of it (`told`). A note of no running command stands by what is
@@ -179,7 +179,7 @@ pub fn what_stands_is_told()
 /// What is told of the hosts behind some notes is settled by what is told of these.
 pub fn hosts_are_told()
     ensures { (notes : List Note) (hosts : List HostShape)
-        → told_hosts (shapes_behind hosts notes) ≡ told_behind (told_hosts hosts) (map told_note notes) }
+        → told_hosts (shapes_behind hosts notes) ≡ told_hosts_behind (told_hosts hosts) (map told_note notes) }
 {}
 
 /// Which histories are explained, without a word of events: a journal whose notes stand (`AreStanding`), and are allowed,
@@ -219,12 +219,12 @@ pub fn some_state_is_possible()
 
 /// A set of states that judges the lines of a history (`Judges`) begins with the one before them (`first`), and goes on by one
 /// line that tells nothing of what isn't told (`line`): to states that allow no less than those to which it leads. It needn't
-/// hold states that have named an entry before a line that tells nothing of it (`GoesOn`). Where no state is left the history
+/// hold states that have named an entry before a line that tells nothing of it (`LeadsStates`). Where no state is left the history
 /// isn't explained (`none`), and where one is left it is (`some`).
 pub fn a_set_of_states_judges()
     ensures first { (start : Image) → Judges start [] (first_possible start ∷ []) }
     ensures line { (start : Image) (lines : List Note) (xs zs : List Possible) (line : Note) → untold_note line ≡ line
-        → Judges start lines xs → GoesOn start line xs zs → Judges start (lines ++ line ∷ []) zs }
+        → Judges start lines xs → LeadsStates start line xs zs → Judges start (lines ++ line ∷ []) zs }
     ensures none { (start : Image) (history : List Note) → Judges start (untold_notes history) [] → IsExplained start history → ⊥ }
     ensures some { (start : Image) (history : List Note) (xs : List Possible) (x : Possible) → Judges start (untold_notes history) xs
         → IsOf xs x → IsExplained start history }

@@ -13,7 +13,7 @@ use Rattle.fam_journal.specs.Shapes.{CommandStage, TaskShape}
 use Rattle.fam_judge.specs.Possible.{Possible, Progress}
 use Rattle.fam_lines.specs.declared.host.SeenHost.{SeenHost}
 use Rattle.fam_lines.specs.Lines.{untold_of}
-use Rattle.fam_settled.specs.Settled.{state_of}
+use Rattle.fam_settled.specs.Settled.{settled_log_state}
 use Rattle.fam_judging.specs.declared.candidate.Candidate.{Candidate}
 use Rattle.fam_judging.specs.declared.candidate.Settled.{Settled}
 use Rattle.fam_judging.specs.declared.candidate.Settled.TheVariants as settled
@@ -27,26 +27,26 @@ use Rattle.fam_judging.specs.declared.given.GivenImage.{GivenImage}
 use Rattle.fam_judging.specs.declared.hosts.Hosts.{Hosts}
 
 -- how far a command has come
-abbrev pub stage_of : Stage → CommandStage
-stage_of stage.Begun = shape.Begun
-stage_of stage.Marked = shape.Marked
-stage_of (stage.Met n) = shape.Met n
-stage_of (stage.Named seq) = shape.Named seq
+abbrev pub stage_shape : Stage → CommandStage
+stage_shape stage.Begun = shape.Begun
+stage_shape stage.Marked = shape.Marked
+stage_shape (stage.Met n) = shape.Met n
+stage_shape (stage.Named seq) = shape.Named seq
 
 -- what it named
 abbrev pub named_of : Wrote → Named
 named_of w = record { seq = w.seq; entry = w.entry }
 
 -- its running command, where it runs one
-abbrev pub task_of : SeenHost → Option ToldCommand → Track → Option TaskShape
-task_of seen cmd track =
-    if seen.runs then option_map (λ (c : ToldCommand). let t : TaskShape = record { cmd = untold_of c; stage = stage_of track.stage } in t) cmd else None
+abbrev pub task_shape_of : SeenHost → Option ToldCommand → Track → Option TaskShape
+task_shape_of seen cmd track =
+    if seen.runs then option_map (λ (c : ToldCommand). let t : TaskShape = record { cmd = untold_of c; stage = stage_shape track.stage } in t) cmd else None
 
 -- a host
 abbrev pub progress_of : SeenHost → Option ToldCommand → Track → Progress
 progress_of seen cmd track = record {
   told = record { name = seen.name; uuid = seen.uuid; cmd = option_map untold_of cmd; floor = track.floor; wrote = option_map named_of track.wrote };
-  shape = record { name = seen.name; uuid = seen.uuid; task = task_of seen cmd track; keeps = seen.keeps };
+  shape = record { name = seen.name; uuid = seen.uuid; task = task_shape_of seen cmd track; keeps = seen.keeps };
 }
 
 -- all hosts
@@ -57,14 +57,14 @@ progress_list (s ∷ seen) (c ∷ cmds) [] = []
 progress_list (s ∷ seen) (c ∷ cmds) (t ∷ tracks) = progress_of s c t ∷ progress_list seen cmds tracks
 
 -- what is settled, of an image that was handed in
-abbrev pub settled_of : Image → Settled → State
-settled_of start (settled.Log log) = state_of log
-settled_of start settled.Given = first_state start
-settled_of start settled.Halted = Bad Halted (past.NoSuperblock (super.NoSuper 0)) 0
+abbrev pub settled_state : Image → Settled → State
+settled_state start (settled.Log log) = settled_log_state log
+settled_state start settled.Given = first_state start
+settled_state start settled.Halted = Bad Halted (past.NoSuperblock (super.NoSuper 0)) 0
 
 -- the state that a candidate is
 abbrev pub possible_of : Image → Hosts → Candidate → Possible
-possible_of start hosts c = record { state = settled_of start c.settled; hosts = progress_list hosts.seen.items hosts.commands.items c.tracks.items }
+possible_of start hosts c = record { state = settled_state start c.settled; hosts = progress_list hosts.seen.items hosts.commands.items c.tracks.items }
 
 -- a running host has a command
 abbrev pub RunsCommand : SeenHost → Option ToldCommand → Type 0
@@ -79,23 +79,23 @@ AreCommanded (s ∷ seen) [] = ⊥
 AreCommanded (s ∷ seen) (c ∷ cmds) = RunsCommand s c × AreCommanded seen cmds
 
 -- the hosts fit
-abbrev pub AreHosts : Hosts → Type 0
-AreHosts hosts = AreCommanded hosts.seen.items hosts.commands.items
+abbrev pub HostsFit : Hosts → Type 0
+HostsFit hosts = AreCommanded hosts.seen.items hosts.commands.items
 
 -- each host has its place in the candidate
 abbrev pub IsCandidate : Hosts → Candidate → Type 0
 IsCandidate hosts c = length c.tracks.items ≡ length hosts.seen.items
 
 -- the damage
-abbrev pub damage_of : Damage → past.Damage
-damage_of (damage.FewLines lines) = past.FewLines lines
-damage_of (damage.NoSuperblock fault) = past.NoSuperblock fault
-damage_of (damage.BadHeader fault) = past.BadHeader fault
-damage_of (damage.BadSlot i reason) = past.BadSlot i reason
+abbrev pub past_damage : Damage → past.Damage
+past_damage (damage.FewLines lines) = past.FewLines lines
+past_damage (damage.NoSuperblock fault) = past.NoSuperblock fault
+past_damage (damage.BadHeader fault) = past.BadHeader fault
+past_damage (damage.BadSlot i reason) = past.BadSlot i reason
 
 -- of a damaged image that was handed in
-pub record IsGiven (start : Image) (given : GivenImage) : Type 0 where
-  pub state : first_state start ≡ Bad (past.Given start) (damage_of given.damage) given.gate
-  pub super : (p : Params) → DamagedSuper p (past.Given start) (damage_of given.damage) → given.params ≡ Some p
-  pub params : (p : Params) → given.params ≡ Some p → DamagedSuper p (past.Given start) (damage_of given.damage)
+pub record IsGivenImage (start : Image) (given : GivenImage) : Type 0 where
+  pub state : first_state start ≡ Bad (past.Given start) (past_damage given.damage) given.gate
+  pub super : (p : Params) → DamagedSuper p (past.Given start) (past_damage given.damage) → given.params ≡ Some p
+  pub params : (p : Params) → given.params ≡ Some p → DamagedSuper p (past.Given start) (past_damage given.damage)
   pub report : given.report ≡ damaged_report (past.Given start)

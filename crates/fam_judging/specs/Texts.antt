@@ -9,28 +9,28 @@ use Rattle.fam_judge.specs.Standing.{faces}
 use Rattle.fam_judge.specs.Untold.{untold_notes}
 use Rattle.fam_lines.specs.Behind.{IsNoteOf, further}
 use Rattle.fam_lines.specs.declared.host.SeenHost.{SeenHost}
-use Rattle.fam_lines.specs.Hosts.{faces_of, names_of}
+use Rattle.fam_lines.specs.Hosts.{faces_of, seen_names}
 use Rattle.fam_records.specs.Records.{Recorded}
 
 -- the names of the hosts that are declared behind a note
-abbrev pub names_after : List (List ℕ) → Note → List (List ℕ)
-names_after names (Host name uuid) = names ++ name ∷ []
-names_after names (Made h p) = names
-names_after names (Cut h k) = names
-names_after names (Start h cmd) = names
-names_after names (Mark h) = names
-names_after names (Found h n) = names
-names_after names (Writes h seq e) = names
-names_after names (Answered h answer) = names
-names_after names (Stop h) = names
-names_after names (Halt h) = names
-names_after names (Umount h) = names
-names_after names (Refused name cause) = names
+abbrev pub names_after_note : List (List ℕ) → Note → List (List ℕ)
+names_after_note names (Host name uuid) = names ++ name ∷ []
+names_after_note names (Made h p) = names
+names_after_note names (Cut h k) = names
+names_after_note names (Start h cmd) = names
+names_after_note names (Mark h) = names
+names_after_note names (Found h n) = names
+names_after_note names (Writes h seq e) = names
+names_after_note names (Answered h answer) = names
+names_after_note names (Stop h) = names
+names_after_note names (Halt h) = names
+names_after_note names (Umount h) = names
+names_after_note names (Refused name cause) = names
 
 -- and behind notes
-abbrev pub names_behind : List (List ℕ) → List Note → List (List ℕ)
-names_behind names [] = names
-names_behind names (note ∷ notes) = names_behind (names_after names note) notes
+abbrev pub names_behind_notes : List (List ℕ) → List Note → List (List ℕ)
+names_behind_notes names [] = names
+names_behind_notes names (note ∷ notes) = names_behind_notes (names_after_note names note) notes
 
 -- the record tells the note, behind hosts of these names
 abbrev pub RecordTells : List (List ℕ) → Recorded → Note → Type 0
@@ -41,7 +41,7 @@ abbrev pub RecordsTell : List (List ℕ) → List Recorded → List Note → Typ
 RecordsTell names [] [] = ⊤
 RecordsTell names [] (note ∷ notes) = ⊥
 RecordsTell names (r ∷ records) [] = ⊥
-RecordsTell names (r ∷ records) (note ∷ notes) = RecordTells names r note × RecordsTell (names_after names note) records notes
+RecordsTell names (r ∷ records) (note ∷ notes) = RecordTells names r note × RecordsTell (names_after_note names note) records notes
 
 -- some history that the records tell is explained from the image
 abbrev pub IsLegal : Image → List Recorded → Type 0
@@ -56,4 +56,4 @@ pub record IsJudging (start : Image) (records : List Recorded) (hosts : List See
   pub only : (other : List Note) → RecordsTell [] records other → IsExplained start other → untold_notes other ≡ history
   pub judges : Judges start history xs
   pub seen : (x : Possible) → IsOf xs x → faces (shapes_in x) ≡ faces_of hosts
-  pub names : (other : List Note) → RecordsTell [] records other → names_behind [] other ≡ names_of hosts
+  pub names : (other : List Note) → RecordsTell [] records other → names_behind_notes [] other ≡ seen_names hosts

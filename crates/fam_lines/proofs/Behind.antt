@@ -18,9 +18,9 @@ use Rattle.fam_history.specs.declared.answer.ToldAnswer.TheVariants as told
 use Rattle.fam_history.specs.ToldAnswers.{answer_told, checked_told, first_told}
 use Rattle.fam_lines.specs.declared.answer.HostAnswer.{HostAnswer}
 use Rattle.fam_lines.specs.declared.answer.HostAnswer.TheVariants as given
-use Rattle.fam_lines.specs.Behind.{Further, IsTreeOfEntries, IsWholeAnswer, NamesFirst, behind_answer, further, nothing}
+use Rattle.fam_lines.specs.Behind.{Further, IsTreeOfEntries, IsEntireAnswer, NamesFirst, behind_answer, further, nothing}
 use Rattle.fam_lines.specs.Lines.{answer_of}
-use Rattle.fam_lines.specs.Resolved.{agrees, alone, answer_with, compared, is_whole_checked, names_first, played, reported, rise_behind}
+use Rattle.fam_lines.specs.Resolved.{agrees, alone, answer_with, compared_answer, is_whole_checked, names_first, played, reported, rise_behind}
 use Rattle.fam_tree.specs.Keyed.{IsKeyed}
 use Rattle.fam_tree.specs.Runs.{InOrder}
 use Rattle.fam_lines.proofs.Trees.{in_order, keyed_replay, replayed_values, rises, tree_in_order, values_replayed}
@@ -31,7 +31,7 @@ use Rattle.fam_lines.proofs.Trees.{in_order, keyed_replay, replayed_values, rise
 pub record Answers (t : ToldAnswer) (entries : List Entry) (report : Option Report) (a : Answer) : Type 0 where
   pub first : answer_told a ≡ t
   pub behind : behind_answer a ≡ further entries report
-  pub whole : IsWholeAnswer a
+  pub whole : IsEntireAnswer a
 
 none_of : {A : Type 0} (o : Option A) → is_none o ≡ true → o ≡ None
 none_of None e = refl
@@ -39,7 +39,7 @@ none_of (Some x) e = absurd cc
 
 -- one that nothing follows
 alone_is : (entries : List Entry) (report : Option Report) (x a : HostAnswer) → alone entries report x ≡ Some a
-    → behind_answer (answer_of x) ≡ nothing → IsWholeAnswer (answer_of x) → Answers (answer_told (answer_of x)) entries report (answer_of a)
+    → behind_answer (answer_of x) ≡ nothing → IsEntireAnswer (answer_of x) → Answers (answer_told (answer_of x)) entries report (answer_of a)
 alone_is (e ∷ es) report x a is bare whole = absurd cc
 alone_is [] (Some r) x a is bare whole = absurd cc
 alone_is [] None x a is bare whole =
@@ -92,7 +92,7 @@ first_named true (Some path) e = absurd cc
 first_named false None e = absurd cc
 first_named false (Some path) e = refl
 
-compared_is : (m : ℕ) (c : Checked) (entries : List Entry) (report : Option Report) (a : HostAnswer) → compared m c entries report ≡ Some a
+compared_is : (m : ℕ) (c : Checked) (entries : List Entry) (report : Option Report) (a : HostAnswer) → compared_answer m c entries report ≡ Some a
     → Answers (told.Checked m c) entries report (answer_of a)
 compared_is m c entries report a is = by (is_whole_checked c) refl is
   where
@@ -186,19 +186,19 @@ named_first false None e = absurd cc
 named_first false (Some path) e = refl
 
 gives_checks : (m : ℕ) (c : Checked) (entries : List Entry) (report : Option Report) → nothing ≡ further entries report → NamesFirst c
-    → Gives (compared m (checked_told c) entries report) (Replied (reply.Checks m c))
+    → Gives (compared_answer m (checked_told c) entries report) (Replied (reply.Checks m c))
 gives_checks m c entries report e named =
     let same = none_differs c.missing c.extra c.changed in
     let prints : checked_told c ≡ c = ap (λ (f : Option (List ℕ)). record c { first = f }) (named_prints same c.first named) in
     let rest = gives_alone entries report (given.Checks m c) e in
     record {
       answer = rest.answer;
-      is = ap (λ (x : Checked). compared m x entries report) prints ∙ ap (λ (b : Bool). if b then alone entries report (given.Checks m c) else None) (named_first same c.first named) ∙ rest.is;
+      is = ap (λ (x : Checked). compared_answer m x entries report) prints ∙ ap (λ (b : Bool). if b then alone entries report (given.Checks m c) else None) (named_first same c.first named) ∙ rest.is;
       same = rest.same;
     }
 
 module _ (entries : Vec Entry Global) (report : Option Report) where
-  gives_reply : (r : Reply) → behind_answer (Replied r) ≡ further entries.items report → IsWholeAnswer (Replied r)
+  gives_reply : (r : Reply) → behind_answer (Replied r) ≡ further entries.items report → IsEntireAnswer (Replied r)
       → Gives (answer_with (answer_told (Replied r)) entries report) (Replied r)
   gives_reply (reply.Appended seq) e whole = gives_alone entries.items report (given.Appended seq) e
   gives_reply (reply.NotAppended why) e whole = gives_alone entries.items report (given.NotAppended why) e
@@ -217,7 +217,7 @@ module _ (entries : Vec Entry Global) (report : Option Report) where
   gives_reply (reply.BadSlot seq why) e whole = gives_alone entries.items report (given.BadSlot seq why) e
 
   -- of its own first line and what follows it an answer is given
-  pub gives_own : (a : Answer) → behind_answer a ≡ further entries.items report → IsWholeAnswer a
+  pub gives_own : (a : Answer) → behind_answer a ≡ further entries.items report → IsEntireAnswer a
       → Gives (answer_with (answer_told a) entries report) a
   gives_own (Replied r) e whole = gives_reply r e whole
   gives_own (MediaFault at) e whole = gives_alone entries.items report (given.MediaFault at) e

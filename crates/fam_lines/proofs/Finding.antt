@@ -23,11 +23,11 @@ use Rattle.fam_judge.specs.Standing.{Face, OfFace}
 use Rattle.fam_lines.specs.declared.host.SeenHost.{SeenHost}
 use Rattle.fam_lines.specs.declared.line.Line.{Line}
 use Rattle.fam_lines.specs.declared.line.Line.TheVariants as line
-use Rattle.fam_lines.specs.Behind.{Further, IsNoteOf, IsWholeAnswer, IsWholeMade, IsWholeNote, behind_answer, behind_note, further, nothing}
-use Rattle.fam_lines.specs.Hosts.{face_of, faces_of, names_of}
-use Rattle.fam_lines.specs.Lines.{note_of}
-use Rattle.fam_lines.specs.Named.{IsName, NamesHosts, NamesOther}
-use Rattle.fam_lines.specs.Resolved.{answered_line, cause_of, is_told, made_line, number_of, resolved, start_line, whole_params}
+use Rattle.fam_lines.specs.Behind.{Further, IsNoteOf, IsEntireAnswer, IsWholeMade, IsEntireNote, behind_answer, behind_note, further, nothing}
+use Rattle.fam_lines.specs.Hosts.{face_of, faces_of, seen_names}
+use Rattle.fam_lines.specs.Lines.{note_of_line}
+use Rattle.fam_lines.specs.Named.{IsName, NamesHosts, NamesOtherSeen}
+use Rattle.fam_lines.specs.Resolved.{answered_line, resolved_refusal, is_told, line_of_made, seen_number, resolved, start_line, whole_params}
 use Rattle.fam_lines.proofs.Behind.{gives_own}
 use Rattle.fam_lines.proofs.Numbers.{own_number}
 use Rattle.fam_lines.proofs.Telling.{command_tells, lone}
@@ -50,15 +50,15 @@ told_so cmd.Fsck = refl
 pub record Finds (o : Option Line) (n : Note) : Type 0 where
   pub line : Line
   pub is : o ≡ Some line
-  pub same : told_note (note_of line) ≡ told_note n
+  pub same : told_note (note_of_line line) ≡ told_note n
 
-module _ (hosts : List SeenHost) (distinct : AreDistinctNames (names_of hosts)) where
+module _ (hosts : List SeenHost) (distinct : AreDistinctNames (seen_names hosts)) where
   -- the name of a host has its number
-  numbered : (h : ℕ) → IsName (host_name (names_of hosts) h) → number_of hosts (host_name (names_of hosts) h) ≡ Some h
+  numbered : (h : ℕ) → IsName (host_name (seen_names hosts) h) → seen_number hosts (host_name (seen_names hosts) h) ≡ Some h
   numbered h is = own_number hosts h distinct is
 
   -- a refusal is found again
-  finds_cause : (cause : Refusal) → NamesOther (told_of_refusal (names_of hosts) cause) → cause_of hosts (told_of_refusal (names_of hosts) cause) ≡ Some cause
+  finds_cause : (cause : Refusal) → NamesOtherSeen (told_of_refusal (seen_names hosts) cause) → resolved_refusal hosts (told_of_refusal (seen_names hosts) cause) ≡ Some cause
   finds_cause why.NoHost named = refl
   finds_cause (why.SameHost host) named = ap (option_map (λ h. why.SameHost (record { 0 = h }))) (numbered host.0 named)
   finds_cause why.TooManyHosts named = refl
@@ -78,7 +78,7 @@ module _ (hosts : List SeenHost) (distinct : AreDistinctNames (names_of hosts)) 
   finds_cause (why.MediaFault at) named = refl
 
   -- a file system that was made
-  finds_made : (h : ℕ) (p : Params) → OfFace (slice_get (faces_of hosts) h) (λ f. IsWholeMade f.uuid p) → made_line hosts (Some h) (params_told p) ≡ Some (line.Made h p)
+  finds_made : (h : ℕ) (p : Params) → OfFace (slice_get (faces_of hosts) h) (λ f. IsWholeMade f.uuid p) → line_of_made hosts (Some h) (params_told p) ≡ Some (line.Made h p)
   finds_made h p whole = by (slice_get hosts h) refl
     where
       by : (o : Option SeenHost) → slice_get hosts h ≡ o → option_map (λ (host : SeenHost). line.Made h (whole_params host.uuid (params_told p))) o ≡ Some (line.Made h p)
@@ -92,7 +92,7 @@ module _ (hosts : List SeenHost) (distinct : AreDistinctNames (names_of hosts)) 
 
   module _ (entries : Vec Entry Global) (report : Option Report) where
     -- a line that nothing follows
-    finds_lone : (n : Note) (o : Option Line) (l : Line) → nothing ≡ further entries.items report → o ≡ Some l → told_note (note_of l) ≡ told_note n
+    finds_lone : (n : Note) (o : Option Line) (l : Line) → nothing ≡ further entries.items report → o ≡ Some l → told_note (note_of_line l) ≡ told_note n
         → Finds (lone entries.items report o) n
     finds_lone n o l none is same = by entries.items report none
       where
@@ -102,20 +102,20 @@ module _ (hosts : List SeenHost) (distinct : AreDistinctNames (names_of hosts)) 
         by (x ∷ es) r e = let other : [] ≡ x ∷ es = ap (λ (f : Further). f.entries) e in absurd cc
 
     -- of a declared host
-    finds_going : (n : Note) (h : ℕ) (make : ℕ → Line) → IsName (host_name (names_of hosts) h) → nothing ≡ further entries.items report
-        → told_note (note_of (make h)) ≡ told_note n → Finds (lone entries.items report (option_map make (number_of hosts (host_name (names_of hosts) h)))) n
+    finds_going : (n : Note) (h : ℕ) (make : ℕ → Line) → IsName (host_name (seen_names hosts) h) → nothing ≡ further entries.items report
+        → told_note (note_of_line (make h)) ≡ told_note n → Finds (lone entries.items report (option_map make (seen_number hosts (host_name (seen_names hosts) h)))) n
     finds_going n h make named none same = finds_lone n _ (make h) none (ap (option_map make) (numbered h named)) same
 
-    finds_start : (h : ℕ) (c : Cmd) → IsName (host_name (names_of hosts) h) → nothing ≡ further entries.items report
-        → Finds (lone entries.items report (start_line (number_of hosts (host_name (names_of hosts) h)) (told_of_command c))) (note.Start h c)
+    finds_start : (h : ℕ) (c : Cmd) → IsName (host_name (seen_names hosts) h) → nothing ≡ further entries.items report
+        → Finds (lone entries.items report (start_line (seen_number hosts (host_name (seen_names hosts) h)) (told_of_command c))) (note.Start h c)
     finds_start h c named none =
         finds_lone (note.Start h c) _ (line.Start h (told_of_command c)) none
-        (ap (λ (b : Bool). if b then option_map (λ k. line.Start k (told_of_command c)) (number_of hosts (host_name (names_of hosts) h)) else None) (told_so c)
+        (ap (λ (b : Bool). if b then option_map (λ k. line.Start k (told_of_command c)) (seen_number hosts (host_name (seen_names hosts) h)) else None) (told_so c)
         ∙ ap (option_map (λ k. line.Start k (told_of_command c))) (numbered h named))
         (ap (Begins h) (command_tells (told_of_command c) (told_so c)))
 
-    finds_answer : (h : ℕ) (a : Answer) → IsName (host_name (names_of hosts) h) → behind_answer a ≡ further entries.items report → IsWholeAnswer a
-        → Finds (resolved hosts (line_told (names_of hosts) (note.Answered h a)) entries report) (note.Answered h a)
+    finds_answer : (h : ℕ) (a : Answer) → IsName (host_name (seen_names hosts) h) → behind_answer a ≡ further entries.items report → IsEntireAnswer a
+        → Finds (resolved hosts (line_told (seen_names hosts) (note.Answered h a)) entries report) (note.Answered h a)
     finds_answer h a named behind whole =
         let own = gives_own entries report a behind whole in
         record {
@@ -124,11 +124,11 @@ module _ (hosts : List SeenHost) (distinct : AreDistinctNames (names_of hosts)) 
           same = ap (λ (x : Answer). told_note (note.Answered h x)) own.same;
         }
 
-    finds_own : (n : Note) → NamesHosts (line_told (names_of hosts) n) → behind_note n ≡ further entries.items report → IsWholeNote hosts n
-        → Finds (resolved hosts (line_told (names_of hosts) n) entries report) n
+    finds_own : (n : Note) → NamesHosts (line_told (seen_names hosts) n) → behind_note n ≡ further entries.items report → IsEntireNote hosts n
+        → Finds (resolved hosts (line_told (seen_names hosts) n) entries report) n
     finds_own (note.Host name uuid) named none whole = finds_lone (note.Host name uuid) _ (line.Host name uuid) none refl refl
     finds_own (note.Made h p) named none whole =
-        finds_lone (note.Made h p) _ (line.Made h p) none (ap (λ (o : Option ℕ). made_line hosts o (params_told p)) (numbered h named.own) ∙ finds_made h p whole) refl
+        finds_lone (note.Made h p) _ (line.Made h p) none (ap (λ (o : Option ℕ). line_of_made hosts o (params_told p)) (numbered h named.own) ∙ finds_made h p whole) refl
     finds_own (note.Cut h k) named none whole = finds_going (note.Cut h k) h (λ h. line.Cut h k) named.own none refl
     finds_own (note.Start h c) named none whole = finds_start h c named.own none
     finds_own (note.Mark h) named none whole = finds_going (note.Mark h) h line.Mark named.own none refl
@@ -142,7 +142,7 @@ module _ (hosts : List SeenHost) (distinct : AreDistinctNames (names_of hosts)) 
         finds_lone (note.Refused name cause) _ (line.Refused name cause) none (ap (option_map (line.Refused name)) (finds_cause cause named.others)) refl
 
     -- of any line that a note tells
-    pub finds : (t : ToldLine) → NamesHosts t → (n : Note) → IsWholeNote hosts n → IsNoteOf (names_of hosts) t (further entries.items report) n
+    pub finds : (t : ToldLine) → NamesHosts t → (n : Note) → IsEntireNote hosts n → IsNoteOf (seen_names hosts) t (further entries.items report) n
         → Finds (resolved hosts t entries report) n
     finds t named n whole is =
         subst (λ (x : ToldLine). Finds (resolved hosts x entries report) n) is.first
@@ -150,8 +150,8 @@ module _ (hosts : List SeenHost) (distinct : AreDistinctNames (names_of hosts)) 
 
 -- so it is of a result
 pub result_only : (hosts : List SeenHost) (t : ToldLine) (entries : Vec Entry Global) (report : Option Report) (o : Option Line) → o ≡ resolved hosts t entries report
-    → NamesHosts t → AreDistinctNames (names_of hosts) → (n : Note) → IsWholeNote hosts n → IsNoteOf (names_of hosts) t (further entries.items report) n
-    → MatchOption o ⊥ (λ (l : Line). told_note (note_of l) ≡ told_note n)
+    → NamesHosts t → AreDistinctNames (seen_names hosts) → (n : Note) → IsEntireNote hosts n → IsNoteOf (seen_names hosts) t (further entries.items report) n
+    → MatchOption o ⊥ (λ (l : Line). told_note (note_of_line l) ≡ told_note n)
 result_only hosts t entries report o is named distinct n whole tells =
     let found = finds hosts distinct entries report t named n whole tells in
-    subst (λ (x : Option Line). MatchOption x ⊥ (λ (l : Line). told_note (note_of l) ≡ told_note n)) (sym (is ∙ found.is)) found.same
+    subst (λ (x : Option Line). MatchOption x ⊥ (λ (l : Line). told_note (note_of_line l) ≡ told_note n)) (sym (is ∙ found.is)) found.same

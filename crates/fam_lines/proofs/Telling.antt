@@ -32,10 +32,10 @@ use Rattle.fam_lines.specs.declared.answer.HostAnswer.{HostAnswer}
 use Rattle.fam_lines.specs.declared.host.SeenHost.{SeenHost}
 use Rattle.fam_lines.specs.declared.line.Line.{Line}
 use Rattle.fam_lines.specs.declared.line.Line.TheVariants as line
-use Rattle.fam_lines.specs.Behind.{IsNoteOf, IsWholeMade, IsWholeNote, further, behind_note, nothing}
-use Rattle.fam_lines.specs.Hosts.{face_of, faces_of, names_of}
-use Rattle.fam_lines.specs.Lines.{note_of, untold_of}
-use Rattle.fam_lines.specs.Resolved.{answer_with, answered_line, cause_of, is_bare, is_told, is_told_cmd, line_with, made_line, number_of, resolved, start_line, whole_params}
+use Rattle.fam_lines.specs.Behind.{IsNoteOf, IsWholeMade, IsEntireNote, further, behind_note, nothing}
+use Rattle.fam_lines.specs.Hosts.{face_of, faces_of, seen_names}
+use Rattle.fam_lines.specs.Lines.{note_of_line, untold_of}
+use Rattle.fam_lines.specs.Resolved.{answer_with, answered_line, resolved_refusal, has_no_further, is_told, is_told_cmd, line_with, line_of_made, seen_number, resolved, start_line, whole_params}
 use Rattle.fam_lines.proofs.Behind.{answer_is}
 use Rattle.fam_lines.proofs.Numbers.{number_names}
 
@@ -88,20 +88,20 @@ command_untold (command.Check count) is =
 
 module _ (hosts : List SeenHost) where
   -- a refusal by another host's name
-  by_name : (name : List ℕ) (make : ℕ → Refusal) (tells : List ℕ → ToldRefusal) (why : Refusal) → option_map make (number_of hosts name) ≡ Some why
-      → ((h : ℕ) → told_of_refusal (names_of hosts) (make h) ≡ tells (host_name (names_of hosts) h)) → told_of_refusal (names_of hosts) why ≡ tells name
-  by_name name make tells why is told = by (number_of hosts name) refl is
+  by_name : (name : List ℕ) (make : ℕ → Refusal) (tells : List ℕ → ToldRefusal) (why : Refusal) → option_map make (seen_number hosts name) ≡ Some why
+      → ((h : ℕ) → told_of_refusal (seen_names hosts) (make h) ≡ tells (host_name (seen_names hosts) h)) → told_of_refusal (seen_names hosts) why ≡ tells name
+  by_name name make tells why is told = by (seen_number hosts name) refl is
     where
-      by : (o : Option ℕ) → number_of hosts name ≡ o → option_map make o ≡ Some why → told_of_refusal (names_of hosts) why ≡ tells name
+      by : (o : Option ℕ) → seen_number hosts name ≡ o → option_map make o ≡ Some why → told_of_refusal (seen_names hosts) why ≡ tells name
       by None at e = absurd cc
-      by (Some h) at e = ap (told_of_refusal (names_of hosts)) (sym (same_Some (make h) why e)) ∙ told h ∙ ap tells (number_names hosts name h at)
+      by (Some h) at e = ap (told_of_refusal (seen_names hosts)) (sym (same_Some (make h) why e)) ∙ told h ∙ ap tells (number_names hosts name h at)
 
   -- a refusal that names no other host
-  plain : (t : ToldRefusal) (made why : Refusal) → Some made ≡ Some why → told_of_refusal (names_of hosts) made ≡ t → told_of_refusal (names_of hosts) why ≡ t
-  plain t made why is told = ap (told_of_refusal (names_of hosts)) (sym (same_Some made why is)) ∙ told
+  plain : (t : ToldRefusal) (made why : Refusal) → Some made ≡ Some why → told_of_refusal (seen_names hosts) made ≡ t → told_of_refusal (seen_names hosts) why ≡ t
+  plain t made why is told = ap (told_of_refusal (seen_names hosts)) (sym (same_Some made why is)) ∙ told
 
   -- a refusal tells what it is made of
-  cause_is : (t : ToldRefusal) (cause : Refusal) → cause_of hosts t ≡ Some cause → told_of_refusal (names_of hosts) cause ≡ t
+  cause_is : (t : ToldRefusal) (cause : Refusal) → resolved_refusal hosts t ≡ Some cause → told_of_refusal (seen_names hosts) cause ≡ t
   cause_is refusal.NoHost cause is = plain _ _ cause is refl
   cause_is (refusal.SameHost name) cause is = by_name name (λ h. why.SameHost (record { 0 = h })) refusal.SameHost cause is (λ h. refl)
   cause_is refusal.TooManyHosts cause is = plain _ _ cause is refl
@@ -124,13 +124,13 @@ module _ (hosts : List SeenHost) where
 
 -- a line that nothing follows
 abbrev pub lone : List Entry → Option Report → Option Line → Option Line
-lone entries report x = if is_bare entries report then x else None
+lone entries report x = if has_no_further entries report then x else None
 
 -- what a line is that is resolved
 pub record IsLine (hosts : List SeenHost) (t : ToldLine) (entries : List Entry) (report : Option Report) (l : Line) : Type 0 where
-  pub tells : IsNoteOf (names_of hosts) t (further entries report) (note_of l)
-  pub whole : IsWholeNote hosts (note_of l)
-  pub untold : untold_note (note_of l) ≡ note_of l
+  pub tells : IsNoteOf (seen_names hosts) t (further entries report) (note_of_line l)
+  pub whole : IsEntireNote hosts (note_of_line l)
+  pub untold : untold_note (note_of_line l) ≡ note_of_line l
 
 module _ (hosts : List SeenHost) (name : List ℕ) (entries : Vec Entry Global) (report : Option Report) where
   -- a line of this name that tells this
@@ -148,14 +148,14 @@ module _ (hosts : List SeenHost) (name : List ℕ) (entries : Vec Entry Global) 
       by (e ∷ es) (Some r) h = absurd cc
 
   -- a line of a declared host
-  going : (t : LineNote) (make : ℕ → Line) → ((h : ℕ) → line_told (names_of hosts) (note_of (make h)) ≡ record { name = host_name (names_of hosts) h; note = t })
-      → ((h : ℕ) → behind_note (note_of (make h)) ≡ nothing) → ((h : ℕ) → IsWholeNote hosts (note_of (make h)))
-      → ((h : ℕ) → untold_note (note_of (make h)) ≡ note_of (make h)) → (l : Line) → lone entries.items report (option_map make (number_of hosts name)) ≡ Some l → Is t l
+  going : (t : LineNote) (make : ℕ → Line) → ((h : ℕ) → line_told (seen_names hosts) (note_of_line (make h)) ≡ record { name = host_name (seen_names hosts) h; note = t })
+      → ((h : ℕ) → behind_note (note_of_line (make h)) ≡ nothing) → ((h : ℕ) → IsEntireNote hosts (note_of_line (make h)))
+      → ((h : ℕ) → untold_note (note_of_line (make h)) ≡ note_of_line (make h)) → (l : Line) → lone entries.items report (option_map make (seen_number hosts name)) ≡ Some l → Is t l
   unfolding Is
   going t make tells bare whole untold l is =
-      let parts = lone_is (option_map make (number_of hosts name)) l is in by parts.1 (number_of hosts name) refl parts.0
+      let parts = lone_is (option_map make (seen_number hosts name)) l is in by parts.1 (seen_number hosts name) refl parts.0
     where
-      by : nothing ≡ further entries.items report → (o : Option ℕ) → number_of hosts name ≡ o → option_map make o ≡ Some l → Is t l
+      by : nothing ≡ further entries.items report → (o : Option ℕ) → seen_number hosts name ≡ o → option_map make o ≡ Some l → Is t l
       by none None at e = absurd cc
       by none (Some h) at e =
           subst (Is t) (same_Some (make h) l e) (record {
@@ -165,11 +165,11 @@ module _ (hosts : List SeenHost) (name : List ℕ) (entries : Vec Entry Global) 
           })
 
   -- a file system that a declared host made
-  made_is : (p : ToldParams) (l : Line) → lone entries.items report (made_line hosts (number_of hosts name) p) ≡ Some l → Is (told.Made p) l
+  made_is : (p : ToldParams) (l : Line) → lone entries.items report (line_of_made hosts (seen_number hosts name) p) ≡ Some l → Is (told.Made p) l
   unfolding Is
-  made_is p l is = let parts = lone_is (made_line hosts (number_of hosts name) p) l is in by parts.1 (number_of hosts name) refl parts.0
+  made_is p l is = let parts = lone_is (line_of_made hosts (seen_number hosts name) p) l is in by parts.1 (seen_number hosts name) refl parts.0
     where
-      found : nothing ≡ further entries.items report → (h : ℕ) → number_of hosts name ≡ Some h → (o : Option SeenHost) → slice_get hosts h ≡ o
+      found : nothing ≡ further entries.items report → (h : ℕ) → seen_number hosts name ≡ Some h → (o : Option SeenHost) → slice_get hosts h ≡ o
           → option_map (λ (host : SeenHost). line.Made h (whole_params host.uuid p)) o ≡ Some l → Is (told.Made p) l
       found none h at None is e = absurd cc
       found none h at (Some host) is e =
@@ -179,28 +179,29 @@ module _ (hosts : List SeenHost) (name : List ℕ) (entries : Vec Entry Global) 
             whole = subst (λ (o : Option Face). OfFace o (λ f. IsWholeMade f.uuid (whole_params host.uuid p))) (sym face) (record { slots = refl; master = refl });
             untold = refl;
           })
-      by : nothing ≡ further entries.items report → (o : Option ℕ) → number_of hosts name ≡ o → made_line hosts o p ≡ Some l → Is (told.Made p) l
+
+      by : nothing ≡ further entries.items report → (o : Option ℕ) → seen_number hosts name ≡ o → line_of_made hosts o p ≡ Some l → Is (told.Made p) l
       by none None at e = absurd cc
       by none (Some h) at e = found none h at (slice_get hosts h) refl e
 
   -- a command that begins
-  start_is : (c : ToldCommand) (l : Line) → lone entries.items report (start_line (number_of hosts name) c) ≡ Some l → Is (told.Start c) l
+  start_is : (c : ToldCommand) (l : Line) → lone entries.items report (start_line (seen_number hosts name) c) ≡ Some l → Is (told.Start c) l
   unfolding Is
   start_is c l is = by (is_told c) refl is
     where
-      by : (b : Bool) → is_told c ≡ b → lone entries.items report (if b then option_map (λ h. line.Start h c) (number_of hosts name) else None) ≡ Some l → Is (told.Start c) l
+      by : (b : Bool) → is_told c ≡ b → lone entries.items report (if b then option_map (λ h. line.Start h c) (seen_number hosts name) else None) ≡ Some l → Is (told.Start c) l
       by false whole e = absurd (cc ((lone_is None l e).0))
       by true whole e =
-          going (told.Start c) (λ h. line.Start h c) (λ h. ap (λ (x : ToldCommand). record { name = host_name (names_of hosts) h; note = told.Start x }) (command_tells c whole))
+          going (told.Start c) (λ h. line.Start h c) (λ h. ap (λ (x : ToldCommand). record { name = host_name (seen_names hosts) h; note = told.Start x }) (command_tells c whole))
           (λ h. refl) (λ h. tt) (λ h. ap (note.Start h) (command_untold c whole)) l e
 
   -- an answer
   answered_is : (t : ToldAnswer) (l : Line)
-      → answered_line (number_of hosts name) (answer_with t entries report) ≡ Some l → Is (told.Answered t) l
+      → answered_line (seen_number hosts name) (answer_with t entries report) ≡ Some l → Is (told.Answered t) l
   unfolding Is
-  answered_is t l is = by (number_of hosts name) refl (answer_with t entries report) refl is
+  answered_is t l is = by (seen_number hosts name) refl (answer_with t entries report) refl is
     where
-      by : (o : Option ℕ) → number_of hosts name ≡ o → (a : Option HostAnswer) → answer_with t entries report ≡ a → answered_line o a ≡ Some l → Is (told.Answered t) l
+      by : (o : Option ℕ) → seen_number hosts name ≡ o → (a : Option HostAnswer) → answer_with t entries report ≡ a → answered_line o a ≡ Some l → Is (told.Answered t) l
       by None at a is e = absurd cc
       by (Some h) at None is e = absurd cc
       by (Some h) at (Some a) is e =
@@ -215,11 +216,11 @@ module _ (hosts : List SeenHost) (name : List ℕ) (entries : Vec Entry Global) 
           })
 
   -- a refusal
-  refused_is : (t : ToldRefusal) (l : Line) → lone entries.items report (option_map (line.Refused name) (cause_of hosts t)) ≡ Some l → Is (told.Refused t) l
+  refused_is : (t : ToldRefusal) (l : Line) → lone entries.items report (option_map (line.Refused name) (resolved_refusal hosts t)) ≡ Some l → Is (told.Refused t) l
   unfolding Is
-  refused_is t l is = let parts = lone_is (option_map (line.Refused name) (cause_of hosts t)) l is in by parts.1 (cause_of hosts t) refl parts.0
+  refused_is t l is = let parts = lone_is (option_map (line.Refused name) (resolved_refusal hosts t)) l is in by parts.1 (resolved_refusal hosts t) refl parts.0
     where
-      by : nothing ≡ further entries.items report → (o : Option Refusal) → cause_of hosts t ≡ o → option_map (line.Refused name) o ≡ Some l → Is (told.Refused t) l
+      by : nothing ≡ further entries.items report → (o : Option Refusal) → resolved_refusal hosts t ≡ o → option_map (line.Refused name) o ≡ Some l → Is (told.Refused t) l
       by none None at e = absurd cc
       by none (Some cause) at e =
           subst (Is (told.Refused t)) (same_Some (line.Refused name cause) l e) (record {
@@ -235,7 +236,7 @@ module _ (hosts : List SeenHost) (name : List ℕ) (entries : Vec Entry Global) 
       let parts = lone_is (Some (line.Host name uuid)) l is in
       subst (Is (told.Host uuid)) (same_Some (line.Host name uuid) l parts.0) (record { tells = record { first = refl; behind = parts.1 }; whole = tt; untold = refl })
 
-  line_is : (t : LineNote) (l : Line) → line_with hosts (number_of hosts name) name t entries report ≡ Some l → Is t l
+  line_is : (t : LineNote) (l : Line) → line_with hosts (seen_number hosts name) name t entries report ≡ Some l → Is t l
   line_is (told.Host uuid) l is = host_is uuid l is
   line_is (told.Made p) l is = made_is p l is
   line_is (told.Cut k) l is = going (told.Cut k) (λ h. line.Cut h k) (λ h. refl) (λ h. refl) (λ h. tt) (λ h. refl) l is
@@ -257,18 +258,18 @@ resolved_is hosts t entries report l is = line_is hosts t.name entries report t.
 
 -- so it is of a result
 pub result_tells : (hosts : List SeenHost) (t : ToldLine) (entries : Vec Entry Global) (report : Option Report) (o : Option Line) → o ≡ resolved hosts t entries report
-    → IfSome o (λ (l : Line). IsNoteOf (names_of hosts) t (further entries.items report) (note_of l))
+    → IfSome o (λ (l : Line). IsNoteOf (seen_names hosts) t (further entries.items report) (note_of_line l))
 result_tells hosts t entries report None is = tt
 result_tells hosts t entries report (Some l) is = (resolved_is hosts t entries report l (sym is)).tells
 
 -- it is whole
 pub result_whole : (hosts : List SeenHost) (t : ToldLine) (entries : Vec Entry Global) (report : Option Report) (o : Option Line) → o ≡ resolved hosts t entries report
-    → IfSome o (λ (l : Line). IsWholeNote hosts (note_of l))
+    → IfSome o (λ (l : Line). IsEntireNote hosts (note_of_line l))
 result_whole hosts t entries report None is = tt
 result_whole hosts t entries report (Some l) is = (resolved_is hosts t entries report l (sym is)).whole
 
 -- and nothing of it is untold
 pub result_untold : (hosts : List SeenHost) (t : ToldLine) (entries : Vec Entry Global) (report : Option Report) (o : Option Line) → o ≡ resolved hosts t entries report
-    → IfSome o (λ (l : Line). untold_note (note_of l) ≡ note_of l)
+    → IfSome o (λ (l : Line). untold_note (note_of_line l) ≡ note_of_line l)
 result_untold hosts t entries report None is = tt
 result_untold hosts t entries report (Some l) is = (resolved_is hosts t entries report l (sym is)).untold

@@ -21,10 +21,10 @@ use Rattle.fam_journal.specs.Notes.{Answer, Note}
 use Rattle.fam_journal.specs.Past.{HostPast, Past, State, Bad, Sound}
 use Rattle.fam_journal.specs.Shapes.{HostShape}
 use Rattle.fam_history.specs.Answers.{none_differs}
-use Rattle.fam_judge.specs.Fitting.{AnswerFits, AskFits, FileFits, Fits, KindFits, QuestionFits}
+use Rattle.fam_judge.specs.Fitting.{AnswerFits, AskFits, FileFits, FitsNext, KindFits, QuestionFits}
 use Rattle.fam_judge.specs.Standing.{Face, IsMadeBy, MayStand, OfFace, faces}
 use Rattle.fam_lines.specs.declared.host.SeenHost.{SeenHost}
-use Rattle.fam_lines.specs.Behind.{IsTreeOfEntries, IsWholeAnswer, IsWholeMade, IsWholeNote, NamesFirst}
+use Rattle.fam_lines.specs.Behind.{IsTreeOfEntries, IsEntireAnswer, IsWholeMade, IsEntireNote, NamesFirst}
 use Rattle.fam_lines.specs.Hosts.{faces_of}
 
 -- How trees differ.
@@ -93,7 +93,7 @@ whole_question : (m : ℕ) (r : Reply) (host : HostPast) (state : State) (Q : Ty
 whole_question m r host (Sound p history pending) Q each fits = each _ fits.cmd fits.fits
 whole_question m r host (Bad origin damage gate) Q each fits = absurd fits
 
-whole_answer : (a : Answer) (host : HostPast) (state : State) → AnswerFits a host state → IsWholeAnswer a
+whole_answer : (a : Answer) (host : HostPast) (state : State) → AnswerFits a host state → IsEntireAnswer a
 whole_answer (note.MediaFault at) host state fits = tt
 whole_answer (note.Replied (reply.Played m tree)) host state fits = whole_question m (reply.Played m tree) host state (IsTreeOfEntries tree) (λ files c. played files c m tree) fits
 whole_answer (note.Replied (reply.Checks m counts)) host state fits = whole_question m (reply.Checks m counts) host state (NamesFirst counts) (λ files c. checks files c m counts) fits
@@ -110,10 +110,10 @@ made None lines p is = absurd is
 made (Some f) lines p is = record { slots = is.slots; master = is.master }
 
 -- of a note that stands and fits
-pub whole_note : (lines : ℕ) (hosts : List SeenHost) (shapes : List HostShape) (past : Past) (n : Note) → faces shapes ≡ faces_of hosts → MayStand lines shapes n → Fits past n
-    → IsWholeNote hosts n
+pub whole_note : (lines : ℕ) (hosts : List SeenHost) (shapes : List HostShape) (past : Past) (n : Note) → faces shapes ≡ faces_of hosts → MayStand lines shapes n → FitsNext past n
+    → IsEntireNote hosts n
 whole_note lines hosts shapes past (note.Made h p) seen stands fits =
     subst (λ (all : List Face). OfFace (slice_get all h) (λ f. IsWholeMade f.uuid p)) seen (made (slice_get (faces shapes) h) lines p stands.1)
 whole_note lines hosts shapes past (note.Answered h a) seen stands fits =
-    of_host (slice_get past.hosts h) (λ host. AnswerFits a host past.state) (IsWholeAnswer a) (λ host is. whole_answer a host past.state is) fits
+    of_host (slice_get past.hosts h) (λ host. AnswerFits a host past.state) (IsEntireAnswer a) (λ host is. whole_answer a host past.state is) fits
 whole_note lines hosts shapes past n seen stands fits = tt

@@ -85,27 +85,27 @@ abbrev pub NamesFirst : Checked → Type 0
 NamesFirst c = is_some c.first ≡ not (none_differs c.missing c.extra c.changed)
 
 -- of a reply
-abbrev pub IsWholeReply : Reply → Type 0
-IsWholeReply (reply.Appended seq) = ⊤
-IsWholeReply (reply.NotAppended why) = ⊤
-IsWholeReply (reply.Played m tree) = IsTreeOfEntries tree
-IsWholeReply (reply.Mounted m) = ⊤
-IsWholeReply (reply.Same m) = ⊤
-IsWholeReply (reply.Differs m offset found wanted) = ⊤
-IsWholeReply (reply.Length m size wanted) = ⊤
-IsWholeReply (reply.Bytes m bytes) = ⊤
-IsWholeReply (reply.NotFound m) = ⊤
-IsWholeReply (reply.IsDirectory m) = ⊤
-IsWholeReply (reply.Checks m checked) = NamesFirst checked
-IsWholeReply (reply.Reports report) = ⊤
-IsWholeReply (reply.NoSuperblock fault) = ⊤
-IsWholeReply (reply.BadHeader fault) = ⊤
-IsWholeReply (reply.BadSlot seq why) = ⊤
+abbrev pub IsEntireReply : Reply → Type 0
+IsEntireReply (reply.Appended seq) = ⊤
+IsEntireReply (reply.NotAppended why) = ⊤
+IsEntireReply (reply.Played m tree) = IsTreeOfEntries tree
+IsEntireReply (reply.Mounted m) = ⊤
+IsEntireReply (reply.Same m) = ⊤
+IsEntireReply (reply.Differs m offset found wanted) = ⊤
+IsEntireReply (reply.Length m size wanted) = ⊤
+IsEntireReply (reply.Bytes m bytes) = ⊤
+IsEntireReply (reply.NotFound m) = ⊤
+IsEntireReply (reply.IsDirectory m) = ⊤
+IsEntireReply (reply.Checks m checked) = NamesFirst checked
+IsEntireReply (reply.Reports report) = ⊤
+IsEntireReply (reply.NoSuperblock fault) = ⊤
+IsEntireReply (reply.BadHeader fault) = ⊤
+IsEntireReply (reply.BadSlot seq why) = ⊤
 
 -- of an answer
-abbrev pub IsWholeAnswer : Answer → Type 0
-IsWholeAnswer (Replied given) = IsWholeReply given
-IsWholeAnswer (MediaFault at) = ⊤
+abbrev pub IsEntireAnswer : Answer → Type 0
+IsEntireAnswer (Replied given) = IsEntireReply given
+IsEntireAnswer (MediaFault at) = ⊤
 
 -- the slots follow from format and log, and the master is the host of this UUID
 pub record IsWholeMade (me : List ℕ) (p : Params) : Type 0 where
@@ -113,16 +113,16 @@ pub record IsWholeMade (me : List ℕ) (p : Params) : Type 0 where
   pub master : p.master ≡ me
 
 -- of a note: what its text doesn't tell is what it is of each note that stands and fits
-abbrev pub IsWholeNote : List SeenHost → Note → Type 0
-IsWholeNote hosts (Host name uuid) = ⊤
-IsWholeNote hosts (Made h p) = OfFace (slice_get (faces_of hosts) h) (λ f. IsWholeMade f.uuid p)
-IsWholeNote hosts (Cut h k) = ⊤
-IsWholeNote hosts (Start h cmd) = ⊤
-IsWholeNote hosts (Mark h) = ⊤
-IsWholeNote hosts (Found h n) = ⊤
-IsWholeNote hosts (Writes h seq entry) = ⊤
-IsWholeNote hosts (Answered h answer) = IsWholeAnswer answer
-IsWholeNote hosts (Stop h) = ⊤
-IsWholeNote hosts (Halt h) = ⊤
-IsWholeNote hosts (Umount h) = ⊤
-IsWholeNote hosts (Refused name cause) = ⊤
+abbrev pub IsEntireNote : List SeenHost → Note → Type 0
+IsEntireNote hosts (Host name uuid) = ⊤
+IsEntireNote hosts (Made h p) = OfFace (slice_get (faces_of hosts) h) (λ f. IsWholeMade f.uuid p)
+IsEntireNote hosts (Cut h k) = ⊤
+IsEntireNote hosts (Start h cmd) = ⊤
+IsEntireNote hosts (Mark h) = ⊤
+IsEntireNote hosts (Found h n) = ⊤
+IsEntireNote hosts (Writes h seq entry) = ⊤
+IsEntireNote hosts (Answered h answer) = IsEntireAnswer answer
+IsEntireNote hosts (Stop h) = ⊤
+IsEntireNote hosts (Halt h) = ⊤
+IsEntireNote hosts (Umount h) = ⊤
+IsEntireNote hosts (Refused name cause) = ⊤

@@ -12,5 +12,5 @@ abbrev pub faces_of : List SeenHost → List Face
 faces_of hosts = map face_of hosts
 
 -- their names
-abbrev pub names_of : List SeenHost → List (List ℕ)
-names_of hosts = map (λ h. h.name) hosts
+abbrev pub seen_names : List SeenHost → List (List ℕ)
+seen_names hosts = map (λ h. h.name) hosts

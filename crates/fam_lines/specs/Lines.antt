@@ -42,16 +42,16 @@ answer_of (given.BadSlot seq why) = note.Replied (reply.BadSlot seq why)
 answer_of (given.MediaFault at) = note.MediaFault at
 
 -- the note of a line
-abbrev pub note_of : Line → Note
-note_of (line.Host name uuid) = note.Host name uuid
-note_of (line.Made host p) = note.Made host p
-note_of (line.Cut host k) = note.Cut host k
-note_of (line.Start host cmd) = note.Start host (untold_of cmd)
-note_of (line.Mark host) = note.Mark host
-note_of (line.Found host n) = note.Found host n
-note_of (line.Writes host seq entry) = note.Writes host seq entry
-note_of (line.Answered host answer) = note.Answered host (answer_of answer)
-note_of (line.Stop host) = note.Stop host
-note_of (line.Halt host) = note.Halt host
-note_of (line.Umount host) = note.Umount host
-note_of (line.Refused name cause) = note.Refused name cause
+abbrev pub note_of_line : Line → Note
+note_of_line (line.Host name uuid) = note.Host name uuid
+note_of_line (line.Made host p) = note.Made host p
+note_of_line (line.Cut host k) = note.Cut host k
+note_of_line (line.Start host cmd) = note.Start host (untold_of cmd)
+note_of_line (line.Mark host) = note.Mark host
+note_of_line (line.Found host n) = note.Found host n
+note_of_line (line.Writes host seq entry) = note.Writes host seq entry
+note_of_line (line.Answered host answer) = note.Answered host (answer_of answer)
+note_of_line (line.Stop host) = note.Stop host
+note_of_line (line.Halt host) = note.Halt host
+note_of_line (line.Umount host) = note.Umount host
+note_of_line (line.Refused name cause) = note.Refused name cause

@@ -12,24 +12,24 @@ abbrev pub IsName : List ℕ → Type 0
 IsName name = IsTrue (is_host_name name)
 
 -- another host that a refusal tells has a name
-abbrev pub NamesOther : ToldRefusal → Type 0
-NamesOther refusal.NoHost = ⊤
-NamesOther (refusal.SameHost name) = IsName name
-NamesOther refusal.TooManyHosts = ⊤
-NamesOther (refusal.BadGeometry unit log) = ⊤
-NamesOther (refusal.TooSmall need have) = ⊤
-NamesOther (refusal.ImageSmall lines) = ⊤
-NamesOther (refusal.Busy name) = IsName name
-NamesOther (refusal.Dirty name) = IsName name
-NamesOther (refusal.HasSuper uuid) = ⊤
-NamesOther refusal.Idle = ⊤
-NamesOther refusal.Mounted = ⊤
-NamesOther refusal.NotMounted = ⊤
-NamesOther (refusal.NoLine at lines) = ⊤
-NamesOther (refusal.NoFile name) = ⊤
-NamesOther (refusal.CopyLimit sum) = ⊤
-NamesOther (refusal.BadListing at) = ⊤
-NamesOther (refusal.MediaFault at) = ⊤
+abbrev pub NamesOtherSeen : ToldRefusal → Type 0
+NamesOtherSeen refusal.NoHost = ⊤
+NamesOtherSeen (refusal.SameHost name) = IsName name
+NamesOtherSeen refusal.TooManyHosts = ⊤
+NamesOtherSeen (refusal.BadGeometry unit log) = ⊤
+NamesOtherSeen (refusal.TooSmall need have) = ⊤
+NamesOtherSeen (refusal.ImageSmall lines) = ⊤
+NamesOtherSeen (refusal.Busy name) = IsName name
+NamesOtherSeen (refusal.Dirty name) = IsName name
+NamesOtherSeen (refusal.HasSuper uuid) = ⊤
+NamesOtherSeen refusal.Idle = ⊤
+NamesOtherSeen refusal.Mounted = ⊤
+NamesOtherSeen refusal.NotMounted = ⊤
+NamesOtherSeen (refusal.NoLine at lines) = ⊤
+NamesOtherSeen (refusal.NoFile name) = ⊤
+NamesOtherSeen (refusal.CopyLimit sum) = ⊤
+NamesOtherSeen (refusal.BadListing at) = ⊤
+NamesOtherSeen (refusal.MediaFault at) = ⊤
 
 -- so it is of what a line tells
 abbrev pub NamesOthers : LineNote → Type 0
@@ -44,7 +44,7 @@ NamesOthers (told.Answered answer) = ⊤
 NamesOthers told.Stop = ⊤
 NamesOthers told.Halt = ⊤
 NamesOthers told.Umount = ⊤
-NamesOthers (told.Refused why) = NamesOther why
+NamesOthers (told.Refused why) = NamesOtherSeen why
 
 -- and of the line
 pub record NamesHosts (t : ToldLine) : Type 0 where

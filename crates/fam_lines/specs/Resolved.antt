@@ -26,7 +26,7 @@ use Rattle.fam_history.specs.declared.note.ToldLine.{ToldLine}
 use Rattle.fam_history.specs.declared.note.ToldParams.{ToldParams}
 use Rattle.fam_history.specs.declared.refusal.ToldRefusal.{ToldRefusal}
 use Rattle.fam_history.specs.declared.refusal.ToldRefusal.TheVariants as refusal
-use Rattle.fam_judge.specs.Standing.{number_in}
+use Rattle.fam_judge.specs.Standing.{host_number_in}
 use Rattle.fam_lines.specs.declared.answer.HostAnswer.{HostAnswer}
 use Rattle.fam_lines.specs.declared.answer.HostAnswer.TheVariants as given
 use Rattle.fam_lines.specs.declared.host.SeenHost.{SeenHost}
@@ -42,8 +42,8 @@ is_empty [] = true
 is_empty (e ∷ es) = false
 
 -- nothing follows the first line
-abbrev pub is_bare : List Entry → Option Report → Bool
-is_bare entries report = is_empty entries && is_none report
+abbrev pub has_no_further : List Entry → Option Report → Bool
+has_no_further entries report = is_empty entries && is_none report
 
 -- a path stands behind another one, if any
 abbrev pub is_behind : Option (List ℕ) → List ℕ → Bool
@@ -59,7 +59,7 @@ rise_behind before (e ∷ es) = is_behind before e.path && rise_behind (Some e.p
 
 -- an answer that is one line
 abbrev pub alone : List Entry → Option Report → HostAnswer → Option HostAnswer
-alone entries report x = if is_bare entries report then Some x else None
+alone entries report x = if has_no_further entries report then Some x else None
 
 -- the entries of a tree follow
 abbrev pub played : ℕ → Vec Entry Global → Option Report → Option HostAnswer
@@ -87,8 +87,8 @@ abbrev pub is_whole_checked : Checked → Bool
 is_whole_checked c = names_first (none_differs c.missing c.extra c.changed) c.first
 
 -- how a tree differs
-abbrev pub compared : ℕ → Checked → List Entry → Option Report → Option HostAnswer
-compared m c entries report = if is_whole_checked c then alone entries report (given.Checks m c) else None
+abbrev pub compared_answer : ℕ → Checked → List Entry → Option Report → Option HostAnswer
+compared_answer m c entries report = if is_whole_checked c then alone entries report (given.Checks m c) else None
 
 -- an answer by its first line and what follows
 abbrev pub answer_with : ToldAnswer → Vec Entry Global → Option Report → Option HostAnswer
@@ -102,7 +102,7 @@ answer_with (answer.Length m size wanted) entries report = alone entries.items r
 answer_with (answer.Bytes m bytes) entries report = alone entries.items report (given.Bytes m bytes)
 answer_with (answer.NotFound m) entries report = alone entries.items report (given.NotFound m)
 answer_with (answer.IsDirectory m) entries report = alone entries.items report (given.IsDirectory m)
-answer_with (answer.Checked m c) entries report = compared m c entries.items report
+answer_with (answer.Checked m c) entries report = compared_answer m c entries.items report
 answer_with (answer.Report sound) entries report = reported sound entries.items report
 answer_with (answer.NoSuperblock fault) entries report = alone entries.items report (given.NoSuperblock fault)
 answer_with (answer.BadHeader fault) entries report = alone entries.items report (given.BadHeader fault)
@@ -142,35 +142,35 @@ whole_params me p =
     record { format = p.format; log_length = p.log_length; slots = slots_of p.format p.log_length; unit = p.unit; device = p.device; fs = p.fs; master = me }
 
 -- the number of the host of a name
-abbrev pub number_of : List SeenHost → List ℕ → Option ℕ
-number_of hosts name = number_in name (faces_of hosts)
+abbrev pub seen_number : List SeenHost → List ℕ → Option ℕ
+seen_number hosts name = host_number_in name (faces_of hosts)
 
 -- a refusal
-abbrev pub cause_of : List SeenHost → ToldRefusal → Option Refusal
-cause_of hosts refusal.NoHost = Some why.NoHost
-cause_of hosts (refusal.SameHost name) = option_map (λ h. why.SameHost (record { 0 = h })) (number_of hosts name)
-cause_of hosts refusal.TooManyHosts = Some why.TooManyHosts
-cause_of hosts (refusal.BadGeometry unit log) = Some (why.BadGeometry unit log)
-cause_of hosts (refusal.TooSmall need have) = Some (why.TooSmall need have)
-cause_of hosts (refusal.ImageSmall lines) = Some (why.ImageSmall lines)
-cause_of hosts (refusal.Busy name) = option_map (λ h. why.Busy (record { 0 = h })) (number_of hosts name)
-cause_of hosts (refusal.Dirty name) = option_map (λ h. why.Dirty (record { 0 = h })) (number_of hosts name)
-cause_of hosts (refusal.HasSuper uuid) = Some (why.HasSuper uuid)
-cause_of hosts refusal.Idle = Some why.Idle
-cause_of hosts refusal.Mounted = Some why.Mounted
-cause_of hosts refusal.NotMounted = Some why.NotMounted
-cause_of hosts (refusal.NoLine at lines) = Some (why.NoLine at lines)
-cause_of hosts (refusal.NoFile name) = Some (why.NoFile name)
-cause_of hosts (refusal.CopyLimit sum) = Some (why.CopyLimit sum)
-cause_of hosts (refusal.BadListing at) = Some (why.BadListing at)
-cause_of hosts (refusal.MediaFault at) = Some (why.MediaFault (record { 0 = at }))
+abbrev pub resolved_refusal : List SeenHost → ToldRefusal → Option Refusal
+resolved_refusal hosts refusal.NoHost = Some why.NoHost
+resolved_refusal hosts (refusal.SameHost name) = option_map (λ h. why.SameHost (record { 0 = h })) (seen_number hosts name)
+resolved_refusal hosts refusal.TooManyHosts = Some why.TooManyHosts
+resolved_refusal hosts (refusal.BadGeometry unit log) = Some (why.BadGeometry unit log)
+resolved_refusal hosts (refusal.TooSmall need have) = Some (why.TooSmall need have)
+resolved_refusal hosts (refusal.ImageSmall lines) = Some (why.ImageSmall lines)
+resolved_refusal hosts (refusal.Busy name) = option_map (λ h. why.Busy (record { 0 = h })) (seen_number hosts name)
+resolved_refusal hosts (refusal.Dirty name) = option_map (λ h. why.Dirty (record { 0 = h })) (seen_number hosts name)
+resolved_refusal hosts (refusal.HasSuper uuid) = Some (why.HasSuper uuid)
+resolved_refusal hosts refusal.Idle = Some why.Idle
+resolved_refusal hosts refusal.Mounted = Some why.Mounted
+resolved_refusal hosts refusal.NotMounted = Some why.NotMounted
+resolved_refusal hosts (refusal.NoLine at lines) = Some (why.NoLine at lines)
+resolved_refusal hosts (refusal.NoFile name) = Some (why.NoFile name)
+resolved_refusal hosts (refusal.CopyLimit sum) = Some (why.CopyLimit sum)
+resolved_refusal hosts (refusal.BadListing at) = Some (why.BadListing at)
+resolved_refusal hosts (refusal.MediaFault at) = Some (why.MediaFault (record { 0 = at }))
 
 -- Lines.
 
 -- host `at` made a file system
-abbrev pub made_line : List SeenHost → Option ℕ → ToldParams → Option Line
-made_line hosts None p = None
-made_line hosts (Some h) p = option_map (λ host. line.Made h (whole_params host.uuid p)) (slice_get hosts h)
+abbrev pub line_of_made : List SeenHost → Option ℕ → ToldParams → Option Line
+line_of_made hosts None p = None
+line_of_made hosts (Some h) p = option_map (λ host. line.Made h (whole_params host.uuid p)) (slice_get hosts h)
 
 -- it begins a command
 abbrev pub start_line : Option ℕ → ToldCommand → Option Line
@@ -184,7 +184,7 @@ answered_line (Some h) answer = option_map (line.Answered h) answer
 -- a line of the host of a name, whose number is `at`; only what was answered is told by what follows
 abbrev pub row_line : List SeenHost → Option ℕ → List ℕ → LineNote → Vec Entry Global → Option Report → Option Line
 row_line hosts at name (told.Host uuid) entries report = Some (line.Host name uuid)
-row_line hosts at name (told.Made p) entries report = made_line hosts at p
+row_line hosts at name (told.Made p) entries report = line_of_made hosts at p
 row_line hosts at name (told.Cut k) entries report = option_map (λ h. line.Cut h k) at
 row_line hosts at name (told.Start cmd) entries report = start_line at cmd
 row_line hosts at name told.Mark entries report = option_map line.Mark at
@@ -194,7 +194,7 @@ row_line hosts at name (told.Answered answer) entries report = answered_line at 
 row_line hosts at name told.Stop entries report = option_map line.Stop at
 row_line hosts at name told.Halt entries report = option_map line.Halt at
 row_line hosts at name told.Umount entries report = option_map line.Umount at
-row_line hosts at name (told.Refused why) entries report = option_map (line.Refused name) (cause_of hosts why)
+row_line hosts at name (told.Refused why) entries report = option_map (line.Refused name) (resolved_refusal hosts why)
 
 -- an answer
 abbrev pub is_answer : LineNote → Bool
@@ -214,8 +214,8 @@ is_answer (told.Refused why) = false
 -- by what is told and what follows: something follows an answer alone
 abbrev pub line_with : List SeenHost → Option ℕ → List ℕ → LineNote → Vec Entry Global → Option Report → Option Line
 line_with hosts at name note entries report =
-    if is_answer note || is_bare entries.items report then row_line hosts at name note entries report else None
+    if is_answer note || has_no_further entries.items report then row_line hosts at name note entries report else None
 
 -- so of a line
 abbrev pub resolved : List SeenHost → ToldLine → Vec Entry Global → Option Report → Option Line
-resolved hosts told entries report = line_with hosts (number_of hosts told.name) told.name told.note entries report
+resolved hosts told entries report = line_with hosts (seen_number hosts told.name) told.name told.note entries report

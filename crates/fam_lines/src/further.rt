@@ -3,7 +3,7 @@
 ghost use Rattle.std.specs.Prelude.{◌≡◌, None};
 ghost use Rattle.fam_outcomes.specs.Texts.{is_sound_log, is_sound_report, is_sound_super};
 ghost use Rattle.fam_history.specs.Answers.{none_differs};
-ghost use Rattle.fam_lines.specs.Resolved.{agrees, alone, answer_with, compared, is_bare, is_behind, is_whole_checked, names_first, played, reported, rise_behind};
+ghost use Rattle.fam_lines.specs.Resolved.{agrees, alone, answer_with, compared_answer, has_no_further, is_behind, is_whole_checked, names_first, played, reported, rise_behind};
 
 use crate::answer::HostAnswer;
 use fam_base::{Entry, Path};
@@ -12,7 +12,7 @@ use fam_rules::{Checked, LogState, Report, SuperState};
 
 /// Whether nothing follows.
 pub(crate) fn is_bare(entries: &[Entry], report: &Option<Report>) -> bool
-    ensures { result ≡ is_bare entries.now report.now }
+    ensures { result ≡ has_no_further entries.now report.now }
 {
     entries.is_empty() && report.is_none()
 }
@@ -151,7 +151,7 @@ fn compared(
     entries: &[Entry],
     report: &Option<Report>,
 ) -> Option<HostAnswer>
-    ensures { result ≡ compared m checked entries.now report.now }
+    ensures { result ≡ compared_answer m checked entries.now report.now }
 {
     if is_whole_checked(&checked) {
         alone(entries, report, HostAnswer::Checks(m, checked))

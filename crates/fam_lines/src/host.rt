@@ -2,7 +2,7 @@
 
 ghost use Rattle.std.specs.Prelude.{◌≡◌, ◌<◌, ◌↔◌, ◌||◌, ℕ, IfSome, IsTrue, Some, None, length, option_map, slice_get};
 ghost use Rattle.fam_base.specs.PathOrder.{path_eq};
-ghost use Rattle.fam_judge.specs.Standing.{IsDeclared, engaged_in, number_in, same_in};
+ghost use Rattle.fam_judge.specs.Standing.{IsDeclaredName, engaged_in, host_number_in, same_in};
 ghost use Rattle.fam_lines.specs.Hosts.{face_of, faces_of};
 
 use fam_base::HostName;
@@ -49,7 +49,7 @@ fn is_engaged(host: &SeenHost) -> bool
 
 /// The number of the host of a name.
 pub(crate) fn number_in(name: &HostName, hosts: &[SeenHost]) -> Option<usize>
-    ensures is { result ≡ number_in name.now (faces_of hosts.now) }
+    ensures is { result ≡ host_number_in name.now (faces_of hosts.now) }
     ensures within { IfSome result (λ at. at < length hosts.now) }
 {
     for (at, host) in hosts.iter().enumerate() {
@@ -93,7 +93,7 @@ pub(crate) fn host_at(hosts: &[SeenHost], at: usize) -> Option<SeenHost>
 
 /// The host of a name, and its number.
 pub(crate) fn named(name: &HostName, hosts: &[SeenHost]) -> Option<(usize, SeenHost)>
-    ensures number { option_map (λ p. p.0) result ≡ number_in name.now (faces_of hosts.now) }
+    ensures number { option_map (λ p. p.0) result ≡ host_number_in name.now (faces_of hosts.now) }
     ensures face { IfSome result (λ p. slice_get (faces_of hosts.now) p.0 ≡ Some (face_of p.1)) }
 {
     match number_in(name, hosts) {

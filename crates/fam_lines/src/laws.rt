@@ -4,9 +4,9 @@ ghost use Rattle.std.specs.Prelude.{◌≡◌, ℕ, List};
 ghost use Rattle.fam_journal.specs.Notes.{Note};
 ghost use Rattle.fam_journal.specs.Past.{Past};
 ghost use Rattle.fam_journal.specs.Shapes.{HostShape};
-ghost use Rattle.fam_judge.specs.Fitting.{Fits};
+ghost use Rattle.fam_judge.specs.Fitting.{FitsNext};
 ghost use Rattle.fam_judge.specs.Standing.{MayStand, faces};
-ghost use Rattle.fam_lines.specs.Behind.{IsWholeNote};
+ghost use Rattle.fam_lines.specs.Behind.{IsEntireNote};
 ghost use Rattle.fam_lines.specs.Hosts.{faces_of};
 ghost use Rattle.fam_lines.specs.declared.host.SeenHost.{SeenHost};
 
@@ -14,5 +14,5 @@ ghost use Rattle.fam_lines.specs.declared.host.SeenHost.{SeenHost};
 /// (`only` of `resolve`), no note of this text stands and fits, and else each one tells the same as the line's.
 pub fn what_stands_and_fits_is_whole()
     ensures { (lines : ℕ) (hosts : List SeenHost) (shapes : List HostShape) (past : Past) (note : Note)
-        → faces shapes ≡ faces_of hosts → MayStand lines shapes note → Fits past note → IsWholeNote hosts note }
+        → faces shapes ≡ faces_of hosts → MayStand lines shapes note → FitsNext past note → IsEntireNote hosts note }
 {}

@@ -5,7 +5,7 @@ ghost use Rattle.std.specs.Global.{Global};
 ghost use Rattle.fam_base.specs.declared.entry.Entry.{Entry};
 ghost use Rattle.fam_rules.specs.declared.answers.Report.{Report};
 ghost use Rattle.fam_journal.specs.Calls.{host_limit};
-ghost use Rattle.fam_lines.specs.Resolved.{answered_line, cause_of, is_answer, is_told, is_told_cmd, is_told_content, line_with, made_line, number_of, row_line, start_line, whole_params};
+ghost use Rattle.fam_lines.specs.Resolved.{answered_line, resolved_refusal, is_answer, is_told, is_told_cmd, is_told_content, line_with, line_of_made, seen_number, row_line, start_line, whole_params};
 ghost use Rattle.fam_lines.specs.declared.line.Line.TheVariants as line;
 
 use crate::answer::HostAnswer;
@@ -77,7 +77,7 @@ fn whole_params(me: Uuid, p: &ToldParams) -> Params
 /// The number of the host of a name, which is small.
 fn number_of(hosts: &[SeenHost], name: &HostName) -> Option<HostId>
     requires few { length hosts.now ≤ host_limit }
-    ensures { result ≡ option_map (λ h. record { 0 = h }) (number_of hosts.now name.now) }
+    ensures { result ≡ option_map (λ h. record { 0 = h }) (seen_number hosts.now name.now) }
 {
     match number_in(name, hosts) {
         Some(at) => Some(HostId(at as u32)),
@@ -88,7 +88,7 @@ fn number_of(hosts: &[SeenHost], name: &HostName) -> Option<HostId>
 /// A refusal.
 fn cause_of(hosts: &[SeenHost], why: ToldRefusal) -> Option<Refusal>
     requires few { length hosts.now ≤ host_limit }
-    ensures { result ≡ cause_of hosts.now why }
+    ensures { result ≡ resolved_refusal hosts.now why }
 {
     match why {
         ToldRefusal::NoHost => Some(Refusal::NoHost),
@@ -113,7 +113,7 @@ fn cause_of(hosts: &[SeenHost], why: ToldRefusal) -> Option<Refusal>
 
 /// A host made a file system.
 fn made(hosts: &[SeenHost], at: usize, p: &ToldParams) -> Option<Line>
-    ensures { result ≡ made_line hosts.now (Some at) p.now }
+    ensures { result ≡ line_of_made hosts.now (Some at) p.now }
 {
     match hosts.get(at) {
         Some(host) => Some(Line::Made(at, whole_params(host.uuid, p))),

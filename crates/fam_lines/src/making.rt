@@ -5,7 +5,7 @@ ghost use Rattle.fam_format.specs.Layout.{slots_of};
 ghost use Rattle.fam_format.specs.Params.{is_format, is_log_length, need};
 ghost use Rattle.fam_machine.specs.Mkfs as mkfs;
 ghost use Rattle.fam_rules.specs.Place.{line_bytes};
-ghost use Rattle.fam_judge.specs.Standing.{HasRoom, IsMadeBy, MayMake, is_need, leaves_log};
+ghost use Rattle.fam_judge.specs.Standing.{HasSystemRoom, IsMadeBy, MayMake, is_need, leaves_log};
 ghost use Rattle.fam_lines.specs.Hosts.{faces_of};
 
 use crate::host::{SeenHost, engaged_in};
@@ -47,7 +47,7 @@ pub(crate) fn has_bytes(lines: u64, bytes: u64) -> bool
 
 /// Whether some file system fits a media of so many lines.
 pub(crate) fn has_room(lines: u64) -> bool
-    ensures { IsTrue result ↔ HasRoom lines }
+    ensures { IsTrue result ↔ HasSystemRoom lines }
 {
     lines >= ROOM_LINES
 }

@@ -5,7 +5,7 @@ ghost use Rattle.fam_format.specs.Layout.{least_lines};
 ghost use Rattle.fam_journal.specs.Calls.{host_limit};
 ghost use Rattle.fam_journal.specs.declared.refusal.Refusal.TheVariants as why;
 ghost use Rattle.fam_rules.specs.Place.{line_bytes};
-ghost use Rattle.fam_judge.specs.Standing.{AtNamed, HasRoom, IsDeclared, IsNotBefore, MayAsk, MayMake, MayRefuse, engaged_in, is_need, number_in};
+ghost use Rattle.fam_judge.specs.Standing.{AtNamed, HasSystemRoom, IsDeclaredName, IsNotBefore, MayAsk, MayMake, MayRefuseCall, engaged_in, is_need, host_number_in};
 ghost use Rattle.fam_machine.specs.Mkfs as mkfs;
 ghost use Rattle.fam_lines.specs.Hosts.{faces_of};
 
@@ -20,14 +20,14 @@ const HOST_LIMIT: usize = 64;
 
 /// Whether a host of this name is declared.
 fn is_declared(name: &HostName, hosts: &[SeenHost]) -> bool
-    ensures { IsTrue result ↔ IsDeclared name.now (faces_of hosts.now) }
+    ensures { IsTrue result ↔ IsDeclaredName name.now (faces_of hosts.now) }
 {
     named(name, hosts).is_some()
 }
 
 /// Whether no host of this name is declared.
 fn is_new(name: &HostName, hosts: &[SeenHost]) -> bool
-    ensures { IsTrue result ↔ (number_in name.now (faces_of hosts.now) ≡ None) }
+    ensures { IsTrue result ↔ (host_number_in name.now (faces_of hosts.now) ≡ None) }
 {
     number_in(name, hosts).is_none()
 }
@@ -48,7 +48,7 @@ fn is_number(hosts: &[SeenHost], host: u32) -> bool
 
 /// Whether the name is of no host before this one.
 fn is_not_before(host: u32, name: &HostName, hosts: &[SeenHost]) -> bool
-    ensures { IsTrue result ↔ IsNotBefore host (number_in name.now (faces_of hosts.now)) }
+    ensures { IsTrue result ↔ IsNotBefore host (host_number_in name.now (faces_of hosts.now)) }
 {
     match number_in(name, hosts) {
         Some(at) => host as usize <= at,
@@ -115,21 +115,21 @@ fn may_ask(lines: u64, hosts: &[SeenHost], name: &HostName) -> bool
 
 /// Whether this host has the name or the UUID of one that is to be declared.
 fn may_be_same(hosts: &[SeenHost], name: &HostName, host: u32) -> bool
-    ensures { IsTrue result ↔ ((host < length (faces_of hosts.now)) × IsNotBefore host (number_in name.now (faces_of hosts.now))) }
+    ensures { IsTrue result ↔ ((host < length (faces_of hosts.now)) × IsNotBefore host (host_number_in name.now (faces_of hosts.now))) }
 {
     is_number(hosts, host) && is_not_before(host, name, hosts)
 }
 
 /// Whether as many hosts are declared as may be, and none of this name.
 fn are_too_many(hosts: &[SeenHost], name: &HostName) -> bool
-    ensures { IsTrue result ↔ ((number_in name.now (faces_of hosts.now) ≡ None) × (host_limit ≤ length (faces_of hosts.now))) }
+    ensures { IsTrue result ↔ ((host_number_in name.now (faces_of hosts.now) ≡ None) × (host_limit ≤ length (faces_of hosts.now))) }
 {
     is_new(name, hosts) && is_full(hosts)
 }
 
 /// Whether unit and log are those of no file system.
 fn is_bad_geometry(hosts: &[SeenHost], name: &HostName, unit: u64, log: u64) -> bool
-    ensures { IsTrue result ↔ (IsDeclared name.now (faces_of hosts.now) × (mkfs.is_geometry unit log ≡ false)) }
+    ensures { IsTrue result ↔ (IsDeclaredName name.now (faces_of hosts.now) × (mkfs.is_geometry unit log ≡ false)) }
 {
     is_declared(name, hosts) && !is_geometry(unit, log)
 }
@@ -143,70 +143,70 @@ fn are_few_bytes(lines: u64, need: u64, have: u64) -> bool
 
 /// Whether the media is too small for a file system.
 fn is_too_small(lines: u64, hosts: &[SeenHost], name: &HostName, need: u64, have: u64) -> bool
-    ensures { IsTrue result ↔ MayRefuse lines (faces_of hosts.now) name.now (why.TooSmall need have) }
+    ensures { IsTrue result ↔ MayRefuseCall lines (faces_of hosts.now) name.now (why.TooSmall need have) }
 {
     is_declared(name, hosts) && are_few_bytes(lines, need, have)
 }
 
 /// Whether the media has so many lines, which are too few for a gate.
 fn is_small(lines: u64, hosts: &[SeenHost], name: &HostName, count: u64) -> bool
-    ensures { IsTrue result ↔ MayRefuse lines (faces_of hosts.now) name.now (why.ImageSmall count) }
+    ensures { IsTrue result ↔ MayRefuseCall lines (faces_of hosts.now) name.now (why.ImageSmall count) }
 {
     is_declared(name, hosts) && count == lines && lines < LEAST_LINES
 }
 
 /// Whether a file system may be asked for, where this is the first host that is busy.
 fn stands_in_the_way(lines: u64, hosts: &[SeenHost], name: &HostName, at: u32) -> bool
-    ensures { IsTrue result ↔ (IsDeclared name.now (faces_of hosts.now) × HasRoom lines × (engaged_in (faces_of hosts.now) ≡ Some at)) }
+    ensures { IsTrue result ↔ (IsDeclaredName name.now (faces_of hosts.now) × HasSystemRoom lines × (engaged_in (faces_of hosts.now) ≡ Some at)) }
 {
     is_declared(name, hosts) && has_room(lines) && is_engaged(hosts, at)
 }
 
 /// Whether this host is busy.
 fn may_be_busy(lines: u64, hosts: &[SeenHost], name: &HostName, at: u32) -> bool
-    ensures { IsTrue result ↔ MayRefuse lines (faces_of hosts.now) name.now (why.Busy (record { 0 = at })) }
+    ensures { IsTrue result ↔ MayRefuseCall lines (faces_of hosts.now) name.now (why.Busy (record { 0 = at })) }
 {
     is_busy(name, hosts, at) || stands_in_the_way(lines, hosts, name, at)
 }
 
 /// Whether this host, which isn't the maker, may hold a line that memory lacks.
 fn may_be_dirty(lines: u64, hosts: &[SeenHost], name: &HostName, at: u32) -> bool
-    ensures { IsTrue result ↔ MayRefuse lines (faces_of hosts.now) name.now (why.Dirty (record { 0 = at })) }
+    ensures { IsTrue result ↔ MayRefuseCall lines (faces_of hosts.now) name.now (why.Dirty (record { 0 = at })) }
 {
     may_make(lines, hosts) && is_number(hosts, at) && is_other(name, hosts, at)
 }
 
 /// Whether a superblock may stand there.
 fn may_have_super(lines: u64, hosts: &[SeenHost], name: &HostName) -> bool
-    ensures { IsTrue result ↔ (MayMake lines (faces_of hosts.now) × IsDeclared name.now (faces_of hosts.now)) }
+    ensures { IsTrue result ↔ (MayMake lines (faces_of hosts.now) × IsDeclaredName name.now (faces_of hosts.now)) }
 {
     may_make(lines, hosts) && is_declared(name, hosts)
 }
 
 /// Whether a mount may be asked for of a host that keeps something.
 fn is_mounted(lines: u64, hosts: &[SeenHost], name: &HostName) -> bool
-    ensures { IsTrue result ↔ MayRefuse lines (faces_of hosts.now) name.now why.Mounted }
+    ensures { IsTrue result ↔ MayRefuseCall lines (faces_of hosts.now) name.now why.Mounted }
 {
     lines >= LEAST_LINES && is_resting(name, hosts, true)
 }
 
 /// Whether the media has so many lines, and this is none of them.
 fn is_no_line(lines: u64, hosts: &[SeenHost], name: &HostName, line: u64, count: u64) -> bool
-    ensures { IsTrue result ↔ MayRefuse lines (faces_of hosts.now) name.now (why.NoLine line count) }
+    ensures { IsTrue result ↔ MayRefuseCall lines (faces_of hosts.now) name.now (why.NoLine line count) }
 {
     is_declared(name, hosts) && count == lines && lines <= line
 }
 
 /// Whether the media may have failed at this line.
 fn is_fault(lines: u64, hosts: &[SeenHost], name: &HostName, line: u64) -> bool
-    ensures { IsTrue result ↔ (IsDeclared name.now (faces_of hosts.now) × (line < lines)) }
+    ensures { IsTrue result ↔ (IsDeclaredName name.now (faces_of hosts.now) × (line < lines)) }
 {
     is_declared(name, hosts) && line < lines
 }
 
 /// Whether a call for the host of this name may be refused for this cause.
 pub(crate) fn may_refuse(lines: u64, hosts: &[SeenHost], name: &HostName, cause: &Refusal) -> bool
-    ensures { IsTrue result ↔ MayRefuse lines (faces_of hosts.now) name.now cause.now }
+    ensures { IsTrue result ↔ MayRefuseCall lines (faces_of hosts.now) name.now cause.now }
 {
     match cause {
         Refusal::NoHost => is_new(name, hosts),

@@ -6,10 +6,10 @@ ghost use Rattle.fam_journal.specs.Notes.{Note};
 ghost use Rattle.fam_history.specs.ToldNotes.{AreDistinctNames};
 ghost use Rattle.fam_judge.specs.Alike.{told_note};
 ghost use Rattle.fam_judge.specs.Untold.{untold_note};
-ghost use Rattle.fam_lines.specs.Behind.{IsNoteOf, IsWholeNote, further};
-ghost use Rattle.fam_lines.specs.Hosts.{names_of};
-ghost use Rattle.fam_lines.specs.Lines.{note_of};
-ghost use Rattle.fam_lines.specs.Named.{IsName, NamesHosts, NamesOther, NamesOthers};
+ghost use Rattle.fam_lines.specs.Behind.{IsNoteOf, IsEntireNote, further};
+ghost use Rattle.fam_lines.specs.Hosts.{seen_names};
+ghost use Rattle.fam_lines.specs.Lines.{note_of_line};
+ghost use Rattle.fam_lines.specs.Named.{IsName, NamesHosts, NamesOtherSeen, NamesOthers};
 ghost use Rattle.fam_lines.specs.Resolved.{resolved};
 
 use crate::host::{SeenHost, number_in};
@@ -29,7 +29,7 @@ fn is_name(name: &HostName)
 
 /// So is that of another host which a refusal tells. A call does nothing.
 fn names_other(why: &ToldRefusal)
-    ensures { NamesOther why.now }
+    ensures { NamesOtherSeen why.now }
 {
     match why {
         ToldRefusal::SameHost(name) => is_name(name),
@@ -107,14 +107,14 @@ pub fn resolve(
     report: Option<Report>,
 ) -> Option<Line>
     requires few { length hosts.now ≤ host_limit }
-    ensures tells { IfSome result (λ line. IsNoteOf (names_of hosts.now) told (further entries.items report) (note_of line)) }
-    ensures whole { IfSome result (λ line. IsWholeNote hosts.now (note_of line)) }
-    ensures untold { IfSome result (λ line. untold_note (note_of line) ≡ note_of line) }
+    ensures tells { IfSome result (λ line. IsNoteOf (seen_names hosts.now) told (further entries.items report) (note_of_line line)) }
+    ensures whole { IfSome result (λ line. IsEntireNote hosts.now (note_of_line line)) }
+    ensures untold { IfSome result (λ line. untold_note (note_of_line line) ≡ note_of_line line) }
 
     // Any note that stands and fits is whole.
-    ensures only { AreDistinctNames (names_of hosts.now) → (note : Note) → IsWholeNote hosts.now note
-        → IsNoteOf (names_of hosts.now) told (further entries.items report) note
-        → MatchOption result ⊥ (λ line. told_note (note_of line) ≡ told_note note) }
+    ensures only { AreDistinctNames (seen_names hosts.now) → (note : Note) → IsEntireNote hosts.now note
+        → IsNoteOf (seen_names hosts.now) told (further entries.items report) note
+        → MatchOption result ⊥ (λ line. told_note (note_of_line line) ≡ told_note note) }
 {
     line_of(hosts, told, entries, report)
 }

@@ -6,7 +6,7 @@ ghost use Rattle.fam_journal.specs.Calls.{host_limit};
 ghost use Rattle.fam_journal.specs.Shapes.{HostShape};
 ghost use Rattle.fam_judge.specs.Standing.{IsMadeBy, MayDeclare, MayMake, MayStand, OfFace, engaged_in, faces, is_own};
 ghost use Rattle.fam_lines.specs.Hosts.{faces_of};
-ghost use Rattle.fam_lines.specs.Lines.{note_of};
+ghost use Rattle.fam_lines.specs.Lines.{note_of_line};
 
 use crate::commands::may_start;
 use crate::host::{SeenHost, engaged_in, host_at, same_in};
@@ -90,8 +90,8 @@ fn may_umount(hosts: &[SeenHost], at: usize) -> bool
 /// Whether a line that no running command gives may stand next, on a media of so many lines behind lines that tell so much of
 /// the hosts. Of a line that a running command gives it says `false`.
 pub fn stands(lines: u64, hosts: &[SeenHost], line: &Line) -> bool
-    ensures { (shapes : List HostShape) → faces shapes ≡ faces_of hosts.now → is_own (note_of line.now) ≡ false
-        → IsTrue result ↔ MayStand lines shapes (note_of line.now) }
+    ensures { (shapes : List HostShape) → faces shapes ≡ faces_of hosts.now → is_own (note_of_line line.now) ≡ false
+        → IsTrue result ↔ MayStand lines shapes (note_of_line line.now) }
 {
     match line {
         Line::Host(name, uuid) => may_declare(hosts, name, uuid),

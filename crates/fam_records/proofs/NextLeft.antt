@@ -13,17 +13,17 @@ use Rattle.fam_history.specs.ReportLines.{bad_entry_line, files_line, log_state_
 use Rattle.fam_records.specs.declared.record.Further.{Further}
 use Rattle.fam_records.specs.declared.record.Further.TheVariants as further
 use Rattle.fam_records.specs.declared.record.Record.{Record}
-use Rattle.fam_records.specs.Histories.{BeginsWith, history_by, history_left, history_up_to, left_behind, no_history, seen_if, with_record}
+use Rattle.fam_records.specs.Histories.{BeginsHistory, history_by, history_left, history_up_to, left_behind, no_history, seen_if, with_record}
 use Rattle.fam_records.specs.Lines.{ALine, Left, NextLine, NoLine, is_passed, next_from, next_line, numbered_line}
-use Rattle.fam_records.specs.Records.{Recorded, counts_of, damage_of, entries_of, further_lines, further_of, next_record, record_by, record_of, report_of, states_of}
-use Rattle.fam_records.specs.Taken.{Bad, Gives, Taken, Takes, both_of, line_by, one_line, taken_as, then_takes}
+use Rattle.fam_records.specs.Records.{Recorded, counts_of, told_damage, listed_entries, told_further, further_of, next_record, record_by, record_of, told_report, states_of}
+use Rattle.fam_records.specs.Taken.{Bad, Gives, TakenLines, Takes, both_of, line_by, line_taken, taken_as, then_takes}
 
 -- at most so many lines are left behind what is read
-abbrev IsWithin : {A : Type 0} → ℕ → Taken A → Type 0
+abbrev IsWithin : {A : Type 0} → ℕ → TakenLines A → Type 0
 IsWithin most (Takes value left) = length left.lines ≤ most
 IsWithin most (Bad number column) = ⊤
 
-then_within : {A B : Type 0} (most : ℕ) (said : Taken A) (next : A → Left → Taken B) → IsWithin most said
+then_within : {A B : Type 0} (most : ℕ) (said : TakenLines A) (next : A → Left → TakenLines B) → IsWithin most said
     → ((value : A) (left : Left) → length left.lines ≤ most → IsWithin most (next value left)) → IsWithin most (then_takes said next)
 then_within most (Takes value left) next within more = more value left within
 then_within most (Bad number column) next within more = tt
@@ -57,46 +57,46 @@ line_within : {A : Type 0} (most count : ℕ) (grammar : ℕ → List Word → R
 line_within most count grammar (NoLine number) one few = tt
 line_within most count grammar (ALine line words left) one few = read_within most line left (grammar line.end words) (omega (arith, one, few))
 
-one_within : {A : Type 0} (most : ℕ) (grammar : ℕ → List Word → Reading A) (left : Left) → length left.lines ≤ most → IsWithin most (one_line grammar left)
+one_within : {A : Type 0} (most : ℕ) (grammar : ℕ → List Word → Reading A) (left : Left) → length left.lines ≤ most → IsWithin most (line_taken grammar left)
 one_within most grammar left few = line_within most (length left.lines) grammar (next_line left) (one_of left.number left.lines) few
 
-entries_within : (most n : ℕ) (left : Left) → length left.lines ≤ most → IsWithin most (entries_of n left)
+entries_within : (most n : ℕ) (left : Left) → length left.lines ≤ most → IsWithin most (listed_entries n left)
 entries_within most zero left few = few
 entries_within most (suc n) left few =
-    then_within most (one_line listed_entry left) _ (one_within most listed_entry left few) (λ entry rest less.
-    then_within most (entries_of n rest) _ (entries_within most n rest less) (λ entries behind last. last))
+    then_within most (line_taken listed_entry left) _ (one_within most listed_entry left few) (λ entry rest less.
+    then_within most (listed_entries n rest) _ (entries_within most n rest less) (λ entries behind last. last))
 
-both_within : {A B : Type 0} (most : ℕ) (first : Left → Taken A) (second : Left → Taken B) (left : Left) → length left.lines ≤ most
+both_within : {A B : Type 0} (most : ℕ) (first : Left → TakenLines A) (second : Left → TakenLines B) (left : Left) → length left.lines ≤ most
     → ((l : Left) → length l.lines ≤ most → IsWithin most (first l)) → ((l : Left) → length l.lines ≤ most → IsWithin most (second l))
     → IsWithin most (both_of first second left)
 both_within most first second left few one other =
     then_within most (first left) _ (one left few) (λ a rest less. then_within most (second rest) _ (other rest less) (λ b behind last. last))
 
-report_within : (most : ℕ) (left : Left) → length left.lines ≤ most → IsWithin most (report_of left)
-unfolding report_of
+report_within : (most : ℕ) (left : Left) → length left.lines ≤ most → IsWithin most (told_report left)
+unfolding told_report
 report_within most left few =
-    then_within most (states_of left) _ (both_within most (one_line superblock_line) (one_line log_state_line) left few
+    then_within most (states_of left) _ (both_within most (line_taken superblock_line) (line_taken log_state_line) left few
     (one_within most superblock_line) (one_within most log_state_line)) (λ states rest less.
-    then_within most (counts_of rest) _ (both_within most (one_line files_line) (one_line units_line) rest less
+    then_within most (counts_of rest) _ (both_within most (line_taken files_line) (line_taken units_line) rest less
     (one_within most files_line) (one_within most units_line)) (λ counts rest less.
-    then_within most (damage_of rest) _ (both_within most (one_line overlap_line) (one_line bad_entry_line) rest less
+    then_within most (told_damage rest) _ (both_within most (line_taken overlap_line) (line_taken bad_entry_line) rest less
     (one_within most overlap_line) (one_within most bad_entry_line)) (λ damage rest less.
-    then_within most (one_line past_line rest) _ (one_within most past_line rest less) (λ past behind last. last))))
+    then_within most (line_taken past_line rest) _ (one_within most past_line rest less) (λ past behind last. last))))
 
-further_within : (most : ℕ) (more : Further) (left : Left) → length left.lines ≤ most → IsWithin most (further_lines more left)
+further_within : (most : ℕ) (more : Further) (left : Left) → length left.lines ≤ most → IsWithin most (told_further more left)
 further_within most further.Nothing left few = few
 further_within most (further.Entries n) left few =
-    then_within most (entries_of n left) _ (entries_within most n left few) (λ entries behind last. last)
+    then_within most (listed_entries n left) _ (entries_within most n left few) (λ entries behind last. last)
 further_within most further.Report left few =
-    then_within most (report_of left) _ (report_within most left few) (λ report behind last. last)
+    then_within most (told_report left) _ (report_within most left few) (λ report behind last. last)
 
 -- fewer lines are left behind a note
-abbrev IsFewer : ℕ → Taken (Option Recorded) → Type 0
+abbrev IsFewer : ℕ → TakenLines (Option Recorded) → Type 0
 IsFewer count (Takes None left) = ⊤
 IsFewer count (Takes (Some first) left) = length left.lines < count
 IsFewer count (Bad number column) = ⊤
 
-fewer : (most count : ℕ) (said : Taken (Option Recorded)) → IsWithin most said → most < count → IsFewer count said
+fewer : (most count : ℕ) (said : TakenLines (Option Recorded)) → IsWithin most said → most < count → IsFewer count said
 fewer most count (Takes None left) within less = tt
 fewer most count (Takes (Some first) left) within less = omega (arith, within, less)
 fewer most count (Bad number column) within less = tt
@@ -107,7 +107,7 @@ record_fewer count (ALine line words left) one =
     let most : ℕ = length left.lines in
     fewer most count _ (then_within most (taken_as line left (history_line line.end words)) (record_of line.number)
     (read_within most line left (history_line line.end words) (omega arith)) (λ told behind few.
-    then_within most (further_lines (further_of told.note) behind) _ (further_within most (further_of told.note) behind few) (λ more rest last. last))) one
+    then_within most (told_further (further_of told.note) behind) _ (further_within most (further_of told.note) behind few) (λ more rest last. last))) one
 
 next_fewer : (left : Left) → IsFewer (length left.lines) (next_record left)
 unfolding next_record
@@ -121,7 +121,7 @@ ended zero number [] none = refl
 ended (suc n) number [] none = refl
 ended n number (line ∷ lines) none = absurd (omega (arith, none))
 
-same_by : (n m count : ℕ) (said : Taken (Option Recorded)) → IsFewer count said
+same_by : (n m count : ℕ) (said : TakenLines (Option Recorded)) → IsFewer count said
     → ((rest : Left) → length rest.lines < count → history_up_to n rest ≡ history_up_to m rest)
     → history_by said (history_up_to n (left_behind said)) ≡ history_by said (history_up_to m (left_behind said))
 same_by n m count (Takes None left) fewer same = refl
@@ -138,7 +138,7 @@ same_up_to (suc n) (suc m) left few other =
     same_by n m (length left.lines) (next_record left) (next_fewer left)
     (λ rest less. same_up_to n m rest (omega (arith, few, less)) (omega (arith, other, less)))
 
-left_by : (n count : ℕ) (said : Taken (Option Recorded)) → count ≤ suc n → IsFewer count said
+left_by : (n count : ℕ) (said : TakenLines (Option Recorded)) → count ≤ suc n → IsFewer count said
     → history_by said (history_up_to n (left_behind said)) ≡ history_by said (history_left (left_behind said))
 unfolding history_left
 left_by n count (Takes None left) few fewer = refl
@@ -155,7 +155,7 @@ next_left left =
 
 -- what is left begins with the note that is read
 pub begins : (left behind : Left) (result : Result (Option Record) LineFault) → Gives seen_if behind result (next_record left)
-    → BeginsWith (history_left left) (history_left behind) result
+    → BeginsHistory (history_left left) (history_left behind) result
 begins left behind (Ok None) says = next_left left ∙ ap (λ t. history_by t (history_left (left_behind t))) says
 begins left behind (Ok (Some first)) says = next_left left ∙ ap (λ t. history_by t (history_left (left_behind t))) says
 begins left behind (Err (BadLine number column)) says = next_left left ∙ ap (λ t. history_by t (history_left (left_behind t))) says

@@ -12,7 +12,7 @@ use Rattle.fam_grammar.specs.Reading.{Reading, Reads}
 use Rattle.fam_grammar.specs.Words.{Word, is_blank, short_word, with_byte, without_return, words_from}
 use Rattle.fam_outcomes.specs.Texts.{line}
 use Rattle.fam_records.specs.Lines.{ALine, is_passed, next_line}
-use Rattle.fam_records.specs.Taken.{Takes, line_by, one_line, taken_as}
+use Rattle.fam_records.specs.Taken.{Takes, line_by, line_taken, taken_as}
 use Rattle.fam_records.proofs.Clean.{is_clean}
 
 no_byte : (c : ℕ) → c < 32 → (text : List ℕ) → is_clean text ≡ true → No c text
@@ -85,7 +85,7 @@ module _ (text : List ℕ) (is : IsPrinted text) where
   -- and is read
   pub line_read : {A : Type 0} (grammar : ℕ → List Word → Reading A) (value : A) (number : ℕ) (lines : List (List ℕ))
       → grammar (length text + 1) (words_from 1 text) ≡ Reads value []
-      → one_line grammar (record { number = number; lines = text ∷ lines }) ≡ Takes value (record { number = number + 1; lines = lines })
+      → line_taken grammar (record { number = number; lines = text ∷ lines }) ≡ Takes value (record { number = number + 1; lines = lines })
   line_read grammar value number lines reads =
       ap (line_by grammar) (next_is number lines)
       ∙ ap (taken_as (record { number = number; end = length text + 1 }) (record { number = number + 1; lines = lines })) reads

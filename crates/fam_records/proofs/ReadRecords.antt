@@ -32,17 +32,17 @@ use Rattle.fam_history.proofs.PrintedNotes.{line_reads, note_prints}
 use Rattle.fam_history.proofs.PrintedReports.{bad_reads, files_read, log_reads, overlap_reads, past_reads, super_reads, units_read}
 use Rattle.fam_records.specs.declared.record.Further.TheVariants as further
 use Rattle.fam_records.specs.Lines.{Left}
-use Rattle.fam_records.specs.Histories.{history_by, history_left, history_of, left_behind, with_record}
-use Rattle.fam_records.specs.Records.{counts_of, damage_of, entries_of, further_lines, further_of, further_of_answer, next_record, record_by, record_of, report_of, states_of}
-use Rattle.fam_records.specs.Taken.{Taken, Takes, both_of, one_line, taken_as, then_takes}
-use Rattle.fam_records.specs.ToldRecords.{AreTellingRecords, IfTellingReport, IsCounted, IsTellingRecord, IsTellingReport, further_told, lines_of_note, record_told, records_told, reply_further, report_lines}
+use Rattle.fam_records.specs.Histories.{history_by, history_left, history_in, left_behind, with_record}
+use Rattle.fam_records.specs.Records.{counts_of, told_damage, listed_entries, told_further, further_of, further_of_answer, next_record, record_by, record_of, told_report, states_of}
+use Rattle.fam_records.specs.Taken.{TakenLines, Takes, both_of, line_taken, taken_as, then_takes}
+use Rattle.fam_records.specs.ToldRecords.{AreTellingRecords, IfTellingReport, CountsListing, IsTellingRecord, IsTellingReport, further_told, lines_of_note, record_told, records_told, reply_further, report_line_count}
 use Rattle.fam_records.proofs.Clean.{entry_clean}
 use Rattle.fam_records.proofs.CleanNotes.{bad_clean, files_clean, head_printed, log_state_clean, overlap_clean, past_clean, super_state_clean, units_clean}
 use Rattle.fam_records.proofs.PrintedLines.{ArePrinted, IsPrinted, is_begun, line_read, lines_are, next_is}
 use Rattle.fam_records.proofs.NextLeft.{next_left}
 
 -- one thing that is taken, and the next
-then_is : {A B : Type 0} (said : Taken A) (next : A → Left → Taken B) (value : A) (left : Left) (last : Taken B) → said ≡ Takes value left → next value left ≡ last
+then_is : {A B : Type 0} (said : TakenLines A) (next : A → Left → TakenLines B) (value : A) (left : Left) (last : TakenLines B) → said ≡ Takes value left → next value left ≡ last
     → then_takes said next ≡ last
 then_is said next value left last first rest = ap (λ t. then_takes t next) first ∙ rest
 
@@ -68,13 +68,13 @@ entries_printed [] all = tt
 entries_printed (e ∷ es) all = (entry_printed e (All-head IsListed e es all), entries_printed es (All-tail IsListed e es all))
 
 entries_read : (es : List Entry) (n : ℕ) (lines : List (List ℕ)) → All IsListed es
-    → entries_of (length es) (from n (map entry_line es ++ lines)) ≡ Takes es (from (n + length es) lines)
+    → listed_entries (length es) (from n (map entry_line es ++ lines)) ≡ Takes es (from (n + length es) lines)
 entries_read [] n lines all = ap (λ (k : ℕ). Takes [] (from k lines)) (omega arith)
 entries_read (e ∷ es) n lines all =
     let is = All-head IsListed e es all in
-    then_is (one_line listed_entry (from n (entry_line e ∷ (map entry_line es ++ lines)))) _ e (from (n + 1) (map entry_line es ++ lines)) _
+    then_is (line_taken listed_entry (from n (entry_line e ∷ (map entry_line es ++ lines)))) _ e (from (n + 1) (map entry_line es ++ lines)) _
     (line_read (entry_line e) (entry_printed e is) listed_entry e n (map entry_line es ++ lines) (entry_reads e 1 (length (entry_line e) + 1) is))
-    (then_is (entries_of (length es) (from (n + 1) (map entry_line es ++ lines))) _ es (from (n + 1 + length es) lines) _
+    (then_is (listed_entries (length es) (from (n + 1) (map entry_line es ++ lines))) _ es (from (n + 1 + length es) lines) _
     (entries_read es (n + 1) lines (All-tail IsListed e es all))
     (ap (λ (k : ℕ). Takes (e ∷ es) (from k lines)) (omega arith)))
 
@@ -123,14 +123,14 @@ report_printed r is = (
 )
 
 -- they are read one by one, each with the number that its place gives
-both_is : {A B : Type 0} (first : Left → Taken A) (second : Left → Taken B) (start middle last : Left) (a : A) (b : B) → first start ≡ Takes a middle
+both_is : {A B : Type 0} (first : Left → TakenLines A) (second : Left → TakenLines B) (start middle last : Left) (a : A) (b : B) → first start ≡ Takes a middle
     → second middle ≡ Takes b last → both_of first second start ≡ Takes (a, b) last
 both_is first second start middle last a b one other =
     then_is (first start) (λ a rest. then_takes (second rest) (λ b behind. Takes (a, b) behind)) a middle (Takes (a, b) last) one
     (then_is (second middle) (λ b behind. Takes (a, b) behind) b last (Takes (a, b) last) other refl)
 
-report_read : (r : Report) (n : ℕ) (lines : List (List ℕ)) → IsTellingReport r → report_of (from n (report_texts r ++ lines)) ≡ Takes r (from (n + 7) lines)
-unfolding report_of
+report_read : (r : Report) (n : ℕ) (lines : List (List ℕ)) → IsTellingReport r → told_report (from n (report_texts r ++ lines)) ≡ Takes r (from (n + 7) lines)
+unfolding told_report
 report_read r n lines is =
     let a = report_printed r is in
     let b = a.1 in
@@ -150,18 +150,18 @@ report_read r n lines is =
     let l2 : List (List ℕ) = files ∷ l3 in
     let l1 : List (List ℕ) = log_state_text r.log ∷ l2 in
     then_is (states_of (from n (super_state_text r.superblock ∷ l1))) _ (r.superblock, r.log) (from (n + 1 + 1) l2) _
-    (both_is (one_line superblock_line) (one_line log_state_line) (from n (super_state_text r.superblock ∷ l1)) (from (n + 1) l1) (from (n + 1 + 1) l2) r.superblock r.log
+    (both_is (line_taken superblock_line) (line_taken log_state_line) (from n (super_state_text r.superblock ∷ l1)) (from (n + 1) l1) (from (n + 1 + 1) l2) r.superblock r.log
     (line_read (super_state_text r.superblock) a.0 superblock_line r.superblock n l1 (super_reads 1 _ r.superblock is.superblock))
     (line_read (log_state_text r.log) b.0 log_state_line r.log (n + 1) l2 (log_reads 1 _ r.log is.log)))
     (then_is (counts_of (from (n + 1 + 1) l2)) _ ((r.files, r.directories), (r.used, r.free)) (from (n + 1 + 1 + 1 + 1) l4) _
-    (both_is (one_line files_line) (one_line units_line) (from (n + 1 + 1) l2) (from (n + 1 + 1 + 1) l3) (from (n + 1 + 1 + 1 + 1) l4) (r.files, r.directories) (r.used, r.free)
+    (both_is (line_taken files_line) (line_taken units_line) (from (n + 1 + 1) l2) (from (n + 1 + 1 + 1) l3) (from (n + 1 + 1 + 1 + 1) l4) (r.files, r.directories) (r.used, r.free)
     (line_read files c.0 files_line (r.files, r.directories) (n + 1 + 1) l3 (files_read 1 _ r.files r.directories is.files is.directories))
     (line_read units d.0 units_line (r.used, r.free) (n + 1 + 1 + 1) l4 (units_read 1 _ r.used r.free is.used is.unused)))
-    (then_is (damage_of (from (n + 1 + 1 + 1 + 1) l4)) _ (r.overlap, r.bad) (from (n + 1 + 1 + 1 + 1 + 1 + 1) l6) _
-    (both_is (one_line overlap_line) (one_line bad_entry_line) (from (n + 1 + 1 + 1 + 1) l4) (from (n + 1 + 1 + 1 + 1 + 1) l5) (from (n + 1 + 1 + 1 + 1 + 1 + 1) l6) r.overlap r.bad
+    (then_is (told_damage (from (n + 1 + 1 + 1 + 1) l4)) _ (r.overlap, r.bad) (from (n + 1 + 1 + 1 + 1 + 1 + 1) l6) _
+    (both_is (line_taken overlap_line) (line_taken bad_entry_line) (from (n + 1 + 1 + 1 + 1) l4) (from (n + 1 + 1 + 1 + 1 + 1) l5) (from (n + 1 + 1 + 1 + 1 + 1 + 1) l6) r.overlap r.bad
     (line_read (overlap_text r.overlap) e.0 overlap_line r.overlap (n + 1 + 1 + 1 + 1) l5 (overlap_reads 1 _ r.overlap is.overlap))
     (line_read (bad_text r.bad) f.0 bad_entry_line r.bad (n + 1 + 1 + 1 + 1 + 1) l6 (bad_reads 1 _ r.bad is.bad)))
-    (then_is (one_line past_line (from (n + 1 + 1 + 1 + 1 + 1 + 1) l6)) _ r.past (from (n + 1 + 1 + 1 + 1 + 1 + 1 + 1) lines) _
+    (then_is (line_taken past_line (from (n + 1 + 1 + 1 + 1 + 1 + 1) l6)) _ r.past (from (n + 1 + 1 + 1 + 1 + 1 + 1 + 1) lines) _
     (line_read past g.0 past_line r.past (n + 1 + 1 + 1 + 1 + 1 + 1) lines (past_reads 1 _ r.past is.past))
     (ap (λ (k : ℕ). Takes r (from k lines)) same))))
 
@@ -212,25 +212,25 @@ nothing_read n lines = let same : n ≡ n + 0 = omega arith in ap (λ (k : ℕ).
 
 module _ (n : ℕ) (lines : List (List ℕ)) where
   listing_read : (m : ℕ) (es : List Entry) → m ≡ length es → All IsListed es
-      → further_lines (further.Entries m) (from n ((map entry_line es ++ []) ++ lines)) ≡ Takes (es, None) (from (n + (length es + 0)) lines)
+      → told_further (further.Entries m) (from n ((map entry_line es ++ []) ++ lines)) ≡ Takes (es, None) (from (n + (length es + 0)) lines)
   listing_read m es count all =
-      then_is (entries_of m (from n ((map entry_line es ++ []) ++ lines))) (λ entries behind. Takes (entries, None) behind) es (from (n + length es) lines) _
-      (ap₂ (λ (k : ℕ) (l : List (List ℕ)). entries_of k (from n (l ++ lines))) count (append-nil (map entry_line es)) ∙ entries_read es n lines all)
+      then_is (listed_entries m (from n ((map entry_line es ++ []) ++ lines))) (λ entries behind. Takes (entries, None) behind) es (from (n + length es) lines) _
+      (ap₂ (λ (k : ℕ) (l : List (List ℕ)). listed_entries k (from n (l ++ lines))) count (append-nil (map entry_line es)) ∙ entries_read es n lines all)
       (ap (λ (k : ℕ). Takes (es, None) (from (n + k) lines)) (omega arith))
 
-  reply_read : (given : Reply) → IsCounted (further_of_answer (reply_told given)) (reply_further given).0 → All IsListed (reply_further given).0
+  reply_read : (given : Reply) → CountsListing (further_of_answer (reply_told given)) (reply_further given).0 → All IsListed (reply_further given).0
       → IfTellingReport (reply_further given).1
-      → further_lines (further_of_answer (reply_told given)) (from n (texts_of (reply_further given) ++ lines))
-      ≡ Takes (reply_further given) (from (n + (length (reply_further given).0 + report_lines (reply_further given).1)) lines)
+      → told_further (further_of_answer (reply_told given)) (from n (texts_of (reply_further given) ++ lines))
+      ≡ Takes (reply_further given) (from (n + (length (reply_further given).0 + report_line_count (reply_further given).1)) lines)
   reply_read (reply.Played m tree) count all report = listing_read m (finmap.values tree) count all
   reply_read (reply.Reports r) count all report =
-      then_is (report_of (from n (report_texts r ++ lines))) (λ report behind. Takes ([], Some report) behind) r (from (n + 7) lines) _ (report_read r n lines report) refl
+      then_is (told_report (from n (report_texts r ++ lines))) (λ report behind. Takes ([], Some report) behind) r (from (n + 7) lines) _ (report_read r n lines report) refl
   reply_read other count all report = nothing_read n lines
 
-  more_read : (names : List (List ℕ)) (note : Note) → IsCounted (further_of (told_of_note names note)) (further_told note).0 → All IsListed (further_told note).0
+  more_read : (names : List (List ℕ)) (note : Note) → CountsListing (further_of (told_of_note names note)) (further_told note).0 → All IsListed (further_told note).0
       → IfTellingReport (further_told note).1
-      → further_lines (further_of (told_of_note names note)) (from n (texts_of (further_told note) ++ lines))
-      ≡ Takes (further_told note) (from (n + (length (further_told note).0 + report_lines (further_told note).1)) lines)
+      → told_further (further_of (told_of_note names note)) (from n (texts_of (further_told note) ++ lines))
+      ≡ Takes (further_told note) (from (n + (length (further_told note).0 + report_line_count (further_told note).1)) lines)
   more_read names (Answered host (Replied given)) count all report = reply_read given count all report
   more_read names (Answered host (MediaFault at)) count all report = nothing_read n lines
   more_read names other count all report = nothing_read n lines
@@ -258,7 +258,7 @@ module _ (names : List (List ℕ)) (note : Note) (is : IsTellingRecord names not
       ∙ then_is (taken_as (record { number = n; end = end }) (from (n + 1) (more ++ lines)) (history_line end (words_from 1 head))) (record_of n) (line_told names note)
       (from (n + 1) (more ++ lines)) _
       (ap (taken_as (record { number = n; end = end }) (from (n + 1) (more ++ lines))) (line_reads names note 1 end is.first))
-      (then_is (further_lines (further_of (told_of_note names note)) (from (n + 1) (more ++ lines))) _ (further_told note) _ _
+      (then_is (told_further (further_of (told_of_note names note)) (from (n + 1) (more ++ lines))) _ (further_told note) _ _
       (more_read (n + 1) lines names note is.count is.entries is.report)
       (ap (λ (k : ℕ). Takes (Some (record_told n names note)) (from k lines)) (omega arith)))
 
@@ -277,6 +277,6 @@ notes_read names (note ∷ notes) n are =
     ∙ ap (with_record (record_told n names note)) (notes_read (names_after names note) notes (n + lines_of_note note) are.1)
 
 -- the text of a journal as a history
-pub journal_read : (journal : List Note) → AreTellingRecords [] journal → history_of (render journal) ≡ record { records = records_told 1 [] journal; bad = None }
-unfolding history_of render
+pub journal_read : (journal : List Note) → AreTellingRecords [] journal → history_in (render journal) ≡ record { records = records_told 1 [] journal; bad = None }
+unfolding history_in render
 journal_read journal are = notes_read [] journal 1 are

@@ -16,7 +16,7 @@ use Rattle.fam_history.specs.ReportLines.{bad_entry_line, files_line, log_state_
 use Rattle.fam_records.specs.declared.record.Further.{Further}
 use Rattle.fam_records.specs.declared.record.Further.TheVariants as further
 use Rattle.fam_records.specs.Lines.{ALine, Left, NextLine, NoLine, next_line}
-use Rattle.fam_records.specs.Taken.{Taken, Takes, both_of, one_line, taken_as, then_takes}
+use Rattle.fam_records.specs.Taken.{TakenLines, Takes, both_of, line_taken, taken_as, then_takes}
 
 -- a note: the number of its first line, what that line tells, the entries of its listing, and its report
 pub record Recorded : Type 0 where
@@ -60,31 +60,31 @@ further_of told.Umount = further.Nothing
 further_of (told.Refused why) = further.Nothing
 
 -- so many entries, one a line
-abbrev pub entries_of : ℕ → Left → Taken (List Entry)
-entries_of zero left = Takes [] left
-entries_of (suc n) left =
-    then_takes (one_line listed_entry left) (λ entry rest.
-    then_takes (entries_of n rest) (λ entries behind. Takes (entry ∷ entries) behind))
+abbrev pub listed_entries : ℕ → Left → TakenLines (List Entry)
+listed_entries zero left = Takes [] left
+listed_entries (suc n) left =
+    then_takes (line_taken listed_entry left) (λ entry rest.
+    then_takes (listed_entries n rest) (λ entries behind. Takes (entry ∷ entries) behind))
 
 -- what a report says of the superblock and of the log
-abbrev pub states_of : Left → Taken (SuperState × LogState)
-states_of = both_of (one_line superblock_line) (one_line log_state_line)
+abbrev pub states_of : Left → TakenLines (SuperState × LogState)
+states_of = both_of (line_taken superblock_line) (line_taken log_state_line)
 
 -- its files and directories, and its units that are used and that are free
-abbrev pub counts_of : Left → Taken ((ℕ × ℕ) × (ℕ × ℕ))
-counts_of = both_of (one_line files_line) (one_line units_line)
+abbrev pub counts_of : Left → TakenLines ((ℕ × ℕ) × (ℕ × ℕ))
+counts_of = both_of (line_taken files_line) (line_taken units_line)
 
 -- two entries that overlap, and the first bad one
-abbrev pub damage_of : Left → Taken (Option (ℕ × ℕ) × Option (ℕ × Reason))
-damage_of = both_of (one_line overlap_line) (one_line bad_entry_line)
+abbrev pub told_damage : Left → TakenLines (Option (ℕ × ℕ) × Option (ℕ × Reason))
+told_damage = both_of (line_taken overlap_line) (line_taken bad_entry_line)
 
 -- the seven other lines of a report
-unfoldable pub report_of : Left → Taken Report
-report_of left =
+unfoldable pub told_report : Left → TakenLines Report
+told_report left =
     then_takes (states_of left) (λ states rest.
     then_takes (counts_of rest) (λ counts rest.
-    then_takes (damage_of rest) (λ damage rest.
-    then_takes (one_line past_line rest) (λ past behind.
+    then_takes (told_damage rest) (λ damage rest.
+    then_takes (line_taken past_line rest) (λ past behind.
     Takes (record {
       superblock = states.0;
       log = states.1;
@@ -98,22 +98,22 @@ report_of left =
     }) behind))))
 
 -- the lines that follow: a listing, a report, or none
-abbrev pub further_lines : Further → Left → Taken (List Entry × Option Report)
-further_lines further.Nothing left = Takes ([], None) left
-further_lines (further.Entries n) left = then_takes (entries_of n left) (λ entries behind. Takes (entries, None) behind)
-further_lines further.Report left = then_takes (report_of left) (λ report behind. Takes ([], Some report) behind)
+abbrev pub told_further : Further → Left → TakenLines (List Entry × Option Report)
+told_further further.Nothing left = Takes ([], None) left
+told_further (further.Entries n) left = then_takes (listed_entries n left) (λ entries behind. Takes (entries, None) behind)
+told_further further.Report left = then_takes (told_report left) (λ report behind. Takes ([], Some report) behind)
 
 -- a note, of whose first line this is told
-abbrev pub record_of : ℕ → ToldLine → Left → Taken (Option Recorded)
+abbrev pub record_of : ℕ → ToldLine → Left → TakenLines (Option Recorded)
 record_of number line left =
-    then_takes (further_lines (further_of line.note) left) (λ more behind.
+    then_takes (told_further (further_of line.note) left) (λ more behind.
     Takes (Some (record { line = number; told = line; entries = more.0; report = more.1 })) behind)
 
 -- the note of a line; none where no line is left
-abbrev pub record_by : NextLine → Taken (Option Recorded)
+abbrev pub record_by : NextLine → TakenLines (Option Recorded)
 record_by (NoLine number) = Takes None (record { number = number; lines = [] })
 record_by (ALine line words left) = then_takes (taken_as line left (history_line line.end words)) (record_of line.number)
 
 -- the next note of the lines that are left
-unfoldable pub next_record : Left → Taken (Option Recorded)
+unfoldable pub next_record : Left → TakenLines (Option Recorded)
 next_record left = record_by (next_line left)

@@ -53,13 +53,13 @@ further_told (Umount host) = ([], None)
 further_told (Refused name cause) = ([], None)
 
 -- a report has seven other lines
-abbrev pub report_lines : Option Report → ℕ
-report_lines None = 0
-report_lines (Some report) = 7
+abbrev pub report_line_count : Option Report → ℕ
+report_line_count None = 0
+report_line_count (Some report) = 7
 
 -- how many lines a note has
 abbrev pub lines_of_note : Note → ℕ
-lines_of_note note = 1 + (length (further_told note).0 + report_lines (further_told note).1)
+lines_of_note note = 1 + (length (further_told note).0 + report_line_count (further_told note).1)
 
 -- a note whose first line has this number
 abbrev pub record_told : ℕ → List (List ℕ) → Note → Recorded
@@ -91,15 +91,15 @@ IfTellingReport None = ⊤
 IfTellingReport (Some report) = IsTellingReport report
 
 -- the first line of a listing counts its entries
-abbrev pub IsCounted : Further → List Entry → Type 0
-IsCounted further.Nothing entries = ⊤
-IsCounted (further.Entries n) entries = n ≡ length entries
-IsCounted further.Report entries = ⊤
+abbrev pub CountsListing : Further → List Entry → Type 0
+CountsListing further.Nothing entries = ⊤
+CountsListing (further.Entries n) entries = n ≡ length entries
+CountsListing further.Report entries = ⊤
 
 -- a note, with its listing or report
 pub record IsTellingRecord (names : List (List ℕ)) (note : Note) : Type 0 where
   pub first : IsTellingNote names note
-  pub count : IsCounted (further_of (told_of_note names note)) (further_told note).0
+  pub count : CountsListing (further_of (told_of_note names note)) (further_told note).0
   pub entries : All IsListed (further_told note).0
   pub report : IfTellingReport (further_told note).1
 

@@ -6,10 +6,10 @@ ghost use Rattle.fam_tree.specs.Lines.{line_feed};
 ghost use Rattle.fam_grammar.specs.Cursor.{words_left, IsShort};
 ghost use Rattle.fam_history.specs.ListedEntries.{listed_entry};
 ghost use Rattle.fam_history.specs.ReportLines.{bad_entry_line, files_line, log_state_line, overlap_line, past_line, superblock_line, units_line};
-ghost use Rattle.fam_records.specs.Histories.{BeginsWith, HasRoom, history_left, history_of, lines_left, seen_if};
+ghost use Rattle.fam_records.specs.Histories.{BeginsHistory, HasLineNumbers, history_left, history_in, lines_left, seen_if};
 ghost use Rattle.fam_records.specs.Read.{IsExpectedLine, IsNextLine};
-ghost use Rattle.fam_records.specs.Records.{counts_of, damage_of, entries_of, further_lines, further_of, further_of_answer, next_record, record_of, report_of, states_of};
-ghost use Rattle.fam_records.specs.Taken.{Gives, one_line};
+ghost use Rattle.fam_records.specs.Records.{counts_of, told_damage, listed_entries, told_further, further_of, further_of_answer, next_record, record_of, told_report, states_of};
+ghost use Rattle.fam_records.specs.Taken.{Gives, line_taken};
 
 use crate::record::{Further, Record};
 use fam_base::Entry;
@@ -45,10 +45,10 @@ fn cut(bytes: &[u8]) -> (&[u8], &[u8])
 
 impl<'a> Records<'a> {
     /// All notes of a text.
-    #[tactic(auto, unfolding(crate::specs::Histories::history_of))]
+    #[tactic(auto, unfolding(crate::specs::Histories::history_in))]
     pub fn new(bytes: &'a [u8]) -> Records<'a>
-        ensures left { history_left (lines_left result) ≡ history_of bytes.now }
-        ensures room { HasRoom result }
+        ensures left { history_left (lines_left result) ≡ history_in bytes.now }
+        ensures room { HasLineNumbers result }
     {
         Records {
             number: 1,
@@ -58,10 +58,10 @@ impl<'a> Records<'a> {
 
     /// The next line that is neither blank nor a comment.
     fn next_line(&mut self) -> Option<(Words<'a>, Line)>
-        requires room { HasRoom self.old }
+        requires room { HasLineNumbers self.old }
         ensures value { IsNextLine (lines_left self.old) (lines_left self.new) result }
         ensures short { IfSome result (λ found. IsShort found.0) }
-        ensures room { HasRoom self.new }
+        ensures room { HasLineNumbers self.new }
     {
         while !self.rest.is_empty() {
             let number = self.number;
@@ -79,10 +79,10 @@ impl<'a> Records<'a> {
 
     /// The next line, which has to be there.
     fn expected(&mut self) -> Result<(Words<'a>, Line), LineFault>
-        requires room { HasRoom self.old }
+        requires room { HasLineNumbers self.old }
         ensures value { IsExpectedLine (lines_left self.old) (lines_left self.new) result }
         ensures short { IfOk result (λ found. IsShort found.0) }
-        ensures room { HasRoom self.new }
+        ensures room { HasLineNumbers self.new }
     {
         match self.next_line() {
             Some(found) => Ok(found),
@@ -95,9 +95,9 @@ impl<'a> Records<'a> {
 
     /// An entry.
     fn entry(&mut self) -> Result<Entry, LineFault>
-        requires room { HasRoom self.old }
-        ensures value { Gives (λ x. x) (lines_left self.new) result (one_line listed_entry (lines_left self.old)) }
-        ensures room { HasRoom self.new }
+        requires room { HasLineNumbers self.old }
+        ensures value { Gives (λ x. x) (lines_left self.new) result (line_taken listed_entry (lines_left self.old)) }
+        ensures room { HasLineNumbers self.new }
     {
         match self.expected() {
             Ok((mut words, line)) => told_entry(&mut words, line),
@@ -107,9 +107,9 @@ impl<'a> Records<'a> {
 
     /// What a report says of the superblock.
     fn superblock(&mut self) -> Result<SuperState, LineFault>
-        requires room { HasRoom self.old }
-        ensures value { Gives (λ x. x) (lines_left self.new) result (one_line superblock_line (lines_left self.old)) }
-        ensures room { HasRoom self.new }
+        requires room { HasLineNumbers self.old }
+        ensures value { Gives (λ x. x) (lines_left self.new) result (line_taken superblock_line (lines_left self.old)) }
+        ensures room { HasLineNumbers self.new }
     {
         match self.expected() {
             Ok((mut words, line)) => told_superblock(&mut words, line),
@@ -119,9 +119,9 @@ impl<'a> Records<'a> {
 
     /// What it says of the log.
     fn log(&mut self) -> Result<LogState, LineFault>
-        requires room { HasRoom self.old }
-        ensures value { Gives (λ x. x) (lines_left self.new) result (one_line log_state_line (lines_left self.old)) }
-        ensures room { HasRoom self.new }
+        requires room { HasLineNumbers self.old }
+        ensures value { Gives (λ x. x) (lines_left self.new) result (line_taken log_state_line (lines_left self.old)) }
+        ensures room { HasLineNumbers self.new }
     {
         match self.expected() {
             Ok((mut words, line)) => told_log(&mut words, line),
@@ -131,9 +131,9 @@ impl<'a> Records<'a> {
 
     /// How many files and directories it has.
     fn files(&mut self) -> Result<(u64, u64), LineFault>
-        requires room { HasRoom self.old }
-        ensures value { Gives (λ x. x) (lines_left self.new) result (one_line files_line (lines_left self.old)) }
-        ensures room { HasRoom self.new }
+        requires room { HasLineNumbers self.old }
+        ensures value { Gives (λ x. x) (lines_left self.new) result (line_taken files_line (lines_left self.old)) }
+        ensures room { HasLineNumbers self.new }
     {
         match self.expected() {
             Ok((mut words, line)) => told_files(&mut words, line),
@@ -143,9 +143,9 @@ impl<'a> Records<'a> {
 
     /// How many units it has that are used, and that are free.
     fn units(&mut self) -> Result<(u64, u64), LineFault>
-        requires room { HasRoom self.old }
-        ensures value { Gives (λ x. x) (lines_left self.new) result (one_line units_line (lines_left self.old)) }
-        ensures room { HasRoom self.new }
+        requires room { HasLineNumbers self.old }
+        ensures value { Gives (λ x. x) (lines_left self.new) result (line_taken units_line (lines_left self.old)) }
+        ensures room { HasLineNumbers self.new }
     {
         match self.expected() {
             Ok((mut words, line)) => told_units(&mut words, line),
@@ -155,9 +155,9 @@ impl<'a> Records<'a> {
 
     /// The numbers of two entries that overlap, if any do.
     fn overlap(&mut self) -> Result<Option<(u64, u64)>, LineFault>
-        requires room { HasRoom self.old }
-        ensures value { Gives (λ x. x) (lines_left self.new) result (one_line overlap_line (lines_left self.old)) }
-        ensures room { HasRoom self.new }
+        requires room { HasLineNumbers self.old }
+        ensures value { Gives (λ x. x) (lines_left self.new) result (line_taken overlap_line (lines_left self.old)) }
+        ensures room { HasLineNumbers self.new }
     {
         match self.expected() {
             Ok((mut words, line)) => told_overlap(&mut words, line),
@@ -167,9 +167,9 @@ impl<'a> Records<'a> {
 
     /// The number of the first bad entry, and why it is bad, if one is.
     fn bad_entry(&mut self) -> Result<Option<(u64, Reason)>, LineFault>
-        requires room { HasRoom self.old }
-        ensures value { Gives (λ x. x) (lines_left self.new) result (one_line bad_entry_line (lines_left self.old)) }
-        ensures room { HasRoom self.new }
+        requires room { HasLineNumbers self.old }
+        ensures value { Gives (λ x. x) (lines_left self.new) result (line_taken bad_entry_line (lines_left self.old)) }
+        ensures room { HasLineNumbers self.new }
     {
         match self.expected() {
             Ok((mut words, line)) => told_bad_entry(&mut words, line),
@@ -179,9 +179,9 @@ impl<'a> Records<'a> {
 
     /// How many slots past the gate hold entries.
     fn past(&mut self) -> Result<u64, LineFault>
-        requires room { HasRoom self.old }
-        ensures value { Gives (λ x. x) (lines_left self.new) result (one_line past_line (lines_left self.old)) }
-        ensures room { HasRoom self.new }
+        requires room { HasLineNumbers self.old }
+        ensures value { Gives (λ x. x) (lines_left self.new) result (line_taken past_line (lines_left self.old)) }
+        ensures room { HasLineNumbers self.new }
     {
         match self.expected() {
             Ok((mut words, line)) => told_past(&mut words, line),
@@ -191,9 +191,9 @@ impl<'a> Records<'a> {
 
     /// What a report says of the superblock and of the log.
     fn states(&mut self) -> Result<(SuperState, LogState), LineFault>
-        requires room { HasRoom self.old }
+        requires room { HasLineNumbers self.old }
         ensures value { Gives (λ x. x) (lines_left self.new) result (states_of (lines_left self.old)) }
-        ensures room { HasRoom self.new }
+        ensures room { HasLineNumbers self.new }
     {
         let superblock = self.superblock()?;
         let log = self.log()?;
@@ -202,9 +202,9 @@ impl<'a> Records<'a> {
 
     /// Its files and directories, and its units that are used and that are free.
     fn counts(&mut self) -> Result<((u64, u64), (u64, u64)), LineFault>
-        requires room { HasRoom self.old }
+        requires room { HasLineNumbers self.old }
         ensures value { Gives (λ x. x) (lines_left self.new) result (counts_of (lines_left self.old)) }
-        ensures room { HasRoom self.new }
+        ensures room { HasLineNumbers self.new }
     {
         let files = self.files()?;
         let units = self.units()?;
@@ -213,9 +213,9 @@ impl<'a> Records<'a> {
 
     /// Two entries that overlap, and the first bad one.
     fn damage(&mut self) -> Result<(Option<(u64, u64)>, Option<(u64, Reason)>), LineFault>
-        requires room { HasRoom self.old }
-        ensures value { Gives (λ x. x) (lines_left self.new) result (damage_of (lines_left self.old)) }
-        ensures room { HasRoom self.new }
+        requires room { HasLineNumbers self.old }
+        ensures value { Gives (λ x. x) (lines_left self.new) result (told_damage (lines_left self.old)) }
+        ensures room { HasLineNumbers self.new }
     {
         let overlap = self.overlap()?;
         let bad = self.bad_entry()?;
@@ -223,11 +223,11 @@ impl<'a> Records<'a> {
     }
 
     /// The seven other lines of a report.
-    #[tactic(auto, unfolding(crate::specs::Records::report_of))]
+    #[tactic(auto, unfolding(crate::specs::Records::told_report))]
     fn report(&mut self) -> Result<Report, LineFault>
-        requires room { HasRoom self.old }
-        ensures value { Gives (λ x. x) (lines_left self.new) result (report_of (lines_left self.old)) }
-        ensures room { HasRoom self.new }
+        requires room { HasLineNumbers self.old }
+        ensures value { Gives (λ x. x) (lines_left self.new) result (told_report (lines_left self.old)) }
+        ensures room { HasLineNumbers self.new }
     {
         let (superblock, log) = self.states()?;
         let ((files, directories), (used, free)) = self.counts()?;
@@ -248,9 +248,9 @@ impl<'a> Records<'a> {
 
     /// So many entries, one a line. None is taken ahead: a count may be larger than the text.
     fn entries(&mut self, alloc: Global, count: u64) -> Result<Vec<Entry>, LineFault>
-        requires room { HasRoom self.old }
-        ensures value { Gives (λ entries. entries.items) (lines_left self.new) result (entries_of count (lines_left self.old)) }
-        ensures room { HasRoom self.new }
+        requires room { HasLineNumbers self.old }
+        ensures value { Gives (λ entries. entries.items) (lines_left self.new) result (listed_entries count (lines_left self.old)) }
+        ensures room { HasLineNumbers self.new }
     {
         let mut entries = Vec::new(alloc);
         let mut left = count;
@@ -270,9 +270,9 @@ impl<'a> Records<'a> {
         alloc: Global,
         further: Further,
     ) -> Result<(Vec<Entry>, Option<Report>), LineFault>
-        requires room { HasRoom self.old }
-        ensures value { Gives (λ p. (p.0.items, p.1)) (lines_left self.new) result (further_lines further (lines_left self.old)) }
-        ensures room { HasRoom self.new }
+        requires room { HasLineNumbers self.old }
+        ensures value { Gives (λ p. (p.0.items, p.1)) (lines_left self.new) result (told_further further (lines_left self.old)) }
+        ensures room { HasLineNumbers self.new }
     {
         match further {
             Further::Nothing => Ok((Vec::new(alloc), None)),
@@ -294,9 +294,9 @@ impl<'a> Records<'a> {
         number: u64,
         told: ToldLine,
     ) -> Result<Option<Record>, LineFault>
-        requires room { HasRoom self.old }
+        requires room { HasLineNumbers self.old }
         ensures value { Gives seen_if (lines_left self.new) result (record_of number told (lines_left self.old)) }
-        ensures room { HasRoom self.new }
+        ensures room { HasLineNumbers self.new }
     {
         match self.further(alloc, further_of(&told.note)) {
             Ok((entries, report)) => Ok(Some(Record {
@@ -312,9 +312,9 @@ impl<'a> Records<'a> {
     /// The next note, from its lines.
     #[tactic(auto, unfolding(crate::specs::Records::next_record))]
     fn read(&mut self, alloc: Global) -> Result<Option<Record>, LineFault>
-        requires room { HasRoom self.old }
+        requires room { HasLineNumbers self.old }
         ensures value { Gives seen_if (lines_left self.new) result (next_record (lines_left self.old)) }
-        ensures room { HasRoom self.new }
+        ensures room { HasLineNumbers self.new }
     {
         let Some((mut words, line)) = self.next_line() else {
             return Ok(None);
@@ -328,9 +328,9 @@ impl<'a> Records<'a> {
     /// The next note: of a listing with its entries, and of a report with all of it; `None` where no note is left. `BadLine` names the
     /// first bad line, counted from 1, and its column; where the text ends in a listing or a report, the line behind its last one.
     pub fn next_record(&mut self, alloc: Global) -> Result<Option<Record>, LineFault>
-        requires room { HasRoom self.old }
-        ensures value { BeginsWith (history_left (lines_left self.old)) (history_left (lines_left self.new)) result }
-        ensures room { HasRoom self.new }
+        requires room { HasLineNumbers self.old }
+        ensures value { BeginsHistory (history_left (lines_left self.old)) (history_left (lines_left self.new)) result }
+        ensures room { HasLineNumbers self.new }
     {
         self.read(alloc)
     }

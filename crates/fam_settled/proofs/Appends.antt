@@ -13,7 +13,7 @@ use Rattle.fam_rules.specs.Decide.{Wish, decide, decide_wish, wish_of}
 use Rattle.fam_rules.specs.DecideLaws.{IsTooLong}
 use Rattle.fam_rules.proofs.RefusalProofs.{refused_for, refused_there}
 use Rattle.fam_settled.specs.declared.bytes.Filed.{Filed}
-use Rattle.fam_settled.specs.Settled.{Settled, all_of, filed, history_of, state_of}
+use Rattle.fam_settled.specs.Settled.{SettledLog, settled_and_pending, filed, settled_files, settled_log_state}
 use Rattle.fam_settled.proofs.Choices.{both}
 use Rattle.fam_settled.proofs.Files.{all_some, length-files_of}
 
@@ -34,14 +34,15 @@ one_more : (n settled : ℕ) (o : Option Filed) (f : Filed) → o ≡ Some f →
 one_more n settled None f is other = absurd (let e = is in cc)
 one_more n settled (Some g) f is other = (λ more. inr more, λ found. grind (arith, found, other))
 
-pub found_more : (s : Settled) (f : Filed) (n all : ℕ) → s.pending ≡ Some f → n ≢ length s.entries → all ≡ length (all_of s)
-    → IsTrue (nat_eq n all) ↔ FoundPending n (length (history_of s)) (filed s.pending)
+pub found_more : (s : SettledLog) (f : Filed) (n all : ℕ) → s.pending ≡ Some f → n ≢ length s.entries → all ≡ length (settled_and_pending s)
+    → IsTrue (nat_eq n all) ↔ FoundPending n (length (settled_files s)) (filed s.pending)
 found_more s f n all is other count =
     let many = length-files_of s.entries s.bytes in
-    let last : all ≡ length (history_of s) + 1 = omega (arith, count, all_some s f is, many) in
-    let t = one_more n (length (history_of s)) s.pending f is (λ same. other (same ∙ many)) in
-    (λ h. let same : n ≡ all = grind (arith, nat_tests, h) in t.0 (same ∙ last),
-      λ found. let same : n ≡ all = t.1 found ∙ sym last in grind (arith, nat_tests, same))
+    let last : all ≡ length (settled_files s) + 1 = omega (arith, count, all_some s f is, many) in
+    let t = one_more n (length (settled_files s)) s.pending f is (λ same. other (same ∙ many)) in (
+      λ h. let same : n ≡ all = grind (arith, nat_tests, h) in t.0 (same ∙ last),
+      λ found. let same : n ≡ all = t.1 found ∙ sym last in grind (arith, nat_tests, same),
+    )
 
 -- Decisions.
 
@@ -50,23 +51,24 @@ cmd_or : Cmd → Option Cmd → Cmd
 cmd_or c None = c
 cmd_or c (Some d) = d
 
-module _ (s : Settled) (host : HostPast) (me : List ℕ) (c : Cmd) (uuid : host.uuid ≡ me) (told : host.cmd ≡ Some c) where
+module _ (s : SettledLog) (host : HostPast) (me : List ℕ) (c : Cmd) (uuid : host.uuid ≡ me) (told : host.cmd ≡ Some c) where
   -- what is decided where nothing pends
   pub decided_told : (decision : Result Entry Refused) → s.pending ≡ None
-      → (decide s.params me (entries_of (history_of s)) c ≡ Some decision) ↔ IsDecided s.params host (history_of s) (filed s.pending) decision
+      → (decide s.params me (entries_of (settled_files s)) c ≡ Some decision) ↔ IsDecided s.params host (settled_files s) (filed s.pending) decision
   unfolding cmd_or
   decided_told decision none =
-      let list = entries_of (history_of s) in
-      (λ is. record { cmd = c; told = told; none = ap filed none; is = ap (λ (u : List ℕ). decide s.params u list c) uuid ∙ is },
+      let list = entries_of (settled_files s) in (
+        λ is. record { cmd = c; told = told; none = ap filed none; is = ap (λ (u : List ℕ). decide s.params u list c) uuid ∙ is },
         λ d.
-          let same : d.cmd ≡ c = ap (cmd_or c) (sym d.told ∙ told) in
-          sym (ap (λ (u : List ℕ). decide s.params u list c) uuid) ∙ sym (ap (decide s.params host.uuid list) same) ∙ d.is)
+            let same : d.cmd ≡ c = ap (cmd_or c) (sym d.told ∙ told) in
+            sym (ap (λ (u : List ℕ). decide s.params u list c) uuid) ∙ sym (ap (decide s.params host.uuid list) same) ∙ d.is,
+      )
 
   -- a path that is too long
-  long_so : (limit : ℕ) (o : Option Wish) → wish_of c ≡ o → option_map (decide_wish s.params me (entries_of (history_of s))) o ≡ Some (Err (LongPath limit)) → IsLong limit host (state_of s)
+  long_so : (limit : ℕ) (o : Option Wish) → wish_of c ≡ o → option_map (decide_wish s.params me (entries_of (settled_files s))) o ≡ Some (Err (LongPath limit)) → IsLong limit host (settled_log_state s)
   long_so limit None at is = absurd (let e = is in cc)
   long_so limit (Some w) at is =
-      let refused : decide_wish s.params me (entries_of (history_of s)) w ≡ Err (LongPath limit) = cc in
+      let refused : decide_wish s.params me (entries_of (settled_files s)) w ≡ Err (LongPath limit) = cc in
       record {
         params = s.params;
         super = refl;
@@ -75,24 +77,26 @@ module _ (s : Settled) (host : HostPast) (me : List ℕ) (c : Cmd) (uuid : host.
           told = told;
           wish = w;
           wished = at;
-          is = subst (λ (u : List ℕ). IsTooLong s.params u w limit) (sym uuid) (refused_for s.params me (entries_of (history_of s)) w (LongPath limit) refused);
+          is = subst (λ (u : List ℕ). IsTooLong s.params u w limit) (sym uuid) (refused_for s.params me (entries_of (settled_files s)) w (LongPath limit) refused);
         };
       }
 
-  pub long_told : (limit : ℕ) → (decide s.params me (entries_of (history_of s)) c ≡ Some (Err (LongPath limit))) ↔ IsLong limit host (state_of s)
+  pub long_told : (limit : ℕ) → (decide s.params me (entries_of (settled_files s)) c ≡ Some (Err (LongPath limit))) ↔ IsLong limit host (settled_log_state s)
   unfolding cmd_or
-  long_told limit =
-      (λ is. long_so limit (wish_of c) refl is, λ long.
+  long_told limit = (
+    λ is. long_so limit (wish_of c) refl is,
+    λ long.
         let n = long.names in
         let same : n.cmd ≡ c = ap (cmd_or c) (sym n.told ∙ told) in
         let own : IsTooLong s.params me n.wish limit = subst (λ (p : Params). IsTooLong p me n.wish limit) long.super (subst (λ (u : List ℕ). IsTooLong long.params u n.wish limit) uuid n.is) in
-        ap (option_map (decide_wish s.params me (entries_of (history_of s)))) (sym (ap wish_of same) ∙ n.wished)
-        ∙ ap (λ (r : Result Entry Refused). Some r) (refused_there s.params me (entries_of (history_of s)) n.wish (LongPath limit) own))
+        ap (option_map (decide_wish s.params me (entries_of (settled_files s)))) (sym (ap wish_of same) ∙ n.wished)
+        ∙ ap (λ (r : Result Entry Refused). Some r) (refused_there s.params me (entries_of (settled_files s)) n.wish (LongPath limit) own),
+  )
 
   -- a refusal of this kind
-  pub cause_long : (limit : ℕ) (why : Refused) (b : Bool) → why ≡ LongPath limit → (IsTrue b ↔ (decide s.params me (entries_of (history_of s)) c ≡ Some (Err why)))
-      → IsTrue b ↔ CauseAllowed why host (state_of s)
+  pub cause_long : (limit : ℕ) (why : Refused) (b : Bool) → why ≡ LongPath limit → (IsTrue b ↔ (decide s.params me (entries_of (settled_files s)) c ≡ Some (Err why)))
+      → IsTrue b ↔ CauseAllowed why host (settled_log_state s)
   cause_long limit why b is test =
-      let P : Refused → Type 0 = λ w. IsTrue b ↔ CauseAllowed w host (state_of s) in
-      let Q : Refused → Type 0 = λ w. IsTrue b ↔ (decide s.params me (entries_of (history_of s)) c ≡ Some (Err w)) in
+      let P : Refused → Type 0 = λ w. IsTrue b ↔ CauseAllowed w host (settled_log_state s) in
+      let Q : Refused → Type 0 = λ w. IsTrue b ↔ (decide s.params me (entries_of (settled_files s)) c ≡ Some (Err w)) in
       subst P (sym is) (both b (subst Q is test) (long_told limit))

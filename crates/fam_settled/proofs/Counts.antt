@@ -60,11 +60,12 @@ both_kinds (e ∷ list) =
 pub kinds_told : (list : List Entry) (report : Report) (wanted : ℕ) → report.files ≡ files_among list → wanted ≡ length list - files_among list
     → IsTrue (nat_eq report.directories wanted) ↔ HasKinds list report
 kinds_told list report wanted files is =
-    let many = both_kinds list in
-    (λ h.
-      let same : report.directories ≡ wanted = grind (arith, nat_tests, h) in
-      record { files = files; directories = (let d : report.directories ≡ directories_among list = omega (arith, same, is, many) in d) },
-      λ k. let same : report.directories ≡ wanted = omega (arith, k.directories, is, many) in grind (arith, nat_tests, same))
+    let many = both_kinds list in (
+      λ h.
+          let same : report.directories ≡ wanted = grind (arith, nat_tests, h) in
+          record { files = files; directories = (let d : report.directories ≡ directories_among list = omega (arith, same, is, many) in d) },
+      λ k. let same : report.directories ≡ wanted = omega (arith, k.directories, is, many) in grind (arith, nat_tests, same),
+    )
 
 -- Reports of the first entries.
 
@@ -75,15 +76,17 @@ module _ (p : Params) (all : List Files) (m floor : ℕ) (report : Report) (plan
   read_count k few = length-map (take k all) (λ f. f.entry) ∙ length-take-le k all few
 
   sound_told : (host : HostPast) → host.floor ≡ Some floor → IsSoundReport plan.params plan.entries report ↔ IsReportOf p host all report
-  sound_told host marked =
-      (λ is. record {
-        m = m;
-        bounds = record { floor = floor; marked = marked; low = low; high = high };
-        is = subst (λ (q : Params). IsSoundReport q (entries_of (take m all)) report) params (subst (λ (l : List Entry). IsSoundReport plan.params l report) entries is);
-      }, λ r.
+  sound_told host marked = (
+    λ is. record {
+      m = m;
+      bounds = record { floor = floor; marked = marked; low = low; high = high };
+      is = subst (λ (q : Params). IsSoundReport q (entries_of (take m all)) report) params (subst (λ (l : List Entry). IsSoundReport plan.params l report) entries is);
+    },
+    λ r.
         let same : r.m ≡ m = sym (read_count r.m r.bounds.high) ∙ counted (length (entries_of (take r.m all))) p.slots r.is.log in
         subst (λ (l : List Entry). IsSoundReport plan.params l report) (ap (λ (k : ℕ). entries_of (take k all)) same ∙ sym entries)
-        (subst (λ (q : Params). IsSoundReport q (entries_of (take r.m all)) report) (sym params) r.is))
+        (subst (λ (q : Params). IsSoundReport q (entries_of (take r.m all)) report) (sym params) r.is),
+  )
 
   pub report_told : (r : Result Bool OutOfMemory) → IfOk r (λ b. IsTrue b ↔ IsSoundReport plan.params plan.entries report)
       → IfOk r (λ b. (host : HostPast) → host.floor ≡ Some floor → IsTrue b ↔ IsReportOf p host all report)

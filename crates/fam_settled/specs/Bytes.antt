@@ -10,24 +10,24 @@ use Rattle.fam_settled.specs.declared.bytes.Bytes.{Bytes}
 use Rattle.fam_settled.specs.declared.bytes.Bytes.TheVariants.{Zero, Seed, Untold}
 
 -- byte i, whatever the size
-abbrev pub byte_at : Bytes → ℕ → ℕ
-byte_at Zero i = content_byte content.Zero i
-byte_at (Seed seed) i = content_byte (content.Seed seed) i
-byte_at Untold i = untold
+abbrev pub byte_told : Bytes → ℕ → ℕ
+byte_told Zero i = content_byte content.Zero i
+byte_told (Seed seed) i = content_byte (content.Seed seed) i
+byte_told Untold i = untold
 
 -- all bytes of a file of this size
-abbrev pub bytes_of : Bytes → ℕ → List ℕ
-bytes_of Zero size = fill content.Zero size
-bytes_of (Seed seed) size = fill (content.Seed seed) size
-bytes_of Untold size = replicate size untold
+abbrev pub file_bytes_told : Bytes → ℕ → List ℕ
+file_bytes_told Zero size = fill content.Zero size
+file_bytes_told (Seed seed) size = fill (content.Seed seed) size
+file_bytes_told Untold size = replicate size untold
 
 -- an entry with these bytes
-abbrev pub file_of : Entry → Bytes → File
-file_of e bytes = record { entry = e; bytes = bytes_of bytes e.size }
+abbrev pub file_with : Entry → Bytes → File
+file_with e bytes = record { entry = e; bytes = file_bytes_told bytes e.size }
 
 -- at offset i bytes of the two may be the same
 abbrev pub MayAgreeAt : Bytes → Bytes → ℕ → Type 0
-MayAgreeAt a b i = (byte_at a i ≡ byte_at b i) ⊎ (byte_at a i ≡ untold) ⊎ (byte_at b i ≡ untold)
+MayAgreeAt a b i = (byte_told a i ≡ byte_told b i) ⊎ (byte_told a i ≡ untold) ⊎ (byte_told b i ≡ untold)
 
 -- so it is below this offset
 abbrev pub MayAgreeTo : Bytes → Bytes → ℕ → Type 0
@@ -36,10 +36,10 @@ MayAgreeTo a b end = (i : ℕ) → i < end → MayAgreeAt a b i
 -- these may be bytes from an offset on
 abbrev pub MayHave : Bytes → ℕ → List ℕ → Type 0
 MayHave b offset given =
-    (i : ℕ) → i < length given → (byte_at b (offset + i) ≡ slice_index given i) ⊎ (byte_at b (offset + i) ≡ untold)
+    (i : ℕ) → i < length given → (byte_told b (offset + i) ≡ slice_index given i) ⊎ (byte_told b (offset + i) ≡ untold)
 
 -- the content that they are, where they are told
-abbrev pub fill_of : Bytes → Option Content
-fill_of Zero = Some content.Zero
-fill_of (Seed seed) = Some (content.Seed seed)
-fill_of Untold = None
+abbrev pub content_told : Bytes → Option Content
+content_told Zero = Some content.Zero
+content_told (Seed seed) = Some (content.Seed seed)
+content_told Untold = None

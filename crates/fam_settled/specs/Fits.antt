@@ -12,13 +12,13 @@ use Rattle.fam_format.specs.Tree.{replay}
 use Rattle.fam_history.specs.declared.answer.ToldAnswer.{ToldAnswer}
 use Rattle.fam_history.specs.declared.answer.ToldAnswer.TheVariants as told
 use Rattle.fam_rules.specs.Asks.{File, entries_of, file_at, file_bytes_from}
-use Rattle.fam_judge.specs.Fitting.{FitBytes, FitsWanted, IsLong, MayBeSame, MayDiffer, given_count}
+use Rattle.fam_judge.specs.Fitting.{FitBytes, FitsWanted, AllowsSize, MayBeSame, MayDiffer, given_count}
 use Rattle.fam_judge.specs.Untold.{untold}
 use Rattle.fam_settled.specs.declared.bytes.Bytes.{Bytes}
 use Rattle.fam_settled.specs.declared.bytes.Bytes.TheVariants as bytes
 use Rattle.fam_settled.specs.declared.against.Against.{Against}
 use Rattle.fam_settled.specs.declared.against.Against.TheVariants as against
-use Rattle.fam_settled.specs.Bytes.{MayAgreeTo, byte_at}
+use Rattle.fam_settled.specs.Bytes.{MayAgreeTo, byte_told}
 
 -- the content that a file is compared with
 abbrev pub content_in : Against → Content
@@ -27,10 +27,10 @@ content_in (against.Seed seed) = content.Seed seed
 content_in (against.Untold count) = content.Bytes (replicate count untold)
 
 -- where its bytes are from
-abbrev pub source_of : Against → Bytes
-source_of against.Zero = bytes.Zero
-source_of (against.Seed seed) = bytes.Seed seed
-source_of (against.Untold count) = bytes.Untold
+abbrev pub bytes_against : Against → Bytes
+bytes_against against.Zero = bytes.Zero
+bytes_against (against.Seed seed) = bytes.Seed seed
+bytes_against (against.Untold count) = bytes.Untold
 
 -- how many there are, where that is told
 abbrev pub count_in : Against → Option ℕ
@@ -45,24 +45,24 @@ pub record IsPlayed (m : ℕ) (files : List File) (answer : ToldAnswer) (listed 
 
 -- a file's bytes may be those of a content, of as many where these are given
 pub record IsSame (bytes : List ℕ) (against : Content) : Type 0 where
-  pub long : IsLong (given_count against) (length bytes)
+  pub long : AllowsSize (given_count against) (length bytes)
   pub same : MayBeSame bytes against
 
 -- or first differ so
-pub record IsOther (bytes : List ℕ) (against : Content) (offset found wanted : ℕ) : Type 0 where
-  pub long : IsLong (given_count against) (length bytes)
+pub record FirstDiffers (bytes : List ℕ) (against : Content) (offset found wanted : ℕ) : Type 0 where
+  pub long : AllowsSize (given_count against) (length bytes)
   pub differ : MayDiffer bytes against offset found wanted
 
 -- bytes of the two may first differ so
 pub record MayDifferAt (a b : Bytes) (offset found wanted : ℕ) : Type 0 where
   pub before : MayAgreeTo a b offset
-  pub found_fits : FitsWanted (byte_at a offset) found
-  pub wanted_fits : FitsWanted (byte_at b offset) wanted
+  pub found_fits : FitsWanted (byte_told a offset) found
+  pub wanted_fits : FitsWanted (byte_told b offset) wanted
 
 -- what is told of a verify of the first m entries, by a file's bytes
 abbrev pub VerifiedTold : ℕ → List ℕ → Content → ToldAnswer → Type 0
 VerifiedTold m bytes against (told.Same n) = (n ≡ m) × IsSame bytes against
-VerifiedTold m bytes against (told.Differs n offset found wanted) = (n ≡ m) × IsOther bytes against offset found wanted
+VerifiedTold m bytes against (told.Differs n offset found wanted) = (n ≡ m) × FirstDiffers bytes against offset found wanted
 VerifiedTold m bytes against (told.Length n size wanted) =
     (n ≡ m) × (size ≡ length bytes) × (given_count against ≡ Some wanted) × (wanted ≢ size)
 VerifiedTold m bytes against (told.Ok seq) = ⊥

@@ -8,11 +8,11 @@ use Rattle.fam_plan.specs.State.{PlanState, IsHistory, MayBeAdded}
 use Rattle.fam_settled.specs.declared.bytes.Bytes.{Bytes}
 use Rattle.fam_settled.specs.declared.bytes.Bytes.TheVariants.{Zero}
 use Rattle.fam_settled.specs.declared.bytes.Filed.{Filed}
-use Rattle.fam_settled.specs.Bytes.{file_of}
+use Rattle.fam_settled.specs.Bytes.{file_with}
 
 -- parameters, the entries that are settled, where the bytes of each are from, and one more entry of which nothing has said yet
 -- whether it is
-pub record Settled : Type 0 where
+pub record SettledLog : Type 0 where
   pub params : Params
   pub entries : List Entry
   pub bytes : List Bytes
@@ -21,28 +21,28 @@ pub record Settled : Type 0 where
 -- entries with their bytes, zeros where it isn't said whence
 abbrev pub files_of : List Entry → List Bytes → List File
 files_of [] bytes = []
-files_of (e ∷ entries) [] = file_of e Zero ∷ files_of entries []
-files_of (e ∷ entries) (b ∷ bytes) = file_of e b ∷ files_of entries bytes
+files_of (e ∷ entries) [] = file_with e Zero ∷ files_of entries []
+files_of (e ∷ entries) (b ∷ bytes) = file_with e b ∷ files_of entries bytes
 
 -- one entry with its bytes, where there is one
 abbrev pub filed : Option Filed → Option File
 filed None = None
-filed (Some f) = Some (file_of f.entry f.bytes)
+filed (Some f) = Some (file_with f.entry f.bytes)
 
 -- the history
-abbrev pub history_of : Settled → List File
-history_of s = files_of s.entries s.bytes
+abbrev pub settled_files : SettledLog → List File
+settled_files s = files_of s.entries s.bytes
 
 -- the history, and the pending entry behind it
-abbrev pub all_of : Settled → List File
-all_of s = with_pending (history_of s) (filed s.pending)
+abbrev pub settled_and_pending : SettledLog → List File
+settled_and_pending s = with_pending (settled_files s) (filed s.pending)
 
 -- the state of a journal
-abbrev pub state_of : Settled → State
-state_of s = Sound s.params (history_of s) (filed s.pending)
+abbrev pub settled_log_state : SettledLog → State
+settled_log_state s = Sound s.params (settled_files s) (filed s.pending)
 
 -- the entries alone, as a plan has them
-abbrev pub plan_of : Settled → PlanState
+abbrev pub plan_of : SettledLog → PlanState
 plan_of s = record { params = s.params; entries = s.entries }
 
 -- the pending entry may be added
@@ -51,7 +51,7 @@ MayPend s None = ⊤
 MayPend s (Some f) = MayBeAdded s f.entry
 
 -- each entry joins those before it, and has its bytes; and the pending one may be added
-pub record IsSettled (s : Settled) : Type 0 where
+pub record IsSettledLog (s : SettledLog) : Type 0 where
   pub history : IsHistory (plan_of s)
   pub counted : length s.bytes ≡ length s.entries
   pub pending : MayPend (plan_of s) s.pending

@@ -16,11 +16,11 @@ use Rattle.fam_judge.specs.Fitting.{AskFits}
 use Rattle.fam_judge.specs.Untold.{untold, untold_cmd, untold_entry}
 
 -- the command, without what isn't told
-abbrev pub cmd_of : ToldCommand → Cmd
-cmd_of (told.Plain cmd) = untold_cmd cmd
-cmd_of (told.Cp path size attr stripe) = Cp path attr stripe (replicate size untold)
-cmd_of (told.VerifySource path count) = Verify path (content.Bytes (replicate count untold))
-cmd_of (told.Check count) = Check (replicate count untold_entry)
+abbrev pub bare_cmd : ToldCommand → Cmd
+bare_cmd (told.Plain cmd) = untold_cmd cmd
+bare_cmd (told.Cp path size attr stripe) = Cp path attr stripe (replicate size untold)
+bare_cmd (told.VerifySource path count) = Verify path (content.Bytes (replicate count untold))
+bare_cmd (told.Check count) = Check (replicate count untold_entry)
 
 -- the entries in the lines behind the first one of an answer
 abbrev pub listed_of : Reply → List Entry

@@ -3,7 +3,7 @@
 ghost use Rattle.std.specs.Prelude.{◌≡◌, ◌↔◌, ◌+◌, IsTrue, Some, length, option_map, slice_get};
 ghost use Rattle.fam_journal.specs.Legal.{AppendedAllowed};
 ghost use Rattle.fam_journal.specs.Past.{HostPast, acknowledges};
-ghost use Rattle.fam_settled.specs.Settled.{state_of};
+ghost use Rattle.fam_settled.specs.Settled.{settled_log_state};
 
 use crate::log::Log;
 use fam_base::Entry;
@@ -39,7 +39,7 @@ impl Log {
     /// Whether entry `seq` may be acknowledged to a host that named this entry, with this number.
     pub fn acknowledged_fits(&self, seq: u64, named: u64, entry: &Entry) -> bool
         ensures { (host : HostPast) → host.wrote ≡ Some (record { seq = named; entry = entry.now })
-            → IsTrue result ↔ AppendedAllowed seq host (acknowledges seq (state_of self.now)) }
+            → IsTrue result ↔ AppendedAllowed seq host (acknowledges seq (settled_log_state self.now)) }
     {
         if named != seq {
             return false;

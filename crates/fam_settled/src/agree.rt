@@ -1,7 +1,7 @@
 //! Bytes beside others, where those that aren't told may be any. Fills that are one fill are the same at once.
 
 ghost use Rattle.std.specs.Prelude.{◌≡◌, ◌↔◌, ◌+◌, ◌≤◌, IsTrue, length};
-ghost use Rattle.fam_settled.specs.Bytes.{MayAgreeTo, MayHave, fill_of};
+ghost use Rattle.fam_settled.specs.Bytes.{MayAgreeTo, MayHave, content_told};
 ghost use Rattle.fam_settled.specs.declared.bytes.Bytes.TheVariants as bytes;
 
 use crate::bytes::Bytes;
@@ -10,7 +10,7 @@ use fam_base::Content;
 
 /// The content that bytes are, where they are told.
 fn fill_of(bytes: Bytes) -> Option<Content>
-    ensures { result ≡ fill_of bytes }
+    ensures { result ≡ content_told bytes }
 {
     match bytes {
         Bytes::Zero => Some(Content::Zero),

@@ -2,8 +2,8 @@
 
 ghost use Rattle.std.specs.Prelude.{◌≡◌, ◌≤◌, ◌<◌, IfOk, Some, length, slice_get, take};
 ghost use Rattle.fam_rules.specs.Asks.{entries_of, file_at};
-ghost use Rattle.fam_settled.specs.Bytes.{file_of};
-ghost use Rattle.fam_settled.specs.Settled.{all_of, filed, history_of};
+ghost use Rattle.fam_settled.specs.Bytes.{file_with};
+ghost use Rattle.fam_settled.specs.Settled.{settled_and_pending, filed, settled_files};
 
 use crate::bytes::Filed;
 use crate::log::Log;
@@ -14,7 +14,7 @@ use std::alloc::Global;
 impl Log {
     /// How many entries there are, with the one that pends.
     pub fn all(&self) -> u64
-        ensures { result ≡ length (all_of self.now) }
+        ensures { result ≡ length (settled_and_pending self.now) }
     {
         self.is_settled();
         let slots = self.params().slots;
@@ -28,7 +28,7 @@ impl Log {
     /// Entry `i` of those that are settled.
     fn settled_at(&self, i: u64) -> Filed
         requires { i < length self.now.entries }
-        ensures { slice_get (history_of self.now) i ≡ Some (file_of result.entry result.bytes) }
+        ensures { slice_get (settled_files self.now) i ≡ Some (file_with result.entry result.bytes) }
     {
         let bytes = self.bytes.as_slice()[i as usize];
         match self.plan.at(i) {
@@ -39,8 +39,8 @@ impl Log {
 
     /// Entry `i`, from 0: one that is settled, or the one that pends.
     fn entry_at(&self, i: u64) -> Filed
-        requires { i < length (all_of self.now) }
-        ensures { slice_get (all_of self.now) i ≡ Some (file_of result.entry result.bytes) }
+        requires { i < length (settled_and_pending self.now) }
+        ensures { slice_get (settled_and_pending self.now) i ≡ Some (file_with result.entry result.bytes) }
     {
         if i < self.count() {
             return self.settled_at(i);
@@ -53,8 +53,8 @@ impl Log {
 
     /// What stands at a path, by the first `m` entries.
     pub(crate) fn file_among(&self, m: u64, path: &Path) -> Option<Filed>
-        requires { m ≤ length (all_of self.now) }
-        ensures { filed result ≡ file_at (take m (all_of self.now)) path.now }
+        requires { m ≤ length (settled_and_pending self.now) }
+        ensures { filed result ≡ file_at (take m (settled_and_pending self.now)) path.now }
     {
         for i in 0..m {
             let found = self.entry_at(i);
@@ -68,7 +68,7 @@ impl Log {
     /// A plan of all entries, with the one that pends.
     fn with_pending(&self, alloc: Global) -> Result<Plan, OutOfMemory>
         ensures params { IfOk result (λ plan. plan.params ≡ self.now.params) }
-        ensures entries { IfOk result (λ plan. plan.entries ≡ entries_of (all_of self.now)) }
+        ensures entries { IfOk result (λ plan. plan.entries ≡ entries_of (settled_and_pending self.now)) }
     {
         let mut plan = self.plan.copy(alloc)?;
         match &self.pending {
@@ -82,9 +82,9 @@ impl Log {
 
     /// A plan of the first `m` entries.
     pub(crate) fn first(&self, alloc: Global, m: u64) -> Result<Plan, OutOfMemory>
-        requires { m ≤ length (all_of self.now) }
+        requires { m ≤ length (settled_and_pending self.now) }
         ensures params { IfOk result (λ plan. plan.params ≡ self.now.params) }
-        ensures entries { IfOk result (λ plan. plan.entries ≡ entries_of (take m (all_of self.now))) }
+        ensures entries { IfOk result (λ plan. plan.entries ≡ entries_of (take m (settled_and_pending self.now))) }
     {
         if m < self.count() {
             return self.plan.first(alloc, m);

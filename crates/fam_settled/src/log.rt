@@ -1,11 +1,11 @@
-//! Settled entries in their order, and one that may follow them.
+//! SettledLog entries in their order, and one that may follow them.
 
 ghost use Rattle.std.specs.Prelude.{◌≡◌, ◌+◌, ◌++◌, ◌∷◌, IfOk, OnErr, OnOk, length, [], None};
 ghost use Rattle.fam_format.specs.Params.{SoundParams};
 ghost use Rattle.fam_journal.specs.Past.{acknowledges, finds, pends, shows, Sound};
 ghost use Rattle.fam_plan.specs.State.{MayBeAdded};
-ghost use Rattle.fam_settled.specs.Bytes.{file_of};
-ghost use Rattle.fam_settled.specs.Settled.{history_of, IsSettled, joined, plan_of, state_of};
+ghost use Rattle.fam_settled.specs.Bytes.{file_with};
+ghost use Rattle.fam_settled.specs.Settled.{settled_files, IsSettledLog, joined, plan_of, settled_log_state};
 
 use crate::bytes::{Bytes, Filed};
 use fam_base::{Entry, OutOfMemory, Params};
@@ -24,13 +24,13 @@ pub struct Log {
 }
 
 impl Model for Log {
-    ghost use Rattle.fam_settled.specs.Settled.{Settled};
+    ghost use Rattle.fam_settled.specs.Settled.{SettledLog};
 
-    ghost Value = { Settled };
+    ghost Value = { SettledLog };
 
-    ghost use Rattle.fam_settled.specs.Logs.{IsLog, settled_in};
+    ghost use Rattle.fam_settled.specs.Logs.{IsLog, settled_inside};
 
-    ghost view = { settled_in };
+    ghost view = { settled_inside };
 
     ghost invariant = { IsLog };
 }
@@ -77,7 +77,7 @@ impl Log {
     /// Nothing is settled, and nothing pends.
     pub fn new(alloc: Global, params: &Params) -> Result<Log, OutOfMemory>
         requires { SoundParams params.now }
-        ensures { IfOk result (λ log. state_of log ≡ Sound params.now [] None) }
+        ensures { IfOk result (λ log. settled_log_state log ≡ Sound params.now [] None) }
     {
         let plan = Plan::new(alloc, params)?;
         match Rc::new(alloc, Vec::new(alloc)) {
@@ -128,7 +128,7 @@ impl Log {
 
     /// In every log each entry joins those before it, and the one that pends may be added.
     pub fn is_settled(&self)
-        ensures { IsSettled self.now }
+        ensures { IsSettledLog self.now }
     {
         self.plan.each_entry_joins();
     }
@@ -136,7 +136,7 @@ impl Log {
     /// An entry that may be added pends, with these bytes.
     pub fn pend(&mut self, entry: &Entry, bytes: Bytes)
         requires { MayBeAdded (plan_of self.old) entry.now }
-        ensures { state_of self.new ≡ pends (file_of entry.now bytes) (state_of self.old) }
+        ensures { settled_log_state self.new ≡ pends (file_with entry.now bytes) (settled_log_state self.old) }
     {
         self.pending = Some(Filed {
             entry: *entry,
@@ -147,7 +147,7 @@ impl Log {
     /// An entry stands behind the others, with its bytes.
     fn add(&mut self, added: &Filed) -> Result<(), OutOfMemory>
         requires { MayBeAdded (plan_of self.old) added.now.entry }
-        ensures added { OnOk result (history_of self.new ≡ history_of self.old ++ file_of added.now.entry added.now.bytes ∷ []) }
+        ensures added { OnOk result (settled_files self.new ≡ settled_files self.old ++ file_with added.now.entry added.now.bytes ∷ []) }
         ensures params { self.new.params ≡ self.old.params }
         ensures none { OnOk result (self.new.pending ≡ None) }
         ensures kept { OnErr result (self.new ≡ self.old) }
@@ -159,7 +159,7 @@ impl Log {
 
     /// The pending entry joins the history, where there is one.
     fn join(&mut self) -> Result<(), OutOfMemory>
-        ensures joined { OnOk result (state_of self.new ≡ joined (state_of self.old)) }
+        ensures joined { OnOk result (settled_log_state self.new ≡ joined (settled_log_state self.old)) }
         ensures kept { OnErr result (self.new ≡ self.old) }
     {
         match self.pending {
@@ -170,7 +170,7 @@ impl Log {
 
     /// The first `m` entries were shown: the pending one joins the history where it is one of them.
     pub fn shows(&mut self, m: u64) -> Result<(), OutOfMemory>
-        ensures shown { OnOk result (state_of self.new ≡ shows m (state_of self.old)) }
+        ensures shown { OnOk result (settled_log_state self.new ≡ shows m (settled_log_state self.old)) }
         ensures kept { OnErr result (self.new ≡ self.old) }
     {
         if m > 0 && m - 1 == self.count() {
@@ -182,7 +182,7 @@ impl Log {
 
     /// A master found `n` entries: the pending one is dropped where it isn't one of them, and else joins the history.
     pub fn finds(&mut self, n: u64) -> Result<(), OutOfMemory>
-        ensures found { OnOk result (state_of self.new ≡ finds n (state_of self.old)) }
+        ensures found { OnOk result (settled_log_state self.new ≡ finds n (settled_log_state self.old)) }
         ensures kept { OnErr result (self.new ≡ self.old) }
     {
         if n == self.count() {
@@ -195,7 +195,7 @@ impl Log {
 
     /// Entry `seq` is acknowledged: the pending one joins the history where it is this one.
     pub fn acknowledge(&mut self, seq: u64) -> Result<(), OutOfMemory>
-        ensures acknowledged { OnOk result (state_of self.new ≡ acknowledges seq (state_of self.old)) }
+        ensures acknowledged { OnOk result (settled_log_state self.new ≡ acknowledges seq (settled_log_state self.old)) }
         ensures kept { OnErr result (self.new ≡ self.old) }
     {
         if seq == self.count() {

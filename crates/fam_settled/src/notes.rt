@@ -5,8 +5,8 @@ ghost use Rattle.fam_rules.specs.Asks.{entries_of};
 ghost use Rattle.fam_rules.specs.Decide.{decide};
 ghost use Rattle.fam_journal.specs.Legal.{CauseAllowed, DecideAllowed, FoundAllowed, IsOther, WritesAllowed};
 ghost use Rattle.fam_journal.specs.Past.{HostPast};
-ghost use Rattle.fam_settled.specs.Settled.{history_of, state_of};
-ghost use Rattle.fam_settled.specs.Told.{cmd_of};
+ghost use Rattle.fam_settled.specs.Settled.{settled_files, settled_log_state};
+ghost use Rattle.fam_settled.specs.Told.{bare_cmd};
 
 use crate::log::Log;
 use fam_base::Entry;
@@ -17,7 +17,7 @@ use uuid::Uuid;
 impl Log {
     /// Whether a master may find so many entries.
     pub fn found_fits(&self, n: u64) -> bool
-        ensures { IsTrue result ↔ FoundAllowed n (state_of self.now) }
+        ensures { IsTrue result ↔ FoundAllowed n (settled_log_state self.now) }
     {
         if n == self.count() {
             return true;
@@ -30,7 +30,7 @@ impl Log {
 
     /// Whether the rules decide on this entry.
     fn names_so(&self, asked: &ToldCommand, me: Uuid, entry: &Entry) -> bool
-        ensures { IsTrue result ↔ (decide self.now.params me (entries_of (history_of self.now)) (cmd_of asked.now) ≡ Some (Ok entry.now)) }
+        ensures { IsTrue result ↔ (decide self.now.params me (entries_of (settled_files self.now)) (bare_cmd asked.now) ≡ Some (Ok entry.now)) }
     {
         match self.decide(asked, me) {
             Some(Ok(named)) => named.is_same(entry),
@@ -40,7 +40,7 @@ impl Log {
 
     /// Whether the rules refuse so.
     fn refuses_so(&self, asked: &ToldCommand, me: Uuid, why: &Refused) -> bool
-        ensures { IsTrue result ↔ (decide self.now.params me (entries_of (history_of self.now)) (cmd_of asked.now) ≡ Some (Err why.now)) }
+        ensures { IsTrue result ↔ (decide self.now.params me (entries_of (settled_files self.now)) (bare_cmd asked.now) ≡ Some (Err why.now)) }
     {
         match self.decide(asked, me) {
             Some(Err(refused)) => refused == *why,
@@ -50,8 +50,8 @@ impl Log {
 
     /// Whether a host's command may write this entry, of this number.
     pub fn writes_fits(&self, seq: u64, entry: &Entry, asked: &ToldCommand, me: Uuid) -> bool
-        ensures { (host : HostPast) → host.uuid ≡ me → host.cmd ≡ Some (cmd_of asked.now)
-            → IsTrue result ↔ WritesAllowed seq entry.now host (state_of self.now) }
+        ensures { (host : HostPast) → host.uuid ≡ me → host.cmd ≡ Some (bare_cmd asked.now)
+            → IsTrue result ↔ WritesAllowed seq entry.now host (settled_log_state self.now) }
     {
         if self.pending().is_some() {
             return false;
@@ -64,8 +64,8 @@ impl Log {
 
     /// Whether nothing pends, and the rules refuse so.
     fn refuses_now(&self, asked: &ToldCommand, me: Uuid, why: &Refused) -> bool
-        ensures { (host : HostPast) → host.uuid ≡ me → host.cmd ≡ Some (cmd_of asked.now)
-            → IsTrue result ↔ DecideAllowed host (Err why.now) (state_of self.now) }
+        ensures { (host : HostPast) → host.uuid ≡ me → host.cmd ≡ Some (bare_cmd asked.now)
+            → IsTrue result ↔ DecideAllowed host (Err why.now) (settled_log_state self.now) }
     {
         if self.pending().is_some() {
             return false;
@@ -75,7 +75,7 @@ impl Log {
 
     /// Whether another host than the one of the superblock may be refused so.
     fn is_other(&self, me: &Uuid, named: &Uuid, master: &Uuid) -> bool
-        ensures { (host : HostPast) → host.uuid ≡ me.now → IsTrue result ↔ IsOther named.now master.now host (state_of self.now) }
+        ensures { (host : HostPast) → host.uuid ≡ me.now → IsTrue result ↔ IsOther named.now master.now host (settled_log_state self.now) }
     {
         if *named != *me {
             return false;
@@ -88,8 +88,8 @@ impl Log {
 
     /// Whether a host's command may be refused so.
     pub fn cause_fits(&self, why: &Refused, asked: &ToldCommand, me: Uuid) -> bool
-        ensures { (host : HostPast) → host.uuid ≡ me → host.cmd ≡ Some (cmd_of asked.now)
-            → IsTrue result ↔ CauseAllowed why.now host (state_of self.now) }
+        ensures { (host : HostPast) → host.uuid ≡ me → host.cmd ≡ Some (bare_cmd asked.now)
+            → IsTrue result ↔ CauseAllowed why.now host (settled_log_state self.now) }
     {
         match why {
             Refused::NotMaster { me: named, master } => self.is_other(&me, named, master),

@@ -6,8 +6,8 @@ ghost use Rattle.fam_history.specs.declared.answer.ToldAnswer.TheVariants as tol
 ghost use Rattle.fam_rules.specs.Asks.{file_at};
 ghost use Rattle.fam_judge.specs.Untold.{untold_cmd};
 ghost use Rattle.fam_settled.specs.Fits.{FileTold, IsPlayed, PlainTold, ReadTold, VerifiedTold, content_in};
-ghost use Rattle.fam_settled.specs.Settled.{all_of};
-ghost use Rattle.fam_settled.specs.Told.{IsNoCheck, IsToldFit, cmd_of};
+ghost use Rattle.fam_settled.specs.Settled.{settled_and_pending};
+ghost use Rattle.fam_settled.specs.Told.{IsNoCheck, IsToldFit, bare_cmd};
 
 use crate::against::Against;
 use crate::listed::lists;
@@ -59,7 +59,7 @@ fn is_played(m: u64, answer: &ToldAnswer) -> bool
 
 /// Whether a command lists.
 fn is_logplay(told: &ToldCommand) -> bool
-    ensures { IsTrue result ↔ (cmd_of told.now ≡ cmd.Logplay) }
+    ensures { IsTrue result ↔ (bare_cmd told.now ≡ cmd.Logplay) }
 {
     match told {
         ToldCommand::Plain(Cmd::Logplay) => true,
@@ -76,8 +76,8 @@ impl Log {
         answer: &ToldAnswer,
         listed: &[Entry],
     ) -> Result<bool, OutOfMemory>
-        requires { m ≤ length (all_of self.now) }
-        ensures { IfOk result (λ b. IsTrue b ↔ IsPlayed m (take m (all_of self.now)) answer.now listed.now) }
+        requires { m ≤ length (settled_and_pending self.now) }
+        ensures { IfOk result (λ b. IsTrue b ↔ IsPlayed m (take m (settled_and_pending self.now)) answer.now listed.now) }
     {
         if !is_played(m, answer) {
             return Ok(false);
@@ -88,8 +88,8 @@ impl Log {
 
     /// Whether a verify of the first `m` entries may be answered so.
     fn verify_fits(&self, m: u64, path: &Path, against: Against, answer: &ToldAnswer) -> bool
-        requires { m ≤ length (all_of self.now) }
-        ensures { IsTrue result ↔ FileTold m (file_at (take m (all_of self.now)) path.now) answer.now
+        requires { m ≤ length (settled_and_pending self.now) }
+        ensures { IsTrue result ↔ FileTold m (file_at (take m (settled_and_pending self.now)) path.now) answer.now
             (λ bytes. VerifiedTold m bytes (content_in against) answer.now) }
     {
         let Some(found) = self.file_among(m, path) else {
@@ -103,8 +103,8 @@ impl Log {
 
     /// Whether a read may.
     fn read_fits(&self, m: u64, path: &Path, offset: u64, count: u64, answer: &ToldAnswer) -> bool
-        requires { m ≤ length (all_of self.now) }
-        ensures { IsTrue result ↔ FileTold m (file_at (take m (all_of self.now)) path.now) answer.now
+        requires { m ≤ length (settled_and_pending self.now) }
+        ensures { IsTrue result ↔ FileTold m (file_at (take m (settled_and_pending self.now)) path.now) answer.now
             (λ bytes. ReadTold m bytes offset count answer.now) }
     {
         let Some(found) = self.file_among(m, path) else {
@@ -118,8 +118,8 @@ impl Log {
 
     /// Whether a question that takes nothing from a source may be answered so in one line.
     fn plain_fits(&self, m: u64, asked: &Cmd, answer: &ToldAnswer) -> bool
-        requires { m ≤ length (all_of self.now) }
-        ensures { IsTrue result ↔ PlainTold m (take m (all_of self.now)) (untold_cmd asked.now) answer.now }
+        requires { m ≤ length (settled_and_pending self.now) }
+        ensures { IsTrue result ↔ PlainTold m (take m (settled_and_pending self.now)) (untold_cmd asked.now) answer.now }
     {
         match asked {
             Cmd::Mount => is_mounted(m, answer),
@@ -137,8 +137,8 @@ impl Log {
 
     /// Whether a question may be answered so in one line.
     fn told_fits(&self, m: u64, asked: &ToldCommand, answer: &ToldAnswer) -> bool
-        requires { m ≤ length (all_of self.now) }
-        ensures { IsTrue result ↔ PlainTold m (take m (all_of self.now)) (cmd_of asked.now) answer.now }
+        requires { m ≤ length (settled_and_pending self.now) }
+        ensures { IsTrue result ↔ PlainTold m (take m (settled_and_pending self.now)) (bare_cmd asked.now) answer.now }
     {
         match asked {
             ToldCommand::Plain(asked) => self.plain_fits(m, asked, answer),
@@ -159,9 +159,9 @@ impl Log {
         answer: &ToldAnswer,
         listed: &[Entry],
     ) -> Result<bool, OutOfMemory>
-        requires few { m ≤ length (all_of self.now) }
-        requires no_check { IsNoCheck (cmd_of asked.now) }
-        ensures { IfOk result (λ b. IsTrue b ↔ IsToldFit (take m (all_of self.now)) (cmd_of asked.now) answer.now listed.now) }
+        requires few { m ≤ length (settled_and_pending self.now) }
+        requires no_check { IsNoCheck (bare_cmd asked.now) }
+        ensures { IfOk result (λ b. IsTrue b ↔ IsToldFit (take m (settled_and_pending self.now)) (bare_cmd asked.now) answer.now listed.now) }
     {
         if is_logplay(asked) {
             return self.played_fits(alloc, m, answer, listed);

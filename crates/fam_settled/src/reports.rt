@@ -8,7 +8,7 @@ ghost use Rattle.fam_journal.specs.Past.{HostPast};
 ghost use Rattle.fam_rules.specs.ReportLaws.{IsSoundReport};
 ghost use Rattle.fam_rules.specs.Reports.{is_file, used_count};
 ghost use Rattle.fam_settled.specs.Reported.{HasKinds, HasSoundStates, HasUnits};
-ghost use Rattle.fam_settled.specs.Settled.{state_of};
+ghost use Rattle.fam_settled.specs.Settled.{settled_log_state};
 
 use crate::log::Log;
 use fam_alloc::UsedUnits;
@@ -123,10 +123,16 @@ fn is_report_of(alloc: Global, plan: &Plan, report: &Report) -> Result<bool, Out
 
 impl Log {
     /// Whether a report may say so of the first `m` entries, which its log counts.
-    fn counted_fits(&self, alloc: Global, floor: u64, m: u64, report: &Report) -> Result<bool, OutOfMemory>
+    fn counted_fits(
+        &self,
+        alloc: Global,
+        floor: u64,
+        m: u64,
+        report: &Report,
+    ) -> Result<bool, OutOfMemory>
         requires { (e : ℕ) → (s : ℕ) → report.now.log ≡ log.Sound e s → e ≡ m }
         ensures { IfOk result (λ b. (host : HostPast) → host.floor ≡ Some floor
-            → IsTrue b ↔ ReportAllowed report.now host (state_of self.now)) }
+            → IsTrue b ↔ ReportAllowed report.now host (settled_log_state self.now)) }
     {
         if m < floor {
             return Ok(false);
@@ -140,9 +146,14 @@ impl Log {
 
     /// Whether a report may say so, to a host at whose mark `floor` entries were settled. It takes memory for a map of the
     /// units.
-    pub fn report_fits(&self, alloc: Global, floor: u64, report: &Report) -> Result<bool, OutOfMemory>
+    pub fn report_fits(
+        &self,
+        alloc: Global,
+        floor: u64,
+        report: &Report,
+    ) -> Result<bool, OutOfMemory>
         ensures { IfOk result (λ b. (host : HostPast) → host.floor ≡ Some floor
-            → IsTrue b ↔ ReportAllowed report.now host (state_of self.now)) }
+            → IsTrue b ↔ ReportAllowed report.now host (settled_log_state self.now)) }
     {
         match &report.log {
             LogState::Sound { entries, .. } => self.counted_fits(alloc, floor, *entries, report),

@@ -11,9 +11,9 @@ ghost use Rattle.fam_rules.specs.DecideLaws.{IsSoundWish};
 ghost use Rattle.fam_journal.specs.Past.{filled_bytes};
 ghost use Rattle.fam_judge.specs.Untold.{untold_cmd};
 ghost use Rattle.fam_plan.specs.State.{MayBeAdded};
-ghost use Rattle.fam_settled.specs.Bytes.{bytes_of};
-ghost use Rattle.fam_settled.specs.Settled.{history_of, plan_of};
-ghost use Rattle.fam_settled.specs.Told.{HasToldFill, IsToldCreat, IsToldFill, cmd_of};
+ghost use Rattle.fam_settled.specs.Bytes.{file_bytes_told};
+ghost use Rattle.fam_settled.specs.Settled.{settled_files, plan_of};
+ghost use Rattle.fam_settled.specs.Told.{HasToldFill, IsToldCreat, IsToldFill, bare_cmd};
 
 use crate::bytes::Bytes;
 use crate::log::Log;
@@ -44,7 +44,7 @@ fn decide_cp(
     stripe: Option<Stripe>,
     me: Uuid,
 ) -> Option<Result<Entry, Refused>>
-    ensures { result ≡ decide plan.now.params me plan.now.entries (cmd_of (told.Cp path.now size attr stripe)) }
+    ensures { result ≡ decide plan.now.params me plan.now.entries (bare_cmd (told.Cp path.now size attr stripe)) }
 {
     let creat = Cmd::Creat {
         path: *path,
@@ -59,7 +59,7 @@ fn decide_cp(
 /// Where the bytes of a file are from that is filled with a content.
 fn bytes_of_fill(content: &Content) -> Bytes
     requires { IsToldFill content.now }
-    ensures { (size : ℕ) → fills content.now size ≡ bytes_of result size }
+    ensures { (size : ℕ) → fills content.now size ≡ file_bytes_told result size }
 {
     match content {
         Content::Zero => Bytes::Zero,
@@ -72,7 +72,7 @@ fn bytes_of_fill(content: &Content) -> Bytes
 fn plain_bytes(cmd: &Cmd) -> Bytes
     requires { IsToldCreat cmd.now }
     ensures { (w : Wish) → wish_of (untold_cmd cmd.now) ≡ Some w
-        → fills (content_of (untold_cmd cmd.now)) w.size ≡ bytes_of result w.size }
+        → fills (content_of (untold_cmd cmd.now)) w.size ≡ file_bytes_told result w.size }
 {
     match cmd {
         Cmd::Creat { fill, .. } => bytes_of_fill(fill),
@@ -84,8 +84,8 @@ fn plain_bytes(cmd: &Cmd) -> Bytes
 /// Where the bytes of a command's new file are from.
 pub fn bytes_told(cmd: &ToldCommand) -> Bytes
     requires { HasToldFill cmd.now }
-    ensures { (w : Wish) → wish_of (cmd_of cmd.now) ≡ Some w
-        → filled_bytes (Some (cmd_of cmd.now)) w.size ≡ bytes_of result w.size }
+    ensures { (w : Wish) → wish_of (bare_cmd cmd.now) ≡ Some w
+        → filled_bytes (Some (bare_cmd cmd.now)) w.size ≡ file_bytes_told result w.size }
 {
     match cmd {
         ToldCommand::Plain(cmd) => plain_bytes(cmd),
@@ -98,7 +98,7 @@ impl Log {
     /// What a host's command appends behind the settled entries, or the first refusal. None: it doesn't append. It takes no
     /// memory, and adds nothing.
     fn decided(&self, cmd: &ToldCommand, me: Uuid) -> Option<Result<Entry, Refused>>
-        ensures { result ≡ decide self.now.params me self.now.entries (cmd_of cmd.now) }
+        ensures { result ≡ decide self.now.params me self.now.entries (bare_cmd cmd.now) }
     {
         match cmd {
             ToldCommand::Plain(cmd) => decide_plain(&self.plan, cmd, me),
@@ -115,10 +115,10 @@ impl Log {
     /// What a host's command appends behind the settled entries, or the first refusal. None: it doesn't append. It takes no
     /// memory, and adds nothing.
     pub fn decide(&self, cmd: &ToldCommand, me: Uuid) -> Option<Result<Entry, Refused>>
-        ensures value { result ≡ decide self.now.params me (entries_of (history_of self.now)) (cmd_of cmd.now) }
+        ensures value { result ≡ decide self.now.params me (entries_of (settled_files self.now)) (bare_cmd cmd.now) }
 
         // What is decided for a sound wish may pend.
-        ensures may { (w : Wish) (e : Entry) → wish_of (cmd_of cmd.now) ≡ Some w → IsSoundWish w → result ≡ Some (Ok e)
+        ensures may { (w : Wish) (e : Entry) → wish_of (bare_cmd cmd.now) ≡ Some w → IsSoundWish w → result ≡ Some (Ok e)
             → MayBeAdded (plan_of self.now) e }
     {
         a_decided_entry_may_be_added();

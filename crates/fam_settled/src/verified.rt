@@ -2,10 +2,10 @@
 
 ghost use Rattle.std.specs.Prelude.{◌≡◌, ◌≢◌, ◌↔◌, ◌<◌, Some, IsTrue, length};
 ghost use Rattle.fam_rules.specs.Asks.{file_bytes_from};
-ghost use Rattle.fam_judge.specs.Fitting.{FitBytes, FitsWanted, IsLong};
+ghost use Rattle.fam_judge.specs.Fitting.{FitBytes, FitsWanted, AllowsSize};
 ghost use Rattle.fam_judge.specs.Untold.{untold_content};
-ghost use Rattle.fam_settled.specs.Bytes.{byte_at, bytes_of};
-ghost use Rattle.fam_settled.specs.Fits.{IsOther, IsSame, MayDifferAt, ReadTold, VerifiedTold, content_in, count_in, source_of};
+ghost use Rattle.fam_settled.specs.Bytes.{byte_told, file_bytes_told};
+ghost use Rattle.fam_settled.specs.Fits.{FirstDiffers, IsSame, MayDifferAt, ReadTold, VerifiedTold, content_in, count_in, bytes_against};
 
 use crate::against::Against;
 use crate::agree::{may_agree, may_have};
@@ -27,7 +27,7 @@ pub(crate) fn against_of(content: &Content) -> Against
 
 /// Where its bytes are from.
 fn source_of(against: Against) -> Bytes
-    ensures { result ≡ source_of against }
+    ensures { result ≡ bytes_against against }
 {
     match against {
         Against::Zero => Bytes::Zero,
@@ -38,7 +38,7 @@ fn source_of(against: Against) -> Bytes
 
 /// Whether a file of this size has as many bytes, where it is told how many there are.
 fn is_long(against: Against, size: u64) -> bool
-    ensures { IsTrue result ↔ IsLong (count_in against) size }
+    ensures { IsTrue result ↔ AllowsSize (count_in against) size }
 {
     match against {
         Against::Untold(count) => count == size,
@@ -48,7 +48,7 @@ fn is_long(against: Against, size: u64) -> bool
 
 /// Whether a file of this size may have the same bytes, and as many.
 fn same_fits(bytes: Bytes, size: u64, against: Against) -> bool
-    ensures { IsTrue result ↔ IsSame (bytes_of bytes size) (content_in against) }
+    ensures { IsTrue result ↔ IsSame (file_bytes_told bytes size) (content_in against) }
 {
     if !is_long(against, size) {
         return false;
@@ -59,7 +59,7 @@ fn same_fits(bytes: Bytes, size: u64, against: Against) -> bool
 /// Whether the byte of a file at an offset may be this one.
 fn may_have_one(bytes: Bytes, size: u64, offset: u64, byte: u8) -> bool
     requires { offset < size }
-    ensures { IsTrue result ↔ FitsWanted (byte_at bytes offset) byte }
+    ensures { IsTrue result ↔ FitsWanted (byte_told bytes offset) byte }
 {
     may_have(bytes, size, offset, &[byte])
 }
@@ -67,7 +67,7 @@ fn may_have_one(bytes: Bytes, size: u64, offset: u64, byte: u8) -> bool
 /// Whether the bytes of a file and of what it is compared with may be these at an offset.
 fn may_have_two(bytes: Bytes, source: Bytes, size: u64, offset: u64, found: u8, wanted: u8) -> bool
     requires { offset < size }
-    ensures { IsTrue result ↔ (FitsWanted (byte_at bytes offset) found × FitsWanted (byte_at source offset) wanted) }
+    ensures { IsTrue result ↔ (FitsWanted (byte_told bytes offset) found × FitsWanted (byte_told source offset) wanted) }
 {
     if !may_have_one(bytes, size, offset, found) {
         return false;
@@ -87,8 +87,15 @@ fn may_differ(bytes: Bytes, source: Bytes, size: u64, offset: u64, found: u8, wa
 }
 
 /// Whether a file of this size may first differ so.
-fn differs_fits(bytes: Bytes, size: u64, against: Against, offset: u64, found: u8, wanted: u8) -> bool
-    ensures { IsTrue result ↔ IsOther (bytes_of bytes size) (content_in against) offset found wanted }
+fn differs_fits(
+    bytes: Bytes,
+    size: u64,
+    against: Against,
+    offset: u64,
+    found: u8,
+    wanted: u8,
+) -> bool
+    ensures { IsTrue result ↔ FirstDiffers (file_bytes_told bytes size) (content_in against) offset found wanted }
 {
     if !is_long(against, size) {
         return false;
@@ -120,7 +127,7 @@ pub(crate) fn verified_fits(
     against: Against,
     answer: &ToldAnswer,
 ) -> bool
-    ensures { IsTrue result ↔ VerifiedTold m (bytes_of bytes size) (content_in against) answer.now }
+    ensures { IsTrue result ↔ VerifiedTold m (file_bytes_told bytes size) (content_in against) answer.now }
 {
     match answer {
         ToldAnswer::Same(n) => *n == m && same_fits(bytes, size, against),
@@ -141,7 +148,7 @@ pub(crate) fn verified_fits(
 
 /// Whether so many bytes from an offset on may be these.
 fn bytes_fit(bytes: Bytes, size: u64, offset: u64, count: u64, given: &[u8]) -> bool
-    ensures { IsTrue result ↔ FitBytes (file_bytes_from offset count (bytes_of bytes size)) given.now }
+    ensures { IsTrue result ↔ FitBytes (file_bytes_from offset count (file_bytes_told bytes size)) given.now }
 {
     are_bytes(given);
     if given.len() as u64 != count.min(size.saturating_sub(offset)) {
@@ -162,7 +169,7 @@ pub(crate) fn read_fits(
     count: u64,
     answer: &ToldAnswer,
 ) -> bool
-    ensures { IsTrue result ↔ ReadTold m (bytes_of bytes size) offset count answer.now }
+    ensures { IsTrue result ↔ ReadTold m (file_bytes_told bytes size) offset count answer.now }
 {
     match answer {
         ToldAnswer::Bytes(n, given) => {

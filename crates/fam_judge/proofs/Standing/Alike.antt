@@ -19,7 +19,7 @@ use Rattle.fam_journal.specs.Notes.{Answer, Replied, MediaFault, Note, Host, Mad
 use Rattle.fam_journal.specs.Shapes.{AnswerShape, CommandStage, EntryShape, HostShape, OfRunning, OfTask, ReplyShape, TaskNote, TaskShape}
 use Rattle.fam_judge.specs.Alike.{told_note, whole_command, whole_note}
 use Rattle.fam_judge.specs.Formed.{AnswerPlace, SlotPlace}
-use Rattle.fam_judge.specs.Standing.{Face, IsMadeBy, MayDeclare, MayMake, MayRefuse, MayStand, MayStart, OfFace, engaged_in, face, faces, is_own}
+use Rattle.fam_judge.specs.Standing.{Face, IsMadeBy, MayDeclare, MayMake, MayRefuseCall, MayStand, MayStart, OfFace, engaged_in, face, faces, is_own}
 use Rattle.fam_judge.specs.ToldHosts.{ToldHost, ToldTask, told_host, told_hosts, told_task}
 use Rattle.fam_judge.proofs.Telling.{command_back, note_back}
 
@@ -44,7 +44,7 @@ stands_seen lines a b (Start h cmd) e own is = subst (λ (all : List Face). MayS
 stands_seen lines a b (Stop h) e own is = subst (λ (all : List Face). OfFace (slice_get all h) (λ f. f.runs ≡ true)) e is
 stands_seen lines a b (Halt h) e own is = subst (λ (all : List Face). OfFace (slice_get all h) (λ f. ⊤)) e is
 stands_seen lines a b (Umount h) e own is = subst (λ (all : List Face). OfFace (slice_get all h) (λ f. (f.runs ≡ false) × (f.keeps ≡ true))) e is
-stands_seen lines a b (Refused name cause) e own is = subst (λ (all : List Face). MayRefuse lines all name cause) e is
+stands_seen lines a b (Refused name cause) e own is = subst (λ (all : List Face). MayRefuseCall lines all name cause) e is
 stands_seen lines a b note e own is = absurd cc
 
 -- Commands that tell the same.

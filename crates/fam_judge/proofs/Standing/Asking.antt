@@ -17,7 +17,7 @@ use Rattle.fam_journal.specs.Machines.{Machines}
 use Rattle.fam_journal.specs.Notes.{Note, Refused}
 use Rattle.fam_journal.specs.Shapes.{AtShape, HostShape, OfHostShape, ShapeByRefusal, makes_told, shown_shapes}
 use Rattle.fam_judge.specs.Formed.{IsFormedNote}
-use Rattle.fam_judge.specs.Standing.{AreDistinct, Face, engaged_in, face, faces, number_in}
+use Rattle.fam_judge.specs.Standing.{AreDistinctHosts, Face, engaged_in, face, faces, host_number_in}
 use Rattle.fam_judge.proofs.Standing.Faces.{engaged_faced, index_is, keeps_face, keeps_faced, lines_faced, number_faced, other_text, runs_face, runs_faced, text_same}
 
 -- Tests.
@@ -70,7 +70,7 @@ module _ (lines : ℕ) (hosts : List HostShape) where
   all = faces hosts
 
   -- the number of a declared host is found by its name
-  pub own_number : AreDistinct all → (k : ℕ) (f : Face) → slice_get all k ≡ Some f → number_of f.name m ≡ Some k
+  pub own_number : AreDistinctHosts all → (k : ℕ) (f : Face) → slice_get all k ≡ Some f → number_of f.name m ≡ Some k
   own_number distinct k f is =
       number_faced lines hosts f.name
       ∙ index_is (λ (g : Face). Rattle.fam_base.specs.PathOrder.path_eq g.name f.name) all k (record {
@@ -81,7 +81,7 @@ module _ (lines : ℕ) (hosts : List HostShape) where
       })
 
   -- a name's number, as calls find it
-  pub found_number : (name : List ℕ) (k : ℕ) → number_in name all ≡ Some k → number_of name m ≡ Some k
+  pub found_number : (name : List ℕ) (k : ℕ) → host_number_in name all ≡ Some k → number_of name m ≡ Some k
   found_number name k e = number_faced lines hosts name ∙ e
 
   -- What a declared host is refused.

@@ -10,7 +10,7 @@ use Rattle.fam_journal.specs.Notes.{Note, Host, Made, Cut, Start, Mark, Found, W
 use Rattle.fam_journal.specs.Shapes.{HostShape, shapes_after, shapes_behind, shapes_of}
 use Rattle.fam_journal.proofs.Calls.Declares.{none_passes}
 use Rattle.fam_judge.specs.Formed.{AreFormed, IsFormedNote}
-use Rattle.fam_judge.specs.Standing.{AreDistinct, Face, MayDeclare, face, faces}
+use Rattle.fam_judge.specs.Standing.{AreDistinctHosts, Face, MayDeclare, face, faces}
 use Rattle.fam_judge.proofs.Masters.{last_at}
 use Rattle.fam_judge.proofs.Standing.Faces.{either_left, either_right, text_same}
 use Rattle.fam_judge.proofs.Standing.Formed.{formed_stands}
@@ -44,7 +44,7 @@ labelled a b alike k f is =
         record { host = g; is = at; name = ap (λ (l : Label). l.name) same; uuid = ap (λ (l : Label). l.uuid) same }
 
 -- distinct hosts are so by their names and UUIDs
-distinct_alike : (a b : List Face) → map label a ≡ map label b → AreDistinct a → AreDistinct b
+distinct_alike : (a b : List Face) → map label a ≡ map label b → AreDistinctHosts a → AreDistinctHosts b
 distinct_alike a b alike is = record {
   uuids = λ k f at. let x = labelled a b alike k f at in subst IsUuid x.uuid (is.uuids k x.host x.is);
   names = λ k l f g first second e.
@@ -68,7 +68,7 @@ map_twice (x ∷ xs) = ap (λ (ls : List Label). label (face x) ∷ ls) (map_twi
 
 -- a host changes, but not its name or UUID
 distinct_changed : (hosts : List HostShape) (k : ℕ) (f : HostShape → HostShape)
-    → ((x : HostShape) → label (face (f x)) ≡ label (face x)) → AreDistinct (faces hosts) → AreDistinct (faces (changed_at k f hosts))
+    → ((x : HostShape) → label (face (f x)) ≡ label (face x)) → AreDistinctHosts (faces hosts) → AreDistinctHosts (faces (changed_at k f hosts))
 distinct_changed hosts k f same is =
     distinct_alike (faces hosts) (faces (changed_at k f hosts)) (map_twice hosts ∙ sym (label_kept (λ x. label (face x)) k f same hosts) ∙ sym (map_twice (changed_at k f hosts))) is
 
@@ -77,7 +77,7 @@ distinct_changed hosts k f same is =
 other_than : (a b : List ℕ) → path_eq a b ≡ false → a ≡ b → ⊥
 other_than a b no_text e = let same = text_same a b e in absurd cc
 
-module _ (all : List Face) (f : Face) (is : AreDistinct all) (may : MayDeclare all f.name f.uuid) where
+module _ (all : List Face) (f : Face) (is : AreDistinctHosts all) (may : MayDeclare all f.name f.uuid) where
   new_name : (k : ℕ) (g : Face) → slice_get all k ≡ Some g → g.name ≡ f.name → ⊥
   new_name k g at e = other_than g.name f.name (either_left _ (path_eq g.uuid f.uuid) (none_passes (λ (h : Face). path_eq h.name f.name || path_eq h.uuid f.uuid) all 0 may.1 k g at)) e
 
@@ -96,7 +96,7 @@ module _ (all : List Face) (f : Face) (is : AreDistinct all) (may : MayDeclare a
       by (inr a) (inl b) = absurd (new l h b (sym e ∙ ap P (sym a.1)))
       by (inr a) (inr b) = a.0 ∙ sym b.0
 
-  distinct_more : AreDistinct (all ++ f ∷ [])
+  distinct_more : AreDistinctHosts (all ++ f ∷ [])
   distinct_more = record {
     uuids = λ k g at. elim (last_at all f k g at) [ inl front ↦ is.uuids k g front | inr last ↦ subst (λ (x : Face). IsUuid x.uuid) last.1 may.0 ];
     names = places (λ g. g.name) new_name is.names;
@@ -108,9 +108,9 @@ module _ (all : List Face) (f : Face) (is : AreDistinct all) (may : MayDeclare a
 
 module _ (lines : ℕ) where
   -- behind a note of this form
-  pub distinct_after : (hosts : List HostShape) (y : Note) → AreDistinct (faces hosts) → IsFormedNote lines hosts y → AreDistinct (faces (shapes_after hosts y))
+  pub distinct_after : (hosts : List HostShape) (y : Note) → AreDistinctHosts (faces hosts) → IsFormedNote lines hosts y → AreDistinctHosts (faces (shapes_after hosts y))
   distinct_after hosts (Host name uuid) is formed =
-      subst AreDistinct (sym (map-append face hosts _))
+      subst AreDistinctHosts (sym (map-append face hosts _))
       (distinct_more (faces hosts) (record { name = name; uuid = uuid; runs = false; keeps = false }) is (formed_stands lines hosts (Host name uuid) formed))
   distinct_after hosts (Made h p) is formed = is
   distinct_after hosts (Cut h k) is formed = is
@@ -125,15 +125,15 @@ module _ (lines : ℕ) where
   distinct_after hosts (Refused name cause) is formed = is
 
   -- behind some notes
-  pub distinct_behind : (journal : List Note) (hosts : List HostShape) → AreDistinct (faces hosts) → AreFormed lines hosts journal
-      → AreDistinct (faces (shapes_behind hosts journal))
+  pub distinct_behind : (journal : List Note) (hosts : List HostShape) → AreDistinctHosts (faces hosts) → AreFormed lines hosts journal
+      → AreDistinctHosts (faces (shapes_behind hosts journal))
   distinct_behind [] hosts is formed = is
   distinct_behind (y ∷ journal) hosts is formed = distinct_behind journal (shapes_after hosts y) (distinct_after hosts y is formed.0) formed.1
 
 -- of no hosts
-pub distinct_none : AreDistinct []
+pub distinct_none : AreDistinctHosts []
 distinct_none = record { uuids = λ k f at. absurd cc; names = λ k l f g first second e. absurd cc; apart = λ k l f g first second e. absurd cc; few = omega arith }
 
 -- behind a whole journal
-pub distinct_hosts : (lines : ℕ) (journal : List Note) → AreFormed lines [] journal → AreDistinct (faces (shapes_of journal))
+pub distinct_hosts : (lines : ℕ) (journal : List Note) → AreFormed lines [] journal → AreDistinctHosts (faces (shapes_of journal))
 distinct_hosts lines journal formed = distinct_behind lines journal [] distinct_none formed

@@ -9,7 +9,7 @@ use Rattle.fam_base.specs.PathOrder.{path_eq}
 use Rattle.fam_journal.specs.Calls.{busy_at, has_name, is_busy_host, is_engaged, is_kept_host, is_same, keeps_at, number_of}
 use Rattle.fam_journal.specs.Members.{index_from, index_of}
 use Rattle.fam_journal.specs.Shapes.{HostShape, TaskShape, runs_shape, shown_running, shown_shape, shown_shapes}
-use Rattle.fam_judge.specs.Standing.{AtFace, AtNamed, Face, OfFace, engaged_in, face, faces, number_in, same_in}
+use Rattle.fam_judge.specs.Standing.{AtFace, AtNamed, Face, OfFace, engaged_in, face, faces, host_number_in, same_in}
 use Rattle.fam_judge.proofs.Busier.{busy_runs}
 
 -- Texts.
@@ -132,20 +132,20 @@ face_of (Some f) P holds = record { host = f; is = refl; holds = holds }
 pub record IsNamed (name : List ℕ) (all : List Face) (P : ℕ → Face → Type 0) : Type 0 where
   pub number : ℕ
   pub host : Face
-  pub named : number_in name all ≡ Some number
+  pub named : host_number_in name all ≡ Some number
   pub is : slice_get all number ≡ Some host
   pub holds : P number host
 
 -- it has a number
 pub named_of : (name : List ℕ) (all : List Face) (P : ℕ → Face → Type 0) → AtNamed name all P → IsNamed name all P
-named_of name all P holds = by (number_in name all) refl holds
+named_of name all P holds = by (host_number_in name all) refl holds
   where
-    by : (o : Option ℕ) → number_in name all ≡ o → AtFace o all P → IsNamed name all P
+    by : (o : Option ℕ) → host_number_in name all ≡ o → AtFace o all P → IsNamed name all P
     by None e holds = absurd holds
     by (Some k) e holds = let own = face_of (slice_get all k) (P k) holds in record { number = k; host = own.host; named = e; is = own.is; holds = own.holds }
 
 -- and the other way about
-pub at_named : (name : List ℕ) (all : List Face) (P : ℕ → Face → Type 0) (k : ℕ) (f : Face) → number_in name all ≡ Some k → slice_get all k ≡ Some f → P k f
+pub at_named : (name : List ℕ) (all : List Face) (P : ℕ → Face → Type 0) (k : ℕ) (f : Face) → host_number_in name all ≡ Some k → slice_get all k ≡ Some f → P k f
     → AtNamed name all P
 at_named name all P k f e is holds = subst (λ (o : Option ℕ). AtFace o all P) (sym e) (of_face (slice_get all k) (P k) f is holds)
 
@@ -184,7 +184,7 @@ runs_one (Some host) = refl
 
 module _ (lines : ℕ) (hosts : List HostShape) where
   -- the number of a name
-  pub number_faced : (name : List ℕ) → number_of name (shown_shapes lines hosts) ≡ number_in name (faces hosts)
+  pub number_faced : (name : List ℕ) → number_of name (shown_shapes lines hosts) ≡ host_number_in name (faces hosts)
   number_faced name = index_map shown_shape (has_name name) 0 hosts ∙ sym (index_map face (λ f. path_eq f.name name) 0 hosts)
 
   -- the first one of a name or a UUID

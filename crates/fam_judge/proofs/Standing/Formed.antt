@@ -23,7 +23,7 @@ use Rattle.fam_journal.specs.Notes.{Note, Host, Start, Mark, Found, Writes, Answ
 use Rattle.fam_journal.specs.Shapes.{ActsShape, AtShape, CompletesShape, DoesShape, FreeShape, HostShape, OfHostShape, OfRunning, ShapeByRefusal, SuperForm, TaskNote, made_note, makes_told, refusal_told}
 use Rattle.fam_journal.proofs.Calls.Tests.{no_when}
 use Rattle.fam_judge.specs.Formed.{HasPlace, IsFormedNote, IsSoundNote}
-use Rattle.fam_judge.specs.Standing.{AtNamed, MayAsk, MayRefuse, MayStand, face, faces}
+use Rattle.fam_judge.specs.Standing.{AtNamed, MayAsk, MayRefuseCall, MayStand, face, faces}
 use Rattle.fam_judge.proofs.Following.{note_runs}
 use Rattle.fam_judge.proofs.Origins.{none_one, none_running, one_note}
 use Rattle.fam_judge.proofs.Standing.Faces.{of_face}
@@ -39,7 +39,7 @@ asked_mount (ask.Check source) c e = ap is_mount e.1
 
 module _ (lines : ℕ) (hosts : List HostShape) where
   -- a source is none where a command but a mount may begin
-  unfit_row : (name : List ℕ) (what : Ask) (w : Refusal) → UnfitShape what w → MayAsk lines (faces hosts) name → MayRefuse lines (faces hosts) name w
+  unfit_row : (name : List ℕ) (what : Ask) (w : Refusal) → UnfitShape what w → MayAsk lines (faces hosts) name → MayRefuseCall lines (faces hosts) name w
   unfit_row name what (why.NoFile source) unfit may = may
   unfit_row name what (why.CopyLimit sum) unfit may = may
   unfit_row name what (why.BadListing line) unfit may = may
@@ -77,7 +77,7 @@ module _ (lines : ℕ) (hosts : List HostShape) where
     noted : (z : Note) (rest : List Note) → y ∷ [] ≡ z ∷ rest → MayStand lines hosts z → MayStand lines hosts y
     noted z rest e is = subst (MayStand lines hosts) (sym (one_note y z rest e)) is
 
-    by_refusal : (name : List ℕ) (o : Option Refusal) (free : Type 0) → ((w : Refusal) → o ≡ Some w → MayRefuse lines (faces hosts) name w)
+    by_refusal : (name : List ℕ) (o : Option Refusal) (free : Type 0) → ((w : Refusal) → o ≡ Some w → MayRefuseCall lines (faces hosts) name w)
         → (o ≡ None → free → MayStand lines hosts y) → ShapeByRefusal name o (y ∷ []) free → MayStand lines hosts y
     by_refusal name None free row next is = next refl is
     by_refusal name (Some w) free row next is = noted (Refused name w) [] is (row w refl)

@@ -11,8 +11,8 @@ use Rattle.fam_judge.specs.Alike.{AreAlikeNotes, ToldNote, told_note, whole_note
 use Rattle.fam_judge.specs.Explained.{AreAllowedForSome, IsExplained}
 use Rattle.fam_judge.specs.Formed.{AreFormed}
 use Rattle.fam_judge.specs.Shows.{ShowsJournal, is_inner}
-use Rattle.fam_judge.specs.Standing.{AreDistinct, AreStanding, faces}
-use Rattle.fam_judge.specs.ToldHosts.{ToldHost, ToldTask, told_after, told_behind, told_host, told_hosts, told_task, with_told_stage}
+use Rattle.fam_judge.specs.Standing.{AreDistinctHosts, AreStanding, faces}
+use Rattle.fam_judge.specs.ToldHosts.{ToldHost, ToldTask, told_after, told_hosts_behind, told_host, told_hosts, told_task, with_told_stage}
 use Rattle.fam_judge.proofs.Members.{map_changed}
 use Rattle.fam_judge.proofs.Standing.Alike.{stands_alike}
 use Rattle.fam_judge.proofs.Standing.Distinct.{distinct_after, distinct_none}
@@ -47,9 +47,9 @@ after_told hosts (Umount h) = map_changed told_host h _ _ (λ x. refl) hosts
 after_told hosts (Refused name cause) = refl
 
 -- behind some notes
-pub behind_told : (notes : List Note) (hosts : List HostShape) → told_hosts (shapes_behind hosts notes) ≡ told_behind (told_hosts hosts) (map told_note notes)
+pub behind_told : (notes : List Note) (hosts : List HostShape) → told_hosts (shapes_behind hosts notes) ≡ told_hosts_behind (told_hosts hosts) (map told_note notes)
 behind_told [] hosts = refl
-behind_told (y ∷ notes) hosts = behind_told notes (shapes_after hosts y) ∙ ap (λ (l : List ToldHost). told_behind l (map told_note notes)) (after_told hosts y)
+behind_told (y ∷ notes) hosts = behind_told notes (shapes_after hosts y) ∙ ap (λ (l : List ToldHost). told_hosts_behind l (map told_note notes)) (after_told hosts y)
 
 -- Journals.
 
@@ -59,7 +59,7 @@ all_stand lines [] hosts formed = tt
 all_stand lines (y ∷ notes) hosts formed = (formed_stands lines hosts y formed.0, all_stand lines notes (shapes_after hosts y) formed.1)
 
 -- where notes stand, some that tell the same have the form of the tables
-pub all_formed : (lines : ℕ) (notes : List Note) (a b : List HostShape) → told_hosts a ≡ told_hosts b → AreDistinct (faces b) → AreStanding lines a notes
+pub all_formed : (lines : ℕ) (notes : List Note) (a b : List HostShape) → told_hosts a ≡ told_hosts b → AreDistinctHosts (faces b) → AreStanding lines a notes
     → (other : List Note) × AreAlikeNotes notes other × AreFormed lines b other
 all_formed lines [] a b alike distinct is = ([], refl, tt)
 all_formed lines (y ∷ notes) a b alike distinct is =

@@ -15,7 +15,7 @@ use Rattle.fam_journal.specs.EventShapes.{EventShape}
 use Rattle.fam_journal.specs.Notes.{Note, Made, Cut}
 use Rattle.fam_journal.specs.Shapes.{ActsShape, FreeShape, HostShape, made_note, makes_told, shown_shapes}
 use Rattle.fam_judge.specs.Formed.{IsFormedNote}
-use Rattle.fam_judge.specs.Standing.{AreDistinct, Face, IsMadeBy, MayStand, engaged_in, faces}
+use Rattle.fam_judge.specs.Standing.{AreDistinctHosts, Face, IsMadeBy, MayStand, engaged_in, faces}
 use Rattle.fam_judge.proofs.Standing.Asking.{at_shape, makes_is, on_passes, own_number, shape_of}
 use Rattle.fam_judge.proofs.Standing.Faces.{face_of}
 use Rattle.fam_judge.proofs.Standing.Sizes.{Numbers, bad, least_passes, numbers, pass, small}
@@ -60,7 +60,7 @@ module _ (lines : ℕ) (hosts : List HostShape) where
   makes_passes unit log early idle =
       makes_is lines hosts unit log ∙ ap₂ (λ (o : Option EarlyRefusal) (q : Option ℕ). or_else (option_map cause_of o) (busy_refusal q)) early idle
 
-  module _ (distinct : AreDistinct (faces hosts)) where
+  module _ (distinct : AreDistinctHosts (faces hosts)) where
     -- a mkfs that goes on
     making : (name : List ℕ) (h : ℕ) (host : HostShape) (request : MkfsRequest) → IsSoundRequest request → number_of name (shown_shapes lines hosts) ≡ Some h
         → slice_get hosts h ≡ Some host

@@ -19,7 +19,7 @@ use Rattle.fam_journal.specs.Members.{index_of}
 use Rattle.fam_journal.specs.Shapes.{HostShape, makes_told, refusal_told, shown_shapes}
 use Rattle.fam_journal.proofs.Calls.Declares.{none_passes}
 use Rattle.fam_journal.proofs.Calls.Tests.{at_most, below_of, no_busy, no_cause, no_same, no_when, or_first, or_next}
-use Rattle.fam_judge.specs.Standing.{AtNamed, Face, HasRoom, IsDeclared, IsNotBefore, MayMake, MayRefuse, engaged_in, faces, number_in, same_in}
+use Rattle.fam_judge.specs.Standing.{AtNamed, Face, HasSystemRoom, IsDeclaredName, IsNotBefore, MayMake, MayRefuseCall, engaged_in, faces, host_number_in, same_in}
 use Rattle.fam_judge.proofs.Standing.Faces.{IsFirst, at_named, count_faced, either_left, engaged_faced, index_found, keeps_face, keeps_faced, lines_faced, number_faced, runs_face, runs_faced, same_faced}
 use Rattle.fam_judge.proofs.Standing.Sizes.{Numbers, bad, need_found, numbers, pass, room_of, small}
 
@@ -64,15 +64,15 @@ module _ (lines : ℕ) (hosts : List HostShape) where
   all = faces hosts
 
   -- the row of a cause
-  row : (name : List ℕ) (cause w : Refusal) → cause ≡ w → MayRefuse lines all name cause → MayRefuse lines all name w
-  row name cause w e is = subst (MayRefuse lines all name) e is
+  row : (name : List ℕ) (cause w : Refusal) → cause ≡ w → MayRefuseCall lines all name cause → MayRefuseCall lines all name w
+  row name cause w e is = subst (MayRefuseCall lines all name) e is
 
   -- The host that was asked.
 
   -- it is declared
   pub record Asked (name : List ℕ) (k : ℕ) : Type 0 where
     pub host : Face
-    pub named : number_in name all ≡ Some k
+    pub named : host_number_in name all ≡ Some k
     pub is : slice_get all k ≡ Some host
 
   -- it has a face
@@ -88,7 +88,7 @@ module _ (lines : ℕ) (hosts : List HostShape) where
     of_asked P holds = at_named name all P k at.host at.named at.is holds
 
     -- it is declared
-    pub declared : IsDeclared name all
+    pub declared : IsDeclaredName name all
     declared = of_asked (λ n f. ⊤) tt
 
     -- it runs a command, or none
@@ -102,23 +102,23 @@ module _ (lines : ℕ) (hosts : List HostShape) where
     -- Causes of calls for it.
 
     -- a command that begins
-    pub begins_row : (mount : Bool) (w : Refusal) → begins_refusal k mount m ≡ Some w → MayRefuse lines all name w
+    pub begins_row : (mount : Bool) (w : Refusal) → begins_refusal k mount m ≡ Some w → MayRefuseCall lines all name w
     begins_row mount w e = or_cause _ _ w e few next
       where
-        few : when (nat_lt (length m.memory) least_lines) (why.ImageSmall (length m.memory)) ≡ Some w → MayRefuse lines all name w
+        few : when (nat_lt (length m.memory) least_lines) (why.ImageSmall (length m.memory)) ≡ Some w → MayRefuseCall lines all name w
         few e =
             let is = when_some _ _ w e in
             row name (why.ImageSmall (length m.memory)) w is.1
             (declared, lines_faced lines hosts, subst (λ (n : ℕ). n < least_lines) (lines_faced lines hosts) (passes_lt _ _ is.0))
 
         next : when (nat_lt (length m.memory) least_lines) (why.ImageSmall (length m.memory)) ≡ None
-            → or_else (when (busy_at k m) (why.Busy (record { 0 = k }))) (when (mount && keeps_at k m) why.Mounted) ≡ Some w → MayRefuse lines all name w
+            → or_else (when (busy_at k m) (why.Busy (record { 0 = k }))) (when (mount && keeps_at k m) why.Mounted) ≡ Some w → MayRefuseCall lines all name w
         next none e = or_cause _ _ w e busy kept
           where
-            busy : when (busy_at k m) (why.Busy (record { 0 = k })) ≡ Some w → MayRefuse lines all name w
+            busy : when (busy_at k m) (why.Busy (record { 0 = k })) ≡ Some w → MayRefuseCall lines all name w
             busy e = let is = when_some _ _ w e in row name (why.Busy (record { 0 = k })) w is.1 (inl (of_asked _ (refl, runs_asked true is.0)))
 
-            kept : when (busy_at k m) (why.Busy (record { 0 = k })) ≡ None → when (mount && keeps_at k m) why.Mounted ≡ Some w → MayRefuse lines all name w
+            kept : when (busy_at k m) (why.Busy (record { 0 = k })) ≡ None → when (mount && keeps_at k m) why.Mounted ≡ Some w → MayRefuseCall lines all name w
             kept idle e =
                 let is = when_some _ _ w e in
                 row name why.Mounted w is.1 (
@@ -139,17 +139,17 @@ module _ (lines : ℕ) (hosts : List HostShape) where
         )
 
     -- operations, and a stop
-    pub idle_row : (w : Refusal) → idle_refusal k m ≡ Some w → MayRefuse lines all name w
+    pub idle_row : (w : Refusal) → idle_refusal k m ≡ Some w → MayRefuseCall lines all name w
     idle_row w e = let is = when_some _ _ w e in row name why.Idle w is.1 (of_asked _ (runs_asked false (not_true _ is.0)))
 
     -- an umount
-    pub umounts_row : (w : Refusal) → umounts_refusal k m ≡ Some w → MayRefuse lines all name w
+    pub umounts_row : (w : Refusal) → umounts_refusal k m ≡ Some w → MayRefuseCall lines all name w
     umounts_row w e = or_cause _ _ w e busy kept
       where
-        busy : when (busy_at k m) (why.Busy (record { 0 = k })) ≡ Some w → MayRefuse lines all name w
+        busy : when (busy_at k m) (why.Busy (record { 0 = k })) ≡ Some w → MayRefuseCall lines all name w
         busy e = let is = when_some _ _ w e in row name (why.Busy (record { 0 = k })) w is.1 (inl (of_asked _ (refl, runs_asked true is.0)))
 
-        kept : when (busy_at k m) (why.Busy (record { 0 = k })) ≡ None → when (not (keeps_at k m)) why.NotMounted ≡ Some w → MayRefuse lines all name w
+        kept : when (busy_at k m) (why.Busy (record { 0 = k })) ≡ None → when (not (keeps_at k m)) why.NotMounted ≡ Some w → MayRefuseCall lines all name w
         kept idle e =
             let is = when_some _ _ w e in
             row name why.NotMounted w is.1 (of_asked _ (runs_asked false (no_when _ _ idle), keeps_asked false (not_true _ is.0)))
@@ -162,7 +162,7 @@ module _ (lines : ℕ) (hosts : List HostShape) where
     )
 
     -- a cache's move
-    pub line_row : (line : ℕ) (w : Refusal) → line_refusal line m ≡ Some w → MayRefuse lines all name w
+    pub line_row : (line : ℕ) (w : Refusal) → line_refusal line m ≡ Some w → MayRefuseCall lines all name w
     line_row line w e =
         let is = when_some _ _ w e in
         row name (why.NoLine line (length m.memory)) w is.1
@@ -173,17 +173,17 @@ module _ (lines : ℕ) (hosts : List HostShape) where
     line_free line e = subst (λ (n : ℕ). line < n) (lines_faced lines hosts) (below_of _ _ (no_when _ _ e))
 
     -- a file system that is made
-    pub makes_row : (unit log : ℕ) (w : Refusal) → makes_told unit log m ≡ Some w → MayRefuse lines all name w
+    pub makes_row : (unit log : ℕ) (w : Refusal) → makes_told unit log m ≡ Some w → MayRefuseCall lines all name w
     makes_row unit log w e = by (numbers unit log (line_bytes * length m.memory))
       where
         rest : Option EarlyRefusal → Option Refusal
         rest o = or_else (option_map cause_of o) (busy_refusal (index_of is_engaged m.hosts))
 
-        busy : HasRoom lines → (o : Option ℕ) → engaged_in all ≡ o → busy_refusal o ≡ Some w → MayRefuse lines all name w
+        busy : HasSystemRoom lines → (o : Option ℕ) → engaged_in all ≡ o → busy_refusal o ≡ Some w → MayRefuseCall lines all name w
         busy room None first e = absurd cc
         busy room (Some h) first e = row name (why.Busy (record { 0 = h })) w (same_Some _ w e) (inr (declared, room, first))
 
-        by : Numbers unit log (line_bytes * length m.memory) → MayRefuse lines all name w
+        by : Numbers unit log (line_bytes * length m.memory) → MayRefuseCall lines all name w
         by (bad odd is) = row name (why.BadGeometry unit log) w (same_Some (why.BadGeometry unit log) w (sym (ap rest is) ∙ e)) (declared, odd)
         by (small shaped low is) =
             row name (why.TooSmall (need log unit) (line_bytes * length m.memory)) w (same_Some _ w (sym (ap rest is) ∙ e))
@@ -220,11 +220,11 @@ module _ (lines : ℕ) (hosts : List HostShape) where
   -- By a name.
 
   -- none is declared, or the host that is asked refuses
-  pub on_row : (name : List ℕ) (P : ℕ → Option Refusal) → ((k : ℕ) → Asked name k → (w : Refusal) → P k ≡ Some w → MayRefuse lines all name w)
-      → (w : Refusal) → on_host (number_of name m) P ≡ Some w → MayRefuse lines all name w
+  pub on_row : (name : List ℕ) (P : ℕ → Option Refusal) → ((k : ℕ) → Asked name k → (w : Refusal) → P k ≡ Some w → MayRefuseCall lines all name w)
+      → (w : Refusal) → on_host (number_of name m) P ≡ Some w → MayRefuseCall lines all name w
   on_row name P each w e = by (number_of name m) refl e
     where
-      by : (o : Option ℕ) → number_of name m ≡ o → on_host o P ≡ Some w → MayRefuse lines all name w
+      by : (o : Option ℕ) → number_of name m ≡ o → on_host o P ≡ Some w → MayRefuseCall lines all name w
       by None number e = row name why.NoHost w (same_Some why.NoHost w e) (sym (number_faced lines hosts name) ∙ number)
       by (Some k) number e = each k (asked name k number) w e
 
@@ -250,17 +250,17 @@ module _ (lines : ℕ) (hosts : List HostShape) where
     test f = path_eq f.name name || path_eq f.uuid uuid
 
     -- a host of the name is one of the name or the UUID
-    pub not_named : same_in name uuid all ≡ None → number_in name all ≡ None
-    not_named none = by (number_in name all) refl
+    pub not_named : same_in name uuid all ≡ None → host_number_in name all ≡ None
+    not_named none = by (host_number_in name all) refl
       where
-        by : (o : Option ℕ) → number_in name all ≡ o → number_in name all ≡ None
+        by : (o : Option ℕ) → host_number_in name all ≡ o → host_number_in name all ≡ None
         by None e = e
         by (Some k) e =
             let found = index_found (λ (f : Face). path_eq f.name name) all k e in
             let other : path_eq found.member.name name ≡ false = either_left _ _ (none_passes test all 0 none k found.member found.is) in
             let passes = found.passes in absurd cc
 
-    not_before : (h : ℕ) → IsFirst test all h → (o : Option ℕ) → number_in name all ≡ o → IsNotBefore h o
+    not_before : (h : ℕ) → IsFirst test all h → (o : Option ℕ) → host_number_in name all ≡ o → IsNotBefore h o
     not_before h first None e = tt
     not_before h first (Some k) e = elim (cases_lt k h) [
       | inl low ↦
@@ -271,7 +271,7 @@ module _ (lines : ℕ) (hosts : List HostShape) where
     ]
 
     -- a host that is declared
-    pub declares_row : (w : Refusal) → refusal_told (call.Declares name uuid) lines hosts ≡ Some w → MayRefuse lines all name w
+    pub declares_row : (w : Refusal) → refusal_told (call.Declares name uuid) lines hosts ≡ Some w → MayRefuseCall lines all name w
     unfolding refusal_of
     declares_row w e =
         or_cause _ _ w e (λ e. same (same_in name uuid all) refl (sym (ap same_refusal (same_faced lines hosts name uuid)) ∙ e))
@@ -282,11 +282,11 @@ module _ (lines : ℕ) (hosts : List HostShape) where
           subst (λ (n : ℕ). host_limit ≤ n) (count_faced lines hosts) (passes_le _ _ is.0),
         ))
       where
-        same : (o : Option ℕ) → same_in name uuid all ≡ o → same_refusal o ≡ Some w → MayRefuse lines all name w
+        same : (o : Option ℕ) → same_in name uuid all ≡ o → same_refusal o ≡ Some w → MayRefuseCall lines all name w
         same None first e = absurd cc
         same (Some h) first e =
             let found = index_found test all h first in
-            row name (why.SameHost (record { 0 = h })) w (same_Some _ w e) (slice_get_within all h found.member found.is, not_before h found (number_in name all) refl)
+            row name (why.SameHost (record { 0 = h })) w (same_Some _ w e) (slice_get_within all h found.member found.is, not_before h found (host_number_in name all) refl)
 
     -- it is new, and there is room for it
     pub declares_free : refusal_told (call.Declares name uuid) lines hosts ≡ None → (same_in name uuid all ≡ None) × (length all < host_limit)

@@ -24,7 +24,7 @@ use Rattle.fam_journal.specs.Notes.{Refused}
 use Rattle.fam_journal.specs.Shapes.{AtShape, FreeShape, HostShape, makes_told, refusal_told, shown_shapes}
 use Rattle.fam_journal.proofs.Calls.Declares.{none_passes}
 use Rattle.fam_judge.specs.Formed.{IsFormedNote}
-use Rattle.fam_judge.specs.Standing.{AreDistinct, Face, IsNotBefore, MayAsk, MayMake, MayRefuse, engaged_in, faces, number_in, same_in}
+use Rattle.fam_judge.specs.Standing.{AreDistinctHosts, Face, IsNotBefore, MayAsk, MayMake, MayRefuseCall, engaged_in, faces, host_number_in, same_in}
 use Rattle.fam_judge.proofs.Standing.Asking.{at_shape, begins_is, begins_small, found_number, idle_is, le_fails, le_passes, line_is, makes_is, on_passes, on_refused, refused_by, refused_shape, shape_of, umounts_is}
 use Rattle.fam_judge.proofs.Standing.Faces.{IsNamed, count_faced, index_found, index_is, index_none, named_of, number_faced, other_text, same_faced, text_same}
 use Rattle.fam_judge.proofs.Standing.Fresh.{fresh_uuid}
@@ -50,7 +50,7 @@ module _ (lines : ℕ) (hosts : List HostShape) (name : List ℕ) where
 
   -- None of the name.
 
-  no_host : number_in name (faces hosts) ≡ None → Formed why.NoHost
+  no_host : host_number_in name (faces hosts) ≡ None → Formed why.NoHost
   unfolding refusal_of
   no_host none =
       refused_by lines hosts name why.NoHost (event.Halt name) tt
@@ -63,14 +63,14 @@ module _ (lines : ℕ) (hosts : List HostShape) (name : List ℕ) where
   test uuid f = path_eq f.name name || path_eq f.uuid uuid
 
   -- no host before h has the name
-  before_h : (h : ℕ) (o : Option ℕ) → number_in name (faces hosts) ≡ o → IsNotBefore h o → (l : ℕ) (f : Face) → l < h → slice_get (faces hosts) l ≡ Some f
+  before_h : (h : ℕ) (o : Option ℕ) → host_number_in name (faces hosts) ≡ o → IsNotBefore h o → (l : ℕ) (f : Face) → l < h → slice_get (faces hosts) l ≡ Some f
       → path_eq f.name name ≡ false
   before_h h None e is l f low at = none_passes (λ (g : Face). path_eq g.name name) (faces hosts) 0 e l f at
   before_h h (Some k) e is l f low at = (index_found (λ (g : Face). path_eq g.name name) (faces hosts) k e).first l f (omega (arith, is, low)) at
 
-  module _ (distinct : AreDistinct (faces hosts)) where
+  module _ (distinct : AreDistinctHosts (faces hosts)) where
     -- host h's own UUID is declared again
-    same_host : (h : ℕ) (f : Face) → slice_get (faces hosts) h ≡ Some f → IsNotBefore h (number_in name (faces hosts)) → Formed (why.SameHost (record { 0 = h }))
+    same_host : (h : ℕ) (f : Face) → slice_get (faces hosts) h ≡ Some f → IsNotBefore h (host_number_in name (faces hosts)) → Formed (why.SameHost (record { 0 = h }))
     unfolding refusal_of
     same_host h f is before =
         refused_by lines hosts name (why.SameHost (record { 0 = h })) (event.Host name f.uuid) (distinct.uuids h f is)
@@ -83,12 +83,12 @@ module _ (lines : ℕ) (hosts : List HostShape) (name : List ℕ) where
           is = is;
           passes = either_true (path_eq f.name name) (path_eq f.uuid f.uuid) (text_same f.uuid f.uuid refl);
           first = λ l g low at.
-              either_false (path_eq g.name name) (path_eq g.uuid f.uuid) (before_h h (number_in name (faces hosts)) refl before l g low at)
+              either_false (path_eq g.name name) (path_eq g.uuid f.uuid) (before_h h (host_number_in name (faces hosts)) refl before l g low at)
               (other_text g.uuid f.uuid (λ e. absurd (let same : l ≡ h = distinct.apart l h g f at is e in omega (arith, same, low))));
         })
 
     -- a new one, where there are as many as may be
-    too_many : number_in name (faces hosts) ≡ None → host_limit ≤ length (faces hosts) → Formed why.TooManyHosts
+    too_many : host_number_in name (faces hosts) ≡ None → host_limit ≤ length (faces hosts) → Formed why.TooManyHosts
     unfolding refusal_of
     too_many none many =
         let new = fresh_uuid (faces hosts) distinct.few in
@@ -232,7 +232,7 @@ module _ (lines : ℕ) (hosts : List HostShape) (name : List ℕ) where
 
   -- By the cause.
 
-  module _ (distinct : AreDistinct (faces hosts)) where
+  module _ (distinct : AreDistinctHosts (faces hosts)) where
     least_free : MayMake lines (faces hosts) → makes_told least_unit least_unit (shown_shapes lines hosts) ≡ None
     least_free may = makes_passes lines hosts least_unit least_unit (least_passes lines may.0) may.1
 
@@ -241,7 +241,7 @@ module _ (lines : ℕ) (hosts : List HostShape) (name : List ℕ) where
     asks what w plain unfit may = let at = named_of name (faces hosts) _ may.1 in unfit_source _ at what w plain unfit may.0 at.holds
 
     -- whatever the cause is
-    pub refused_formed : (w : Refusal) → MayRefuse lines (faces hosts) name w → Formed w
+    pub refused_formed : (w : Refusal) → MayRefuseCall lines (faces hosts) name w → Formed w
     refused_formed why.NoHost is = no_host is
     refused_formed (why.SameHost host) is =
         let f = has_member (faces hosts) host.0 is.0 in same_host distinct host.0 f.0 f.1 is.1

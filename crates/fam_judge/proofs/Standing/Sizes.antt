@@ -13,7 +13,7 @@ use Rattle.fam_format.proofs.UnitPowers.{unit_told}
 use Rattle.fam_machine.specs.Mkfs.{BadGeometry, TooSmall, early_refusal, is_geometry}
 use Rattle.fam_rules.specs.Place.{line_bytes}
 use Rattle.fam_journal.proofs.Calls.Tests.{at_most, both_first, both_next}
-use Rattle.fam_judge.specs.Standing.{HasRoom, is_need, leaves_log, units}
+use Rattle.fam_judge.specs.Standing.{HasSystemRoom, is_need, leaves_log, units}
 
 -- What is refused of the numbers.
 
@@ -63,7 +63,7 @@ long_log unit log some more whole = elim (cases_lt log unit) [
 ]
 
 -- where one fits, the smallest does
-pub room_of : (unit log lines : ℕ) → is_geometry unit log ≡ true → need log unit ≤ line_bytes * lines → HasRoom lines
+pub room_of : (unit log lines : ℕ) → is_geometry unit log ≡ true → need log unit ≤ line_bytes * lines → HasSystemRoom lines
 room_of unit log lines geometry fits =
     let unit_is = unit_told unit (both_first (is_unit unit) (is_log_length unit log) geometry) in
     let log_is = both_next (is_unit unit) (is_log_length unit log) geometry in
@@ -72,7 +72,7 @@ room_of unit log lines geometry fits =
     omega (arith, least, long, fits)
 
 -- the smallest is refused nothing where it fits
-pub least_passes : (lines : ℕ) → HasRoom lines → early_refusal least_unit least_unit (line_bytes * lines) ≡ None
+pub least_passes : (lines : ℕ) → HasSystemRoom lines → early_refusal least_unit least_unit (line_bytes * lines) ≡ None
 least_passes lines fits = by (numbers least_unit least_unit (line_bytes * lines))
   where
     by : Numbers least_unit least_unit (line_bytes * lines) → early_refusal least_unit least_unit (line_bytes * lines) ≡ None

@@ -20,7 +20,7 @@ use Rattle.fam_journal.specs.Notes.{Note, Host, Made, Cut, Start, Mark, Found, W
 use Rattle.fam_journal.specs.Shapes.{AtShape, HostShape, OfRunning, TaskNote, refusal_told, shown_shapes}
 use Rattle.fam_judge.specs.Alike.{Begins}
 use Rattle.fam_judge.specs.Formed.{HasPlace, IsFormedNote, IsSoundNote}
-use Rattle.fam_judge.specs.Standing.{AreDistinct, Face, IsFormedAs, MayDeclare, MayStand, face, faces, is_told_mount}
+use Rattle.fam_judge.specs.Standing.{AreDistinctHosts, Face, IsFormedAs, MayDeclare, MayStand, face, faces, is_told_mount}
 use Rattle.fam_judge.proofs.Following.{note_runs}
 use Rattle.fam_judge.proofs.Forming.{task_formed}
 use Rattle.fam_judge.proofs.Standing.Asking.{at_shape, begins_is, free_shape, idle_is, le_fails, on_passes, own_number, shape_of, umounts_is}
@@ -47,7 +47,7 @@ module _ (lines : ℕ) (hosts : List HostShape) where
       (ap₂ (λ (o : Option ℕ) (b : Bool). or_else (same_refusal o) (when b why.TooManyHosts)) (same_faced lines hosts name uuid ∙ is.1)
       (ap (λ (n : ℕ). nat_le host_limit n) (count_faced lines hosts) ∙ le_fails host_limit (length (faces hosts)) is.2)) refl) tt tt
 
-  module _ (distinct : AreDistinct (faces hosts)) where
+  module _ (distinct : AreDistinctHosts (faces hosts)) where
     module _ (h : ℕ) (P : Face → Type 0) (own : HasFace (slice_get (faces hosts) h) P) where
       number : number_of own.host.name (shown_shapes lines hosts) ≡ Some h
       number = own_number lines hosts distinct h own.host own.is

@@ -1,9 +1,9 @@
 use Rattle.std.proofs.Common.{◌≡◌, drop}
 use Rattle.fam_base.specs.PathOrder.{path_eq}
-use Rattle.fam_judge.specs.Standing.{number_in}
+use Rattle.fam_judge.specs.Standing.{host_number_in}
 use Rattle.fam_journal.specs.Members.{index_from}
 use Rattle.fam_lines.specs.Hosts.{faces_of}
 use Rattle.fam_lines.proofs.host.number_in.Given as goal
 
 abbrev pub invariant-loop-at : goal.invariant-loop-at
-invariant-loop-at l = index_from l.at (λ f. path_eq f.name l.name) (faces_of (drop l.at l.hosts)) ≡ number_in l.name (faces_of l.hosts)
+invariant-loop-at l = index_from l.at (λ f. path_eq f.name l.name) (faces_of (drop l.at l.hosts)) ≡ host_number_in l.name (faces_of l.hosts)

@@ -7,10 +7,12 @@ pub returns-in-Some : goal.returns-in-Some
 returns-in-Some c =
     let found = c.line-found in
     let wanted = c.line-wanted in
-    let at = c.in-Some.field-0 in
-    (λ h. absurd (true≢false (sym h)), λ same.
-      absurd (one_differs c.args.a.now c.args.b.now c.args.end c.lines.j found.result wanted.result c.holds_bytes.ensures c.holds_bytes-2.ensures
-      (found.ensures.line c.lines.j c.lines.invariant.first) (wanted.ensures.line c.lines.j c.lines.invariant.second) at.0 at.1 at.2 c.in-Some.ensures same))
+    let at = c.in-Some.field-0 in (
+      λ h. absurd (true≢false (sym h)),
+      λ same.
+          absurd (one_differs c.args.a.now c.args.b.now c.args.end c.lines.j found.result wanted.result c.holds_bytes.ensures c.holds_bytes-2.ensures
+          (found.ensures.line c.lines.j c.lines.invariant.first) (wanted.ensures.line c.lines.j c.lines.invariant.second) at.0 at.1 at.2 c.in-Some.ensures same),
+    )
 
 pub lines-preserved : goal.lines-preserved
 lines-preserved c =

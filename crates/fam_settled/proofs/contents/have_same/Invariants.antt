@@ -7,5 +7,5 @@ abbrev pub invariant-lines : goal.invariant-lines
 invariant-lines l = record {
   first : StreamStandsFor l.first l.a l.j;
   second : StreamStandsFor l.second l.b l.j;
-  same : (i : ℕ) → i < 64 * l.j → i < l.end → content_byte l.a i ≡ content_byte l.b i
+  same : (i : ℕ) → i < 64 * l.j → i < l.end → content_byte l.a i ≡ content_byte l.b i;
 }

@@ -2,7 +2,7 @@ use Rattle.std.proofs.Common.{[], ◌∷◌, ◌++◌, ◌<◌, length, sym, ap,
 use Rattle.fam_format.specs.Slot.{Proper}
 use Rattle.fam_rules.specs.Asks.{entries_of}
 use Rattle.fam_plan.specs.State.{MayBeAdded, PlanState}
-use Rattle.fam_settled.specs.Settled.{MayPend, Settled, all_of}
+use Rattle.fam_settled.specs.Settled.{MayPend, SettledLog, settled_and_pending}
 use Rattle.fam_settled.proofs.Files.{entries-with_pending, entries_behind}
 use Rattle.fam_settled.proofs.log.Log.with_pending.Goals as goal
 
@@ -13,14 +13,14 @@ returns-in-Ok-clause-entries c =
     c.in-Ok.ensures.added
     ∙ ap (λ (p : PlanState). p.entries ++ e ∷ []) c.in_ok-plan.ensures
     ∙ sym (entries-with_pending own.plan.entries own.bytes.value.items own.pending ∙ ap (entries_behind own.plan.entries) c.in-Some.is)
-    ∙ ap (λ (s : Settled). entries_of (all_of s)) c.self.view_is
+    ∙ ap (λ (s : SettledLog). entries_of (settled_and_pending s)) c.self.view_is
 
 pub returns-in-None-clause-entries : goal.returns-in-None-clause-entries
 returns-in-None-clause-entries c =
     let own = c.self.inside in
     ap (λ (p : PlanState). p.entries) c.in_ok-plan.ensures
     ∙ sym (entries-with_pending own.plan.entries own.bytes.value.items own.pending ∙ ap (entries_behind own.plan.entries) c.in-None.is)
-    ∙ ap (λ (s : Settled). entries_of (all_of s)) c.self.view_is
+    ∙ ap (λ (s : SettledLog). entries_of (settled_and_pending s)) c.self.view_is
 
 pub add-requires-clause-proper : goal.add-requires-clause-proper
 add-requires-clause-proper c =
