@@ -78,6 +78,7 @@ shown_reached start (line ∷ history) (y ∷ notes) (inl here) x c over apart w
     (apart_after start (length start) c (untold_note y) apart fitting.0) (wishes_after start (length start) c (untold_note y) wishes fitting.0) fitting.2 in
     record { state = more.state; leads = (next.next, subst (λ (z : Note). MayLead start x z next.next) (sym (alike_untold line y here.0)) next.leads, more.leads) }
 shown_reached start (line ∷ history) (y ∷ notes) (inr out) x c over apart wishes fitting =
-    let more = shown_reached start (line ∷ history) notes out.1 x (after_note start c (untold_note y)) (inner_over start x c apart over (untold_note y) (inner_is y out.0) (length start) fitting.0 fitting.1)
+    let more = shown_reached start (line ∷ history) notes out.1 x (after_note start c (untold_note y))
+    (inner_over start x c apart over (untold_note y) (inner_is y out.0) (length start) fitting.0 fitting.1)
     (apart_after start (length start) c (untold_note y) apart fitting.0) (wishes_after start (length start) c (untold_note y) wishes fitting.0) fitting.2 in
     record { state = more.state; leads = more.leads }

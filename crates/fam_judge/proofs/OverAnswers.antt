@@ -170,9 +170,11 @@ module _ (start : Image) (x c : Possible) (d : Direct x c) (h : ℕ) (given : Re
         state = same (sym state);
         later = later;
         may = shape_there now f like there task runs cmd
-            (subst (λ (s : CommandStage). ReplyShape me both.other_task.cmd s given) (sym met) (shape_met me both.other_task.cmd m n given (subst (λ (s : CommandStage). ReplyShape me both.other_task.cmd s given) is shape)));
+            (subst (λ (s : CommandStage). ReplyShape me both.other_task.cmd s given) (sym met)
+            (shape_met me both.other_task.cmd m n given (subst (λ (s : CommandStage). ReplyShape me both.other_task.cmd s given) is shape)));
         placed = place_there now f like there task runs cmd
-            (subst (λ (s : CommandStage). ReplyPlace both.other_task.cmd s given) (sym met) (place_met both.other_task.cmd m n given (subst (λ (s : CommandStage). ReplyPlace both.other_task.cmd s given) is place)));
+            (subst (λ (s : CommandStage). ReplyPlace both.other_task.cmd s given) (sym met)
+            (place_met both.other_task.cmd m n given (subst (λ (s : CommandStage). ReplyPlace both.other_task.cmd s given) is place)));
         fits = fits_there now f like there task runs cmd (same (sym state)) (record {
           wrote = λ seq e. absurd (no_append (Met n) is (met_named n) seq e);
           decided = λ why e decline. sym state;

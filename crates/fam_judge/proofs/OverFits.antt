@@ -11,7 +11,7 @@ use Rattle.fam_rules.specs.Reply as reply
 use Rattle.fam_rules.specs.Reply.{Reply}
 use Rattle.fam_rules.specs.ReportLaws.{IsSoundReport}
 use Rattle.fam_journal.specs.Legal.{AppendedAllowed, CauseAllowed, DamageAllowed, HasParams, InBounds, IsAcknowledged, IsReportOf, ReportAllowed, DecideAllowed}
-use Rattle.fam_journal.specs.Past.{Bad, BadHeader, BadSlot, Damage, HostPast, NoSuperblock, Sound, State, acknowledges, reported_count, shows, shows_count, with_pending, Origin, reply_count}
+use Rattle.fam_journal.specs.Past.{Bad, BadHeader, BadSlot, Damage, HostPast, NoSuperblock, Sound, State, acknowledges, reported_count, shows, with_pending, Origin, reply_count}
 use Rattle.fam_judge.specs.Covering.{FloorUnder, StateOver, dropped, joined, same}
 use Rattle.fam_judge.specs.Fitting.{IsFitting, QuestionFits, ReplyFits, AskFits}
 use Rattle.fam_judge.proofs.Over.{over_first, over_master}

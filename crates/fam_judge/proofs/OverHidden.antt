@@ -124,7 +124,8 @@ late_now start x c apart late =
       number = refl;
       direct = record {
         state = subst (λ (s : State). StateOver s c.state) (sym is.state) late.state;
-        hosts = subst (λ (l : List Progress). Pairs (HostOver (after_note start is.met (Writes late.host late.seq late.entry)).state) (after_note start is.met (Writes late.host late.seq late.entry)).hosts l)
+        hosts = subst (λ (l : List Progress). Pairs (HostOver (after_note start is.met (Writes late.host late.seq late.entry)).state)
+            (after_note start is.met (Writes late.host late.seq late.entry)).hosts l)
             (sym late.hosts) is.over.hosts;
       };
     }

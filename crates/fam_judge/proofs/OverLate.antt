@@ -111,7 +111,8 @@ module _ (start : Image) (x c : Possible) (l : Late start x c) where
     no_other apart seq e may fits =
         let q = running_at c j (λ me t. TaskNote j me t (Writes j seq e)) may in
         let other = write_says seq e q.host.told c.state (told_at start c j (λ host. WritesAllowed seq e host c.state) q.host q.is fits) in
-        let first : master_of (after_note start l.pre (Writes l.host l.seq l.entry)).state ≡ Some says.params.master = ap (λ (s : State). master_of (pends (named_file (cmd_of (slice_get (past_in start l.pre).hosts l.host)) l.entry) s)) says.is in
+        let first : master_of (after_note start l.pre (Writes l.host l.seq l.entry)).state ≡ Some says.params.master = ap
+        (λ (s : State). master_of (pends (named_file (cmd_of (slice_get (past_in start l.pre).hosts l.host)) l.entry) s)) says.is in
         let second : master_of c.state ≡ Some other.params.master = ap master_of other.is in
         let same_master : says.params.master ≡ other.params.master = same_Some says.params.master other.params.master (sym first ∙ over_master _ c.state l.state ∙ second) in
         ne (one_place c apart j l.host q.host (naming runs_pre.host) q.is there

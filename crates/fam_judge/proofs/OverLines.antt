@@ -12,7 +12,7 @@ use Rattle.fam_rules.specs.Reply.{Reply}
 use Rattle.fam_journal.specs.Legal.{AppendedAllowed, ReportAllowed}
 use Rattle.fam_journal.specs.Members.{changed_at}
 use Rattle.fam_journal.specs.Notes.{Answer, Replied, MediaFault, Note, Host, Made, Cut, Start, Mark, Found, Writes, Answered, Stop, Halt, Umount, Refused}
-use Rattle.fam_journal.specs.Past.{Bad, HostPast, Sound, State, acknowledges, ended_state, shows, shows_count, with_pending, reported_count}
+use Rattle.fam_journal.specs.Past.{HostPast, Sound, State, acknowledges, ended_state, shows_count, with_pending, reported_count}
 use Rattle.fam_journal.specs.Shapes.{Met, Pairs, TaskNote, TaskShape, keeps_behind}
 use Rattle.fam_judge.specs.Covering.{Direct, HostOver, StateOver}
 use Rattle.fam_judge.specs.Fitting.{AnswerFits, FitsNext, QuestionFits, ReplyFits}

@@ -155,7 +155,8 @@ found_later n s found = record { settled = settled_finds n s found; master = mas
 
 module _ (start : Image) (x c : Possible) (d : Direct x c) (h n : ℕ) (found : FoundAllowed n c.state) where
   found_both : (p q : Progress) → HostOver x.state p q → (a b : Option TaskShape) → TasksOver x.state a b p.told q.told
-      → (told_p told_q : HostPast) → TasksOver (finds n x.state) (option_map (λ (t : TaskShape). record t { stage = Met n }) a) (option_map (λ (t : TaskShape). record t { stage = Met n }) b) told_p told_q
+      → (told_p told_q : HostPast) → TasksOver (finds n x.state) (option_map (λ (t : TaskShape). record t { stage = Met n }) a)
+      (option_map (λ (t : TaskShape). record t { stage = Met n }) b) told_p told_q
   found_both p q over None None tasks told_p told_q = tt
   found_both p q over None (Some b) tasks told_p told_q = absurd tasks
   found_both p q over (Some a) None tasks told_p told_q = absurd tasks

@@ -16,7 +16,7 @@ use Rattle.fam_journal.specs.Shapes.{Begun, CommandStage, EntryShape, IsHead, Ma
 use Rattle.fam_judge.specs.Covering.{Direct, HostOver, StagesOver, StateOver, TasksOver, same}
 use Rattle.fam_judge.specs.Possible.{MeetsEntries, NonePends, Possible, Progress, after_note, past_in, shapes_in, shown_met, left_out_met}
 use Rattle.fam_judge.proofs.Folding.{told_in}
-use Rattle.fam_judge.proofs.Over.{over_met, over_none, over_settled, settled_finds, over_master}
+use Rattle.fam_judge.proofs.Over.{over_met, over_none, over_settled, over_master}
 use Rattle.fam_judge.proofs.OverHosts.{IsApart, LaterOf, host_later_of, one_place}
 use Rattle.fam_judge.proofs.OverOwn.{Both, both_run}
 use Rattle.fam_judge.proofs.Pairing.{pairs_step}
@@ -192,7 +192,8 @@ module _ (start : Image) (x c : Possible) (d : Direct x c) (apart : IsApart x) (
           state = next_state now (found both.host) there refl counted.1 ∙ sym left_state;
         }
       where
-        staged : (o : Option TaskShape) → option_map (λ (t : TaskShape). record t { stage = Named seq }) (option_map (λ (t : TaskShape). record t { stage = Met seq }) o) ≡ option_map (λ (t : TaskShape). record t { stage = Named seq }) o
+        staged : (o : Option TaskShape) → option_map (λ (t : TaskShape). record t { stage = Named seq })
+            (option_map (λ (t : TaskShape). record t { stage = Met seq }) o) ≡ option_map (λ (t : TaskShape). record t { stage = Named seq }) o
         staged None = refl
         staged (Some t) = refl
 

@@ -7,7 +7,7 @@ use Rattle.fam_base.specs.Image.{Image}
 use Rattle.fam_journal.specs.Legal.{WritesAllowed}
 use Rattle.fam_journal.specs.Members.{changed_at}
 use Rattle.fam_journal.specs.Notes.{Replied, MediaFault, Note, Host, Made, Cut, Start, Mark, Found, Writes, Answered, Stop, Halt, Umount, Refused}
-use Rattle.fam_journal.specs.Past.{HostPast, State, settled_length, state_after, pends, filled_bytes, cmd_of, Past}
+use Rattle.fam_journal.specs.Past.{HostPast, State, settled_length, pends, filled_bytes, cmd_of, Past}
 use Rattle.fam_journal.specs.Shapes.{Begun, CommandStage, Marked, Met, Named, OfRunning, Pairs, TaskNote, TaskShape, with_stage}
 use Rattle.fam_judge.specs.Fitting.{AnswerFits, FitsNext}
 use Rattle.fam_judge.specs.Formed.{AnswerPlace}
@@ -17,7 +17,7 @@ use Rattle.fam_judge.specs.Untold.{untold_note, untold_notes}
 use Rattle.fam_judge.proofs.Choices.{Chosen, IsBegun, as_it_is, at_mark, chosen_back, chosen_begins, chosen_last, faces_chosen, mark_came, no_mark_came, Begins}
 use Rattle.fam_judge.proofs.Folding.{shape_in}
 use Rattle.fam_journal.proofs.Shapes.Pairs.{pairs_at}
-use Rattle.fam_judge.proofs.Places.{Running, changed_is, changed_twice, running_at, runs_at, of_told}
+use Rattle.fam_judge.proofs.Places.{changed_is, changed_twice, running_at, runs_at, of_told}
 use Rattle.fam_judge.proofs.Realized.{real_before, real_reaches}
 use Rattle.fam_judge.proofs.Realizing.{ComesTo, IsRealized, IsRealizedAt, hidden_more, host_here, line_more, real_line, runs_here, told_here, with_hosts}
 use Rattle.fam_judge.proofs.Standing.Alike.{stands_seen}
@@ -63,7 +63,11 @@ module _ (start : Image) (lines : List Note) where
   own_line h now (Answered k (Replied given)) is told real may fits =
       let same : h ≡ k = same_Some h k (sym is) in
       real_line start lines k now (Answered k (Replied given)) _ refl (λ old. refl) (λ old e. refl)
-      (λ old e. (runs_here start lines k now old e (λ me t. TaskNote k me t (Answered k (Replied given))) may.0, runs_here start lines k now old e (λ me t. AnswerPlace t.cmd t.stage (Replied given)) may.1))
+      (λ old e. (
+        runs_here start lines k now old e (λ me t. TaskNote k me t (Answered k (Replied given))) may.0,
+        runs_here start lines k now old e
+            (λ me t. AnswerPlace t.cmd t.stage (Replied given)) may.1,
+      ))
       (λ old e. host_here start lines k now old e (λ host. AnswerFits (Replied given) host now.state) fits)
       (λ p at begun. none_begun begun.0 begun.1) (subst (λ (j : ℕ). IsRealizedAt start lines j now) same real)
   own_line h now (Answered k (MediaFault line)) is told real may fits = absurd cc
@@ -87,7 +91,8 @@ module _ (start : Image) (lines : List Note) where
     same_hosts : (y : Note) (s : State) → untold_note y ≡ y → is_own y ≡ false → MayStand (length start) (shapes_in x) y → ((p : Past) → FitsNext p y)
         → ((old : List Progress) → after_note start (with_hosts x old) y ≡ record { state = s; hosts = old }) → IsRealized start (lines ++ y ∷ []) (record { state = s; hosts = x.hosts })
     same_hosts y s told plain may fits is hosts pairs =
-        subst (ComesTo start (lines ++ y ∷ [])) (is hosts) (line_more start lines (with_hosts x hosts) y (real hosts pairs) told (stands_chosen hosts pairs y plain may) (fits (past_in start (with_hosts x hosts))))
+        subst (ComesTo start (lines ++ y ∷ [])) (is hosts) (line_more start lines (with_hosts x hosts) y (real hosts pairs) told (stands_chosen hosts pairs y plain may)
+        (fits (past_in start (with_hosts x hosts))))
 
     -- a host's command ends, or what it keeps
     ended_host : (h : ℕ) (y : Note) (f : Progress → Progress) → untold_note y ≡ y
@@ -133,7 +138,8 @@ module _ (start : Image) (lines : List Note) where
 
         begins : Begins h begin mark x.hosts hosts
         begins =
-            chosen_begins h begin mark (λ p. floor (begin p)) x.hosts hosts (λ p at. idle_begun p (face_at h _ may.1 p at).0) (λ p. (record { cmd = cmd; stage = Begun }, refl, refl)) (λ p. refl) (λ p. refl)
+            chosen_begins h begin mark (λ p. floor (begin p)) x.hosts hosts (λ p at. idle_begun p (face_at h _ may.1 p at).0)
+            (λ p. (record { cmd = cmd; stage = Begun }, refl, refl)) (λ p. refl) (λ p. refl)
             (subst (λ (l : List Progress). Pairs Chosen l hosts) (changed_twice h begin floor x.hosts) pairs)
 
         by : Begins h begin mark x.hosts hosts → ComesTo start (lines ++ Start h cmd ∷ []) (with_hosts x hosts)
@@ -146,7 +152,8 @@ module _ (start : Image) (lines : List Note) where
             running =
                 let p = host_of h _ may.1 in
                 let q = pairs_at Chosen x.hosts b.old h p.0 b.chosen p.1 in
-                runs_at (after_note start (with_hosts x b.old) (Start h cmd)) h (λ me t. TaskNote h me t (Mark h)) (begin q.0) (record { cmd = cmd; stage = Begun }) (changed_is h begin b.old q.0 q.1) refl (refl, refl)
+                runs_at (after_note start (with_hosts x b.old) (Start h cmd)) h (λ me t. TaskNote h me t (Mark h)) (begin q.0) (record { cmd = cmd; stage = Begun })
+                (changed_is h begin b.old q.0 q.1) refl (refl, refl)
 
             last : (changed_at h begin b.old ≡ hosts) ⊎ (changed_at h mark (changed_at h begin b.old) ≡ hosts) → ComesTo start (lines ++ Start h cmd ∷ []) (with_hosts x hosts)
             last (inl e) = subst (λ (l : List Progress). ComesTo start (lines ++ Start h cmd ∷ []) (with_hosts x l)) e first
@@ -158,8 +165,11 @@ module _ (start : Image) (lines : List Note) where
     media_runs h line may old pairs =
         let r = running_at x h (λ me t. TaskNote h me t (Answered h (MediaFault line))) may.0 in
         let q = pairs_at Chosen x.hosts old h r.host pairs r.is in
-        let t = runs_still r.host q.0 r.task r.runs q.2 in
-        (runs_at (with_hosts x old) h (λ me t. TaskNote h me t (Answered h (MediaFault line))) q.0 t.0 q.1 t.1 (refl, tt), runs_at (with_hosts x old) h (λ me t. AnswerPlace t.cmd t.stage (MediaFault line)) q.0 t.0 q.1 t.1 tt)
+        let t = runs_still r.host q.0 r.task r.runs q.2 in (
+          runs_at (with_hosts x old) h (λ me t. TaskNote h me t (Answered h (MediaFault line))) q.0 t.0 q.1 t.1 (refl, tt),
+          runs_at (with_hosts x old) h
+              (λ me t. AnswerPlace t.cmd t.stage (MediaFault line)) q.0 t.0 q.1 t.1 tt,
+        )
       where
         runs_still : (p q : Progress) (t : TaskShape) → p.shape.task ≡ Some t → Chosen p q → (u : TaskShape) × (q.shape.task ≡ Some u)
         runs_still p q t e (as_it_is none is) = (t, ap (λ (z : Progress). z.shape.task) is ∙ e)

@@ -8,7 +8,7 @@ use Rattle.fam_journal.specs.Members.{changed_at}
 use Rattle.fam_journal.specs.Notes.{Note, Found}
 use Rattle.fam_journal.specs.Shapes.{Begun, CommandStage, IsHead, Marked, Met, Named, Pairs, TaskNote, TaskShape, with_stage}
 use Rattle.fam_judge.specs.Possible.{MayHaveNamed, MeetsEntries, Possible, Progress, Reaches, StageIs, Wrote, after_note, as_is, marked, meets, stands, shown_met, unmarked, left_out_met, after_mark, written, wrote}
-use Rattle.fam_judge.proofs.Choices.{Chosen, IsBegun, at_mark, chosen_back, faces_chosen, floorless, mark_came, no_mark_came, as_it_is, ButOne, chosen_but}
+use Rattle.fam_judge.proofs.Choices.{Chosen, IsBegun, at_mark, ButOne, chosen_but}
 use Rattle.fam_judge.proofs.Members.{changed_same}
 use Rattle.fam_judge.proofs.Places.{Running, changed_is, changed_twice, running_at, runs_at}
 use Rattle.fam_judge.proofs.Realizing.{IsRealized, IsRealizedAt, begun_stage, real_found, real_marked, real_stands, real_unmarked, real_writes, stage_at}
@@ -49,11 +49,13 @@ module _ (start : Image) (lines : List Note) (h : ℕ) (x : Possible) (real : Is
       one : (p : Progress) → (record p { shape = with_stage (Met n) (with_stage Marked p.shape) }) ≡ (record p { shape = with_stage (Met n) p.shape })
       one p = ap (λ (o : Option TaskShape). record p { shape = record p.shape { task = o } }) (by p.shape.task)
         where
-          by : (o : Option TaskShape) → option_map (λ (t : TaskShape). record t { stage = Met n }) (option_map (λ (t : TaskShape). record t { stage = Marked }) o) ≡ option_map (λ (t : TaskShape). record t { stage = Met n }) o
+          by : (o : Option TaskShape) → option_map (λ (t : TaskShape). record t { stage = Met n }) (option_map (λ (t : TaskShape). record t { stage = Marked }) o) ≡ option_map
+              (λ (t : TaskShape). record t { stage = Met n }) o
           by None = refl
           by (Some t) = refl
 
-      same : (k : ℕ) (xs : List Progress) → changed_at k (λ (p : Progress). record p { shape = with_stage (Met n) (with_stage Marked p.shape) }) xs ≡ changed_at k (λ (p : Progress). record p { shape = with_stage (Met n) p.shape }) xs
+      same : (k : ℕ) (xs : List Progress) → changed_at k (λ (p : Progress). record p { shape = with_stage (Met n) (with_stage Marked p.shape) }) xs ≡ changed_at k
+          (λ (p : Progress). record p { shape = with_stage (Met n) p.shape }) xs
       same k [] = refl
       same Prim.Native.Nat.zero (p ∷ xs) = ap (λ (q : Progress). q ∷ xs) (one p)
       same (Prim.Native.Nat.suc k) (p ∷ xs) = ap (λ (l : List Progress). p ∷ l) (same k xs)
@@ -111,7 +113,11 @@ real_written start lines k x w real is =
     none : (p : Progress) → slice_get w.hosts k ≡ Some p → IsBegun p → ⊥
     none p at begun =
         let r = running_at is.met k _ is.may in
-        let there : slice_get w.hosts k ≡ Some (record r.host { told = record r.host.told { wrote = Some (record { seq = is.seq; entry = is.entry }) }; shape = with_stage (Named is.seq) r.host.shape }) =
+        let there : slice_get w.hosts k ≡ Some (record r.host {
+          told = record r.host.told { wrote = Some (record { seq = is.seq; entry = is.entry }) };
+          shape = with_stage
+              (Named is.seq) r.host.shape;
+        }) =
         ap (λ (z : Possible). slice_get z.hosts k) is.is ∙ changed_is k _ is.met.hosts r.host r.is in
         let one = same_Some p _ (sym at ∙ there) in
         begun_stage p (record r.task { stage = Named is.seq }) (Named is.seq)

@@ -22,7 +22,7 @@ use Rattle.fam_judge.proofs.OverHidden.{late_now}
 use Rattle.fam_judge.proofs.OverHosts.{IsApart, direct_below}
 use Rattle.fam_judge.proofs.OverLate.{inner_over}
 use Rattle.fam_judge.proofs.OverLines.{line_follows}
-use Rattle.fam_judge.proofs.Showing.{first_line, parts, shows_both, skipped, Parts, FirstLine}
+use Rattle.fam_judge.proofs.Showing.{first_line, parts, shows_both, Parts, FirstLine}
 use Rattle.fam_judge.proofs.OverPlain.{faces_over}
 use Rattle.fam_judge.proofs.Staying.{faces_pre, late_stays}
 use Rattle.fam_judge.proofs.Untelling.{alike_untold, untold_alike}

@@ -111,7 +111,8 @@ module _ (start : Image) (records : List Recorded) (hosts : List SeenHost) (xs :
         last = l.last;
         whole = l.whole;
         same = same;
-        kept = whole_note (length start) hosts (shapes_in s.covered) (past_in start s.covered) (untold_note l.last) (sym (faces_covered start s.state s.covered s.over) ∙ judging.seen s.state s.is) s.may s.fits;
+        kept = whole_note (length start) hosts (shapes_in s.covered) (past_in start s.covered) (untold_note l.last)
+            (sym (faces_covered start s.state s.covered s.over) ∙ judging.seen s.state s.is) s.may s.fits;
         told = untold_tells (seen_names hosts) r l.last (subst (λ (names : List (List ℕ)). RecordTells names r l.last) (judging.names l.front l.before) l.told);
       }
 

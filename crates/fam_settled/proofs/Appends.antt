@@ -65,7 +65,8 @@ module _ (s : SettledLog) (host : HostPast) (me : List ℕ) (c : Cmd) (uuid : ho
       )
 
   -- a path that is too long
-  long_so : (limit : ℕ) (o : Option Wish) → wish_of c ≡ o → option_map (decide_wish s.params me (entries_of (settled_files s))) o ≡ Some (Err (LongPath limit)) → IsLong limit host (settled_log_state s)
+  long_so : (limit : ℕ) (o : Option Wish) → wish_of c ≡ o → option_map (decide_wish s.params me (entries_of (settled_files s))) o ≡ Some (Err (LongPath limit))
+      → IsLong limit host (settled_log_state s)
   long_so limit None at is = absurd (let e = is in cc)
   long_so limit (Some w) at is =
       let refused : decide_wish s.params me (entries_of (settled_files s)) w ≡ Err (LongPath limit) = cc in

@@ -53,7 +53,8 @@ module _ (host : HostPast) (seq named : ℕ) (e : Entry) (wrote : host.wrote ≡
     pub pends_told : seq ≡ length s.entries → AppendedAllowed seq host (acknowledges seq (settled_log_state s)) ↔ (option_map (λ f. f.entry) s.pending ≡ Some e)
     pends_told at =
         let there : seq ≡ length (settled_files s) = at ∙ sym (length-files_of s.entries s.bytes) in
-        subst (λ (x : State). AppendedAllowed seq host x ↔ (option_map (λ f. f.entry) s.pending ≡ Some e)) (chosen seq (length (settled_files s)) (joined (settled_log_state s)) (settled_log_state s) there)
+        subst (λ (x : State). AppendedAllowed seq host x ↔ (option_map (λ f. f.entry) s.pending ≡ Some e))
+        (chosen seq (length (settled_files s)) (joined (settled_log_state s)) (settled_log_state s) there)
         (pending_told s.pending there)
 
     -- the last settled entry is this one

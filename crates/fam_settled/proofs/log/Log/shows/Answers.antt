@@ -11,7 +11,8 @@ pub returns-then-m-count-clause-shown : goal.returns-then-m-count-clause-shown
 returns-then-m-count-clause-shown c =
     let s = c.args.self.now in
     let same : c.args.m ≡ length (settled_files s) + 1 = omega (arith, c.if-m-gt0.true, c.if-m-count.true, c.count.ensures, length-files_of s.entries s.bytes) in
-    subst (λ (x : State). OnOk c.join.result (settled_log_state c.join.new.self ≡ x)) (chosen c.args.m (length (settled_files s) + 1) (joined (settled_log_state s)) (settled_log_state s) same) c.join.ensures.joined
+    subst (λ (x : State). OnOk c.join.result (settled_log_state c.join.new.self ≡ x))
+    (chosen c.args.m (length (settled_files s) + 1) (joined (settled_log_state s)) (settled_log_state s) same) c.join.ensures.joined
 
 pub returns-else-m-gt0-clause-shown : goal.returns-else-m-gt0-clause-shown
 returns-else-m-gt0-clause-shown c =
