@@ -71,7 +71,7 @@ abbrev pub RunsCommand : SeenHost → Option ToldCommand → Type 0
 RunsCommand seen None = seen.runs ≡ Rattle.std.specs.Prelude.false
 RunsCommand seen (Some cmd) = ⊤
 
--- so do all, and each host has its place among the commands
+-- so do all, and each host has its place among the commands, which are as many
 abbrev pub AreCommanded : List SeenHost → List (Option ToldCommand) → Type 0
 AreCommanded [] [] = ⊤
 AreCommanded [] (c ∷ cmds) = ⊥

@@ -1,2 +1,6 @@
 pub mod Candidates
 pub mod Texts
+pub mod After
+pub mod Going
+pub mod Told
+pub mod Plain

@@ -10,3 +10,11 @@ mod hosts;
 pub use candidate::{Candidate, Settled, Stage, Track, Wrote};
 pub use given::{Damage, GivenImage};
 pub use hosts::Hosts;
+
+mod commands;
+mod naming;
+mod plain;
+mod settled;
+mod steps;
+mod tasks;
+mod tracks;

@@ -1,0 +1,10 @@
+use Rattle.std.proofs.Common.{length, arith}
+use Rattle.fam_judging.specs.After.{begun_track}
+use Rattle.fam_judging.proofs.Keeping.{no_place, put_one}
+use Rattle.fam_judging.proofs.tracks.put_begun.Goals as goal
+
+pub returns-then-at-len : goal.returns-then-at-len
+returns-then-at-len c = put_one c.args.at c.args.tracks.now.items (begun_track c.args.settled)
+
+pub returns-else-at-len : goal.returns-else-at-len
+returns-else-at-len c = no_place c.args.at _ c.args.tracks.now.items (omega (arith, c.if-at-len.false, c.len.ensures))

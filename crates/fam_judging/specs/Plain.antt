@@ -1,0 +1,41 @@
+-- Lines that no running command gives.
+use Rattle.std.specs.Prelude.{⊤, ◌≡◌, false}
+use Rattle.fam_format.specs.Params.{IsUuid, SoundParams}
+use Rattle.fam_judge.specs.Standing.{is_own}
+use Rattle.fam_lines.specs.declared.line.Line.{Line}
+use Rattle.fam_lines.specs.declared.line.Line.TheVariants as line
+use Rattle.fam_lines.specs.Lines.{note_of_line}
+
+-- no running command gives the line
+abbrev pub IsPlain : Line → Type 0
+IsPlain l = is_own (note_of_line l) ≡ false
+
+-- a file system that the line says was made has sound parameters
+abbrev pub HasSoundMade : Line → Type 0
+HasSoundMade (line.Host name uuid) = ⊤
+HasSoundMade (line.Made h p) = SoundParams p
+HasSoundMade (line.Cut h k) = ⊤
+HasSoundMade (line.Start h cmd) = ⊤
+HasSoundMade (line.Mark h) = ⊤
+HasSoundMade (line.Found h n) = ⊤
+HasSoundMade (line.Writes h seq e) = ⊤
+HasSoundMade (line.Answered h answer) = ⊤
+HasSoundMade (line.Stop h) = ⊤
+HasSoundMade (line.Halt h) = ⊤
+HasSoundMade (line.Umount h) = ⊤
+HasSoundMade (line.Refused name why) = ⊤
+
+-- of one that it says was made the master has a UUID
+abbrev pub HasUuid : Line → Type 0
+HasUuid (line.Host name uuid) = ⊤
+HasUuid (line.Made h p) = IsUuid p.master
+HasUuid (line.Cut h k) = ⊤
+HasUuid (line.Start h cmd) = ⊤
+HasUuid (line.Mark h) = ⊤
+HasUuid (line.Found h n) = ⊤
+HasUuid (line.Writes h seq e) = ⊤
+HasUuid (line.Answered h answer) = ⊤
+HasUuid (line.Stop h) = ⊤
+HasUuid (line.Halt h) = ⊤
+HasUuid (line.Umount h) = ⊤
+HasUuid (line.Refused name why) = ⊤
