@@ -42,7 +42,7 @@ shapes_in x = map (λ (p : Progress). p.shape) x.hosts
 abbrev pub new_progress : List ℕ → List ℕ → Progress
 new_progress name uuid = record { told = new_host name uuid; shape = record { name = name; uuid = uuid; task = None; keeps = false } }
 
--- the hosts after_note a note; so much is settled before it
+-- the hosts after a note; so much is settled before it
 abbrev pub progress_after : ℕ → List Progress → Note → List Progress
 progress_after settled hosts (Host name uuid) = hosts ++ new_progress name uuid ∷ []
 progress_after settled hosts (Made h p) = hosts
@@ -61,11 +61,11 @@ progress_after settled hosts (Halt h) = changed_at h (λ p. record p { shape = r
 progress_after settled hosts (Umount h) = changed_at h (λ p. record p { shape = record p.shape { keeps = false } }) hosts
 progress_after settled hosts (Refused name cause) = hosts
 
--- after_note a note, as it stands in a journal
+-- after a note, as it stands in a journal
 abbrev pub after_note : Image → Possible → Note → Possible
 after_note start x note = record { state = state_after (past_in start x) note; hosts = progress_after (settled_length x.state) x.hosts note }
 
--- after_note a line of a history. Where a command begins, what is settled then is kept as for its mark
+-- after a line of a history. Where a command begins, what is settled then is kept as for its mark
 abbrev pub after_line : Image → Possible → Note → Possible
 after_line start x (Start h cmd) =
     record (after_note start x (Start h cmd)) { hosts = changed_at h (λ p. record p { told = record p.told { floor = Some (settled_length x.state) } }) (after_note start x (Start h cmd)).hosts }

@@ -1,4 +1,4 @@
-//! SettledLog entries in their order, and one that may follow them.
+//! Settled entries in their order, and one that may follow them.
 
 ghost use Rattle.std.specs.Prelude.{◌≡◌, ◌+◌, ◌++◌, ◌∷◌, IfOk, OnErr, OnOk, length, [], None};
 ghost use Rattle.fam_format.specs.Params.{SoundParams};
