@@ -20,4 +20,4 @@ found_more n settled (Some f) same = (λ h. inr same, λ p. refl)
 -- and no others
 pub found_none : (n settled : ℕ) (pending : Option Filed) → n ≢ settled → n ≢ settled + 1 → IsTrue false ↔ FoundPending n settled (filed pending)
 found_none n settled None other more = (λ h. absurd (true≢false (sym h)), λ p. absurd (other p))
-found_none n settled (Some f) other more = (λ h. absurd (true≢false (sym h)), λ p. absurd (elim p [ | inl same ↦ other same | inr same ↦ more same ]))
+found_none n settled (Some f) other more = (λ h. absurd (true≢false (sym h)), λ p. absurd (elim p [ inl same ↦ other same | inr same ↦ more same ]))

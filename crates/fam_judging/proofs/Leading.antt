@@ -33,6 +33,7 @@ head_stage (Some host) r = by host.task r
     at Marked is = inr refl
     at (Met n) is = absurd is
     at (Named seq) is = absurd is
+
     by : (task : Option TaskShape) → OfTask task (λ t. IsHead t.stage) → OfTask task (λ t. t.stage ≡ Begun) ⊎ OfTask task (λ t. t.stage ≡ Marked)
     by None r = absurd r
     by (Some t) r = at t.stage r
@@ -90,19 +91,19 @@ module _ (start : Image) (h : ℕ) (x : Possible) where
       let P : List ℕ → TaskShape → Type 0 = λ me t. TaskNote h me t (Found h n) in
       elim (reach_marked start h x s.now s.reaches (weaker there P (λ me t. t.stage ≡ Marked) (λ me t all. all.2) s.may)) [
         | inl back ↦ record {
-            head = weaker (slice_get (shapes_in x) h) (λ me t. t.stage ≡ Begun) (λ me t. IsHead t.stage) (λ me t is. subst IsHead (sym is) tt) back.0;
-            wishes = weaker (slice_get (shapes_in x) h) (λ me t. P me (record t { stage = Marked })) (λ me t. HasWish t.cmd) (λ me t all. all.1)
-                (behind_mark start h x P (subst (λ (z : Possible). OfRunning (slice_get (shapes_in z) h) P) back.1 s.may));
-            found = subst (λ (z : Possible). FoundAllowed n z.state) back.1 s.fits;
-            is = s.is ∙ ap (λ (z : Possible). after_note start z (Found h n)) back.1 ∙ found_twice n;
-          }
+          head = weaker (slice_get (shapes_in x) h) (λ me t. t.stage ≡ Begun) (λ me t. IsHead t.stage) (λ me t is. subst IsHead (sym is) tt) back.0;
+          wishes = weaker (slice_get (shapes_in x) h) (λ me t. P me (record t { stage = Marked })) (λ me t. HasWish t.cmd) (λ me t all. all.1)
+              (behind_mark start h x P (subst (λ (z : Possible). OfRunning (slice_get (shapes_in z) h) P) back.1 s.may));
+          found = subst (λ (z : Possible). FoundAllowed n z.state) back.1 s.fits;
+          is = s.is ∙ ap (λ (z : Possible). after_note start z (Found h n)) back.1 ∙ found_twice n;
+        }
         | inr same ↦
             let may = subst (λ (z : Possible). OfRunning (slice_get (shapes_in z) h) P) same s.may in record {
-            head = weaker (slice_get (shapes_in x) h) P (λ me t. IsHead t.stage) (λ me t all. subst IsHead (sym all.2) tt) may;
-            wishes = weaker (slice_get (shapes_in x) h) P (λ me t. HasWish t.cmd) (λ me t all. all.1) may;
-            found = subst (λ (z : Possible). FoundAllowed n z.state) same s.fits;
-            is = s.is ∙ ap (λ (z : Possible). after_note start z (Found h n)) same;
-          }
+              head = weaker (slice_get (shapes_in x) h) P (λ me t. IsHead t.stage) (λ me t all. subst IsHead (sym all.2) tt) may;
+              wishes = weaker (slice_get (shapes_in x) h) P (λ me t. HasWish t.cmd) (λ me t all. all.1) may;
+              found = subst (λ (z : Possible). FoundAllowed n z.state) same s.fits;
+              is = s.is ∙ ap (λ (z : Possible). after_note start z (Found h n)) same;
+            }
       ]
 
   -- the line leads there from a mark that stands with the start
@@ -140,7 +141,7 @@ module _ (start : Image) (h : ℕ) (x : Possible) where
   met_at seq met (shown_met n is e) stage = inl (subst (λ (z : Possible). StageIs (λ s. s ≡ Met seq) h z) e stage, e)
   met_at seq met (left_out_met n head wishes found e) stage =
       let same : n ≡ seq = always (slice_get (shapes_in x) h) n seq
-          (behind_found start h x n (λ me t. t.stage ≡ Met seq) (subst (λ (z : Possible). StageIs (λ s. s ≡ Met seq) h z) e stage)) in
+      (behind_found start h x n (λ me t. t.stage ≡ Met seq) (subst (λ (z : Possible). StageIs (λ s. s ≡ Met seq) h z) e stage)) in
       inr (record { head = head; wishes = wishes; found = subst (λ (k : ℕ). FoundAllowed k x.state) same found; is = e ∙ ap (λ (k : ℕ). after_note start x (Found h k)) same })
 
   -- and back

@@ -46,9 +46,11 @@ decided_wished p me list c e sound told is = wished_by p me list c e (wish_of (b
 
 -- its shape
 pub wished_shape : (c : ToldCommand) (e : Entry) → IsToldCommand c → Wished c e → EntryShape (untold_of c) e
-wished_shape c e told w =
-    (w.wish, ap wish_of (sym told.same) ∙ w.wished,
-     record { kind = w.is.kind; path = w.is.path; size = w.is.size; mode = w.is.mode; uid = w.is.uid; gid = w.is.gid })
+wished_shape c e told w = (
+  w.wish,
+  ap wish_of (sym told.same) ∙ w.wished,
+  record { kind = w.is.kind; path = w.is.path; size = w.is.size; mode = w.is.mode; uid = w.is.uid; gid = w.is.gid },
+)
 
 -- its bytes
 pub wished_bytes : (c : ToldCommand) (e : Entry) (b : Bytes) → Wished c e
@@ -69,19 +71,23 @@ module _ (n : ℕ) (me : List ℕ) (c : ToldCommand) (told : IsToldCommand c) (h
   pub allowed_decided : (e : Entry) → WritesAllowed n e host (settled_log_state s) → (n ≡ length s.entries) × (filed s.pending ≡ None) × (decision ≡ Some (Ok e))
   allowed_decided e w =
       let d = w.1 in
-      let same : d.cmd ≡ bare_cmd c = same_Some d.cmd (bare_cmd c) (sym d.told ∙ cmd_is ∙ ap Some (sym told.same)) in
-      (w.0 ∙ length-files_of s.entries s.bytes, d.none,
-       ap₂ (λ (u : List ℕ) (k : Cmd). decide s.params u (entries_of (settled_files s)) k) (sym me_is) (sym same) ∙ d.is)
+      let same : d.cmd ≡ bare_cmd c = same_Some d.cmd (bare_cmd c) (sym d.told ∙ cmd_is ∙ ap Some (sym told.same)) in (
+        w.0 ∙ length-files_of s.entries s.bytes,
+        d.none,
+        ap₂ (λ (u : List ℕ) (k : Cmd). decide s.params u (entries_of (settled_files s)) k) (sym me_is) (sym same) ∙ d.is,
+      )
 
   -- and the other way about
   pub decided_allowed : (e : Entry) → n ≡ length s.entries → filed s.pending ≡ None → decision ≡ Some (Ok e) → WritesAllowed n e host (settled_log_state s)
-  decided_allowed e count none is =
-      (count ∙ sym (length-files_of s.entries s.bytes), record {
-        cmd = bare_cmd c;
-        told = cmd_is ∙ ap Some (sym told.same);
-        none = none;
-        is = ap (λ (u : List ℕ). decide s.params u (entries_of (settled_files s)) (bare_cmd c)) me_is ∙ is;
-      })
+  decided_allowed e count none is = (
+    count ∙ sym (length-files_of s.entries s.bytes),
+    record {
+      cmd = bare_cmd c;
+      told = cmd_is ∙ ap Some (sym told.same);
+      none = none;
+      is = ap (λ (u : List ℕ). decide s.params u (entries_of (settled_files s)) (bare_cmd c)) me_is ∙ is;
+    },
+  )
 
   -- none is named
   pub names_none : (t : State) → ((e : Entry) → WritesAllowed n e host (settled_log_state s) → ⊥) → NamesIn n host c (settled_log_state s) t None
@@ -100,7 +106,7 @@ module _ (n : ℕ) (me : List ℕ) (c : ToldCommand) (told : IsToldCommand c) (h
       let w = decided_wished s.params me (entries_of (settled_files s)) c e settled.history.params told is in
       let allowed = decided_allowed e count none is in
       let state = pending ∙ ap (λ (bs : List ℕ). pends (record { entry = e; bytes = bs }) (settled_log_state s))
-          (sym (wished_bytes c e b w bytes) ∙ ap (λ (o : Option Cmd). filled_bytes o e.size) (ap Some told.same ∙ sym cmd_is)) in
+      (sym (wished_bytes c e b w bytes) ∙ ap (λ (o : Option Cmd). filled_bytes o e.size) (ap Some told.same ∙ sym cmd_is)) in
       record {
         allowed = λ k same. subst (λ (z : Entry). WritesAllowed n z host (settled_log_state s)) (same_Some e k same) allowed;
         shape = λ k same. subst (λ (z : Entry). EntryShape (untold_of c) z) (same_Some e k same) (wished_shape c e told w);

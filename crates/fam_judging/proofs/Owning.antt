@@ -102,9 +102,10 @@ module _ (start : Image) (hosts : Hosts) (c : Candidate) (h : ℕ) where
   stage_by (Some cmd) None s P runs at is = absurd cc
   stage_by (Some cmd) (Some t) s P runs at is =
       let o = owns hosts.seen.items hosts.commands.items c.tracks.items h cmd t runs at in
-      let same : t.stage ≡ s = same_Some t.stage s is in
-      (λ r. subst (λ (k : Stage). P (stage_shape k)) same (own_from cmd t (λ me t. P t.stage) o r),
-       λ p. own_to cmd t (λ me t. P t.stage) o (subst (λ (k : Stage). P (stage_shape k)) (sym same) p))
+      let same : t.stage ≡ s = same_Some t.stage s is in (
+        λ r. subst (λ (k : Stage). P (stage_shape k)) same (own_from cmd t (λ me t. P t.stage) o r),
+        λ p. own_to cmd t (λ me t. P t.stage) o (subst (λ (k : Stage). P (stage_shape k)) (sym same) p),
+      )
 
   -- what holds of it
   pub stage_is : (s : Stage) (P : CommandStage → Type 0) → stage_at hosts c h ≡ Some s → StageIs P h (possible_of start hosts c) ↔ P (stage_shape s)

@@ -99,9 +99,9 @@ plain_goes start x next n b plain stand is = record {
     is = is h;
   };
   complete = λ z s.
-    let one : s.now ≡ x = subst (λ (o : Option ℕ). ReachesFor start o x s.now) (plain_giver n plain) s.reaches in
-    let may = stand.1 (subst (λ (y : Possible). MayStand (length start) (shapes_in y) n) one s.may) in
-    (may, s.is ∙ ap (λ (y : Possible). after_line start y n) one ∙ sym (is may));
+      let one : s.now ≡ x = subst (λ (o : Option ℕ). ReachesFor start o x s.now) (plain_giver n plain) s.reaches in
+      let may = stand.1 (subst (λ (y : Possible). MayStand (length start) (shapes_in y) n) one s.may) in
+      (may, s.is ∙ ap (λ (y : Possible). after_line start y n) one ∙ sym (is may));
 }
 
 -- parameters of a file system that was made are sound
@@ -120,6 +120,7 @@ made_sound me lines p made master few = record {
     left : (a b : Bool) → (a && b) ≡ true → a ≡ true
     left true b is = refl
     left false b is = is
+
     right : (a b : Bool) → (a && b) ≡ true → b ≡ true
     right true b is = is
     right false b is = absurd (true≢false (sym is))
@@ -166,4 +167,4 @@ pub plain_next : (start : Image) (hosts : Hosts) (c d : Candidate) (l : Line) �
 plain_next start hosts c d l plain are is state tracks =
     same_possible _ _ _ _ (state ∙ sym (plain_after start (possible_of start hosts c) l plain))
     (ap (λ (ts : List Track). progress_list (seen_after hosts.seen.items l) (commands_after hosts.commands.items l) ts) tracks
-     ∙ hosts_are start (settled_state start c.settled) hosts.seen.items hosts.commands.items c.tracks.items l are is)
+    ∙ hosts_are start (settled_state start c.settled) hosts.seen.items hosts.commands.items c.tracks.items l are is)

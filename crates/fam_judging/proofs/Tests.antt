@@ -66,13 +66,15 @@ wishes_by : (start : Image) (hosts : Hosts) (c : Candidate) (h : ℕ) (run : Opt
 wishes_by start hosts c h None track runs at s is = absurd cc
 wishes_by start hosts c h (Some cmd) None runs at s is = absurd cc
 wishes_by start hosts c h (Some cmd) (Some t) runs at s is =
-    let o = owns hosts.seen.items hosts.commands.items c.tracks.items h cmd t runs at in
-    (λ is. own_to start hosts c h cmd t (λ me t. HasWish t.cmd) o (some_wish (wish_of (untold_of cmd)) is),
-     λ r. no_wish (wish_of (untold_of cmd)) (own_from start hosts c h cmd t (λ me t. HasWish t.cmd) o r))
+    let o = owns hosts.seen.items hosts.commands.items c.tracks.items h cmd t runs at in (
+      λ is. own_to start hosts c h cmd t (λ me t. HasWish t.cmd) o (some_wish (wish_of (untold_of cmd)) is),
+      λ r. no_wish (wish_of (untold_of cmd)) (own_from start hosts c h cmd t (λ me t. HasWish t.cmd) o r),
+    )
   where
     some_wish : (o : Option Wish) → is_some o ≡ true → (w : Wish) × (o ≡ Some w)
     some_wish None h = absurd (true≢false (sym h))
     some_wish (Some w) h = (w, refl)
+
     no_wish : (o : Option Wish) → (w : Wish) × (o ≡ Some w) → is_some o ≡ true
     no_wish o w = ap (λ (x : Option Wish). is_some x) w.1
 

@@ -32,7 +32,13 @@ fn may_be_found(given: &GivenImage, hosts: &Hosts, candidate: &Candidate, at: us
 }
 
 /// It finds them.
-pub(crate) fn found(given: &GivenImage, hosts: &Hosts, candidate: &mut Candidate, at: usize, n: u64) -> Result<bool, OutOfMemory>
+pub(crate) fn found(
+    given: &GivenImage,
+    hosts: &Hosts,
+    candidate: &mut Candidate,
+    at: usize,
+    n: u64,
+) -> Result<bool, OutOfMemory>
     ensures goes { (start : Image) → HasGiven start given.now candidate.old.settled
         → IfOk result (Goes (Finds start at n (possible_of start hosts.now candidate.old)) (possible_of start hosts.now candidate.new)) }
     ensures given { (start : Image) → HasGiven start given.now candidate.old.settled → HasGiven start given.now candidate.new.settled }
@@ -47,7 +53,13 @@ pub(crate) fn found(given: &GivenImage, hosts: &Hosts, candidate: &mut Candidate
 }
 
 /// A host's command has found so many entries by now.
-fn meet(given: &GivenImage, hosts: &Hosts, candidate: &mut Candidate, at: usize, n: u64) -> Result<bool, OutOfMemory>
+fn meet(
+    given: &GivenImage,
+    hosts: &Hosts,
+    candidate: &mut Candidate,
+    at: usize,
+    n: u64,
+) -> Result<bool, OutOfMemory>
     ensures goes { (start : Image) → HasGiven start given.now candidate.old.settled
         → IfOk result (Goes (MeetsAt start at n (possible_of start hosts.now candidate.old)) (possible_of start hosts.now candidate.new)) }
     ensures given { (start : Image) → HasGiven start given.now candidate.old.settled → HasGiven start given.now candidate.new.settled }
@@ -60,7 +72,13 @@ fn meet(given: &GivenImage, hosts: &Hosts, candidate: &mut Candidate, at: usize,
 }
 
 /// Behind so many entries it names this one, where it names one.
-pub(crate) fn wrote(given: &GivenImage, hosts: &Hosts, candidate: &mut Candidate, at: usize, n: u64) -> Result<Option<Entry>, OutOfMemory>
+pub(crate) fn wrote(
+    given: &GivenImage,
+    hosts: &Hosts,
+    candidate: &mut Candidate,
+    at: usize,
+    n: u64,
+) -> Result<Option<Entry>, OutOfMemory>
     requires told { AreTold hosts.now }
     ensures names { (start : Image) → HasGiven start given.now candidate.old.settled
         → IfOk result (NamesFrom start at n (possible_of start hosts.now candidate.old) (possible_of start hosts.now candidate.new)) }
@@ -85,7 +103,14 @@ fn is_named(named: &Option<Entry>, entry: &Entry) -> bool
 }
 
 /// A line tells that it names an entry.
-fn writes(given: &GivenImage, hosts: &Hosts, candidate: &mut Candidate, at: usize, seq: u64, entry: &Entry) -> Result<bool, OutOfMemory>
+fn writes(
+    given: &GivenImage,
+    hosts: &Hosts,
+    candidate: &mut Candidate,
+    at: usize,
+    seq: u64,
+    entry: &Entry,
+) -> Result<bool, OutOfMemory>
     requires told { AreTold hosts.now }
     ensures goes { (start : Image) → HasGiven start given.now candidate.old.settled
         → IfOk result (Goes (StepsTo start (possible_of start hosts.now candidate.old) (Writes at seq entry.now)) (possible_of start hosts.now candidate.new)) }

@@ -1,4 +1,4 @@
-use Rattle.std.proofs.Common.{length, refl, arith }
+use Rattle.std.proofs.Common.{length, refl, arith}
 use Rattle.std.proofs.lemmas.Option.{slice_get_read}
 use Rattle.fam_lines.specs.declared.host.SeenHost.{SeenHost}
 use Rattle.fam_judging.proofs.Keeping.{no_place, put}

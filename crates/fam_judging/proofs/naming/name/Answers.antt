@@ -43,7 +43,7 @@ returns-in-Some-clause-names c start given has =
     (record { settled = c.name_in.new.settled; tracks = c.put_named.new.tracks }) _
     (c.in-Some.ensures.names start given (told_host start c.args.hosts.now c.args.candidate.now c.args.at c.args.n c.in_ok-cmd.cmd.now m) has refl (ap (λ (s : SeenHost). s.uuid) one))
     (λ e is. c.put_named.ensures
-        ∙ ap (λ (z : Entry). changed_at c.args.at (named_track c.args.n z) c.args.candidate.now.tracks.items) (same_Some c.in-Some.entry e is))
+    ∙ ap (λ (z : Entry). changed_at c.args.at (named_track c.args.n z) c.args.candidate.now.tracks.items) (same_Some c.in-Some.entry e is))
 
 pub returns-in-Some-clause-placed : goal.returns-in-Some-clause-placed
 returns-in-Some-clause-placed c = ap (λ (ts : List Track). length ts) c.put_named.ensures ∙ changed_count c.args.at _ c.args.candidate.now.tracks.items

@@ -47,8 +47,8 @@ returns-clause-goes c start given long has =
     let x = possible_of start hosts old in
     let seen = faces_seen hosts.seen.items hosts.commands.items old.tracks.items c.requires.hosts c.requires.candidate ∙ ap (λ (s : List SeenHost). faces_of s) (sym c.deref.ensures.value) in
     let next = plain_next start hosts old (record { settled = c.settle.new.settled; tracks = c.keep.new.tracks }) c.args.line.now c.requires.plain c.requires.hosts c.requires.candidate
-        (c.in_ok-settle.ensures.settled start (past_in start x) refl)
-        (c.in_ok-keep.ensures ∙ ap (λ (n : ℕ). tracks_after n old.tracks.items c.args.line.now) (c.settled_count-count.ensures start given has)) in
+    (c.in_ok-settle.ensures.settled start (past_in start x) refl)
+    (c.in_ok-keep.ensures ∙ ap (λ (n : ℕ). tracks_after n old.tracks.items c.args.line.now) (c.settled_count-count.ensures start given has)) in
     plain_goes start x _ (note_of_line c.args.line.now) true c.requires.plain
     (subst (λ (n : ℕ). IsTrue true ↔ MayStand n (shapes_in x) (note_of_line c.args.line.now)) (sym long) (c.if-not-stands.ensures (shapes_in x) seen c.requires.plain))
     (λ h. next)

@@ -15,7 +15,7 @@ pub returns-clause-goes : goal.returns-clause-goes
 returns-clause-goes c start has =
     let m = (c.if-not-may_be_found.ensures start has).0 refl in
     let next = found_next start c.args.hosts.now c.args.candidate.now (record { settled = c.find.new.settled; tracks = c.put_met.new.tracks }) c.args.at c.args.n c.put_met.ensures
-        (c.in_ok-find.ensures.found start c.args.given.now has) in
+    (c.in_ok-find.ensures.found start c.args.given.now has) in
     goes_there _ (record { head = m.head; wishes = m.wishes; found = m.found; is = next }) (λ z f. f.is ∙ sym next)
 
 pub returns-clause-placed : goal.returns-clause-placed

@@ -16,9 +16,11 @@ returns-then-not-appends c start has =
 
 pub returns : goal.returns
 returns c start has =
-    let found = c.may_find.ensures start has in
-    (λ h. record {
-      head = (head_tests start c.args.hosts.now c.args.candidate.now c.args.at).0 (sym c.if-not-is_head.ensures);
-      wishes = (wishes_tests is_at_head refl start c.args.hosts.now c.args.candidate.now c.args.at (sym c.if-not-is_head.ensures)).0 (sym c.if-not-appends.ensures);
-      found = found.0 h;
-    }, λ m. found.1 m.found)
+    let found = c.may_find.ensures start has in (
+      λ h. record {
+        head = (head_tests start c.args.hosts.now c.args.candidate.now c.args.at).0 (sym c.if-not-is_head.ensures);
+        wishes = (wishes_tests is_at_head refl start c.args.hosts.now c.args.candidate.now c.args.at (sym c.if-not-is_head.ensures)).0 (sym c.if-not-appends.ensures);
+        found = found.0 h;
+      },
+      λ m. found.1 m.found,
+    )
