@@ -4,3 +4,4 @@ pub mod After
 pub mod Going
 pub mod Told
 pub mod Plain
+pub mod Into
