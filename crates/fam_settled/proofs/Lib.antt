@@ -7,3 +7,4 @@ pub mod Replies
 pub mod Counts
 pub mod OwnEntries
 pub mod Appends
+pub mod EqualLists

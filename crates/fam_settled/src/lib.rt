@@ -16,6 +16,7 @@ mod log;
 mod notes;
 mod questions;
 mod reports;
+mod same;
 mod told;
 mod verified;
 
