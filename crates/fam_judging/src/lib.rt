@@ -18,3 +18,4 @@ mod settled;
 mod steps;
 mod tasks;
 mod tracks;
+mod elsewhere;

@@ -15,7 +15,7 @@ use fam_base::OutOfMemory;
 use fam_settled::Log;
 
 /// Whether a number is one more than another one.
-fn is_next(n: u64, count: u64) -> bool
+pub(crate) fn is_next(n: u64, count: u64) -> bool
     ensures { IsTrue result ↔ (n ≡ count + 1) }
 {
     n > count && n - count == 1
