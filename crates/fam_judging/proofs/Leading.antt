@@ -14,7 +14,7 @@ use Rattle.fam_judge.specs.Possible.{Possible, Progress, MeetsEntries, Reaches, 
 use Rattle.fam_judge.proofs.Members.{map_changed}
 use Rattle.fam_judge.proofs.OverOwn.{marked_begun}
 use Rattle.fam_judge.proofs.Places.{changed_twice}
-use Rattle.fam_judging.specs.Going.{Finds, MayName, MeetsAt, Names}
+use Rattle.fam_judging.specs.Going.{FindsEntries, MayName, MeetsAt, NamesByNow}
 use Rattle.fam_judging.proofs.Reaching.{behind_found, behind_mark, both, one_stage, reach_begun, reach_marked, reach_met, weaker, with_its_mark, without_its_mark}
 
 -- two changes that are the same
@@ -85,7 +85,7 @@ module _ (start : Image) (h : ℕ) (x : Possible) where
       (changed_twice h _ _ x.hosts ∙ alike h _ _ (λ p. ap (λ (o : Option TaskShape). record p { shape = record p.shape { task = o } }) (stage_twice Marked (Met n) p.shape.task)) x.hosts)
 
   -- the state behind a found
-  pub found_from : (n : ℕ) (y : Possible) → StepsTo start x (Found h n) y → Finds start h n x y
+  pub found_from : (n : ℕ) (y : Possible) → StepsTo start x (Found h n) y → FindsEntries start h n x y
   found_from n y s =
       let there = slice_get (shapes_in s.now) h in
       let P : List ℕ → TaskShape → Type 0 = λ me t. TaskNote h me t (Found h n) in
@@ -128,7 +128,7 @@ module _ (start : Image) (h : ℕ) (x : Possible) where
   }
 
   -- the line leads where a command finds so many
-  pub found_to : (n : ℕ) (y : Possible) → Finds start h n x y → StepsTo start x (Found h n) y
+  pub found_to : (n : ℕ) (y : Possible) → FindsEntries start h n x y → StepsTo start x (Found h n) y
   found_to n y f = elim (head_stage (slice_get (shapes_in x) h) f.head) [
     | inl begun ↦ found_begun n y begun f.wishes f.found f.is
     | inr mark ↦ found_marked n y mark f.wishes f.found f.is
@@ -150,7 +150,7 @@ module _ (start : Image) (h : ℕ) (x : Possible) where
   meets_of seq met (inr f) = left_out_met seq f.head f.wishes f.found f.is
 
   -- the state behind a writes
-  pub writes_from : (seq : ℕ) (e : Entry) (y : Possible) → StepsTo start x (Writes h seq e) y → Names start h seq e x y
+  pub writes_from : (seq : ℕ) (e : Entry) (y : Possible) → StepsTo start x (Writes h seq e) y → NamesByNow start h seq e x y
   writes_from seq e y s =
       let stage = weaker (slice_get (shapes_in s.now) h) (λ me t. TaskNote h me t (Writes h seq e)) (λ me t. t.stage ≡ Met seq) (λ me t all. all.2) s.may in
       record {
@@ -161,15 +161,15 @@ module _ (start : Image) (h : ℕ) (x : Possible) where
       }
 
   -- the line leads where its command names the entry
-  pub writes_to : (seq : ℕ) (e : Entry) (y : Possible) → Names start h seq e x y → StepsTo start x (Writes h seq e) y
+  pub writes_to : (seq : ℕ) (e : Entry) (y : Possible) → NamesByNow start h seq e x y → StepsTo start x (Writes h seq e) y
   writes_to seq e y n = record { now = n.met; reaches = meets (meets_of seq n.met n.meets); may = n.may.may; fits = n.may.fits; is = n.is }
 
   -- a command that has named an entry by now
-  pub wrote_from : (y : Possible) (w : Wrote start h x y) → Names start h w.seq w.entry x y
+  pub wrote_from : (y : Possible) (w : Wrote start h x y) → NamesByNow start h w.seq w.entry x y
   wrote_from y w =
       let stage = weaker (slice_get (shapes_in w.met) h) (λ me t. TaskNote h me t (Writes h w.seq w.entry)) (λ me t. t.stage ≡ Met w.seq) (λ me t all. all.2) w.may in
       record { met = w.met; meets = met_at w.seq w.met w.meets stage; may = record { may = w.may; fits = w.fits }; is = w.is }
 
   -- and back
-  pub wrote_to : (seq : ℕ) (e : Entry) (y : Possible) → Names start h seq e x y → Wrote start h x y
+  pub wrote_to : (seq : ℕ) (e : Entry) (y : Possible) → NamesByNow start h seq e x y → Wrote start h x y
   wrote_to seq e y n = record { met = n.met; meets = meets_of seq n.met n.meets; seq = seq; entry = e; may = n.may.may; fits = n.may.fits; is = n.is }

@@ -11,7 +11,7 @@ use Rattle.fam_judge.specs.Possible.{Possible, StageIs, StepsTo, after_note, sha
 use Rattle.fam_judging.specs.declared.candidate.Candidate.{Candidate}
 use Rattle.fam_judging.specs.declared.hosts.Hosts.{Hosts}
 use Rattle.fam_judging.specs.Candidates.{possible_of}
-use Rattle.fam_judging.specs.Going.{Finds, Goes, MayName, MeetsAt, Names, is_met, stage_at}
+use Rattle.fam_judging.specs.Going.{FindsEntries, Goes, MayName, MeetsAt, NamesByNow, is_met, stage_of_host}
 use Rattle.fam_judging.specs.Told.{NamesFrom, NamesNext}
 use Rattle.fam_judging.proofs.Goings.{goes_there}
 use Rattle.fam_judging.proofs.Leading.{writes_from, writes_to}
@@ -20,7 +20,7 @@ use Rattle.fam_judging.proofs.Tests.{met_tests}
 
 module _ (start : Image) (hosts : Hosts) (c : Candidate) (h n : ℕ) where
   -- what it has found was told
-  pub meets_told : true ≡ is_met n (stage_at hosts c h) → Goes (MeetsAt start h n (possible_of start hosts c)) (possible_of start hosts c) true
+  pub meets_told : true ≡ is_met n (stage_of_host hosts c h) → Goes (MeetsAt start h n (possible_of start hosts c)) (possible_of start hosts c) true
   meets_told is =
       let x = possible_of start hosts c in
       let met = (met_tests n start hosts c h).0 (sym is) in
@@ -31,7 +31,7 @@ module _ (start : Image) (hosts : Hosts) (c : Candidate) (h n : ℕ) where
       ])
 
   -- or it wasn't
-  pub meets_found : false ≡ is_met n (stage_at hosts c h) → (y : Possible) (b : Bool) → Goes (Finds start h n (possible_of start hosts c)) y b
+  pub meets_found : false ≡ is_met n (stage_of_host hosts c h) → (y : Possible) (b : Bool) → Goes (FindsEntries start h n (possible_of start hosts c)) y b
       → Goes (MeetsAt start h n (possible_of start hosts c)) y b
   meets_found not y b goes = record {
     sound = λ is. inr (goes.sound is);

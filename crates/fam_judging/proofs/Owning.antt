@@ -14,7 +14,7 @@ use Rattle.fam_judging.specs.declared.candidate.Stage.{Stage}
 use Rattle.fam_judging.specs.declared.candidate.Track.{Track}
 use Rattle.fam_judging.specs.declared.hosts.Hosts.{Hosts}
 use Rattle.fam_judging.specs.Candidates.{possible_of, progress_list, progress_of, stage_shape}
-use Rattle.fam_judging.specs.Going.{command_in, running, stage_at, stage_in}
+use Rattle.fam_judging.specs.Going.{command_in, running, stage_of_host, stage_in}
 use Rattle.fam_judging.proofs.Lists.{task_at}
 
 -- a host that runs a command
@@ -108,15 +108,15 @@ module _ (start : Image) (hosts : Hosts) (c : Candidate) (h : ℕ) where
       )
 
   -- what holds of it
-  pub stage_is : (s : Stage) (P : CommandStage → Type 0) → stage_at hosts c h ≡ Some s → StageIs P h (possible_of start hosts c) ↔ P (stage_shape s)
+  pub stage_is : (s : Stage) (P : CommandStage → Type 0) → stage_of_host hosts c h ≡ Some s → StageIs P h (possible_of start hosts c) ↔ P (stage_shape s)
   stage_is s P is = stage_by (running hosts.seen.items hosts.commands.items h) (slice_get c.tracks.items h) s P refl refl is
 
   -- where no command is running nothing does
-  pub stage_none : (P : List ℕ → TaskShape → Type 0) → stage_at hosts c h ≡ None → OfRunning (slice_get (shapes start hosts c) h) P → ⊥
+  pub stage_none : (P : List ℕ → TaskShape → Type 0) → stage_of_host hosts c h ≡ None → OfRunning (slice_get (shapes start hosts c) h) P → ⊥
   stage_none P none r = owns_none hosts.seen.items hosts.commands.items c.tracks.items h P none r
 
   -- a test of a stage
-  pub stage_tests : (o : Option Stage) (P : CommandStage → Type 0) (b : Bool) → stage_at hosts c h ≡ o
+  pub stage_tests : (o : Option Stage) (P : CommandStage → Type 0) (b : Bool) → stage_of_host hosts c h ≡ o
       → ((s : Stage) → o ≡ Some s → IsTrue b ↔ P (stage_shape s)) → (o ≡ None → b ≡ false) → IsTrue b ↔ StageIs P h (possible_of start hosts c)
   stage_tests None P b is some none =
       (λ yes. absurd (true≢false (sym yes ∙ none refl)), λ r. absurd (stage_none (λ me t. P t.stage) is r))

@@ -24,7 +24,7 @@ use Rattle.fam_rules.specs.Place.{line_bytes}
 use Rattle.fam_judging.specs.declared.candidate.Track.{Track}
 use Rattle.fam_judging.specs.Candidates.{AreCommanded, HostsFit, IsCandidate, RunsCommand, possible_of, progress_list, progress_of, settled_state, stage_shape}
 use Rattle.fam_judging.specs.Going.{Goes}
-use Rattle.fam_judging.specs.Plain.{HasSoundMade, HasUuid, IsPlain}
+use Rattle.fam_judging.specs.Plain.{HasSoundMade, HasUuid, IsPlainLine}
 use Rattle.fam_judging.specs.declared.candidate.Candidate.{Candidate}
 use Rattle.fam_judging.specs.declared.hosts.Hosts.{Hosts}
 use Rattle.fam_judging.specs.After.{commands_after, possible_after, seen_after, tracks_after}
@@ -145,7 +145,7 @@ line_sound lines shapes (line.Umount h) may has few = tt
 line_sound lines shapes (line.Refused name why) may has few = tt
 
 -- the state behind a line that no command gives, as for a journal
-pub plain_after : (start : Image) (x : Possible) (l : Line) → IsPlain l → (after_line start x (note_of_line l)).state ≡ state_after (past_in start x) (note_of_line l)
+pub plain_after : (start : Image) (x : Possible) (l : Line) → IsPlainLine l → (after_line start x (note_of_line l)).state ≡ state_after (past_in start x) (note_of_line l)
 plain_after start x (line.Host name uuid) plain = refl
 plain_after start x (line.Made h p) plain = refl
 plain_after start x (line.Cut h k) plain = refl
@@ -160,7 +160,7 @@ plain_after start x (line.Umount h) plain = refl
 plain_after start x (line.Refused name why) plain = refl
 
 -- the candidate behind the line
-pub plain_next : (start : Image) (hosts : Hosts) (c d : Candidate) (l : Line) → IsPlain l → HostsFit hosts → IsCandidate hosts c
+pub plain_next : (start : Image) (hosts : Hosts) (c d : Candidate) (l : Line) → IsPlainLine l → HostsFit hosts → IsCandidate hosts c
     → settled_state start d.settled ≡ state_after (past_in start (possible_of start hosts c)) (note_of_line l)
     → d.tracks.items ≡ tracks_after (settled_length (settled_state start c.settled)) c.tracks.items l
     → possible_after start hosts l d ≡ after_line start (possible_of start hosts c) (note_of_line l)

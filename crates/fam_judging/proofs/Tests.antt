@@ -16,13 +16,13 @@ use Rattle.fam_judging.specs.declared.candidate.Stage.{Stage}
 use Rattle.fam_judging.specs.declared.candidate.Stage.TheVariants as stage
 use Rattle.fam_judging.specs.declared.hosts.Hosts.{Hosts}
 use Rattle.fam_judging.specs.Candidates.{possible_of, stage_shape}
-use Rattle.fam_judging.specs.Going.{appends, is_at_head, is_begun, is_met, running, stage_at, stage_in}
+use Rattle.fam_judging.specs.Going.{is_appending, is_at_head, is_begun, is_met, running, stage_of_host, stage_in}
 use Rattle.fam_judging.proofs.Owning.{OwnsAt, own_from, own_to, owns, stage_tests}
 
 -- a test of stages
 tests : (test : Option Stage → Bool) (P : CommandStage → Type 0) → ((s : Stage) → IsTrue (test (Some s)) ↔ P (stage_shape s)) → test None ≡ false
-    → (start : Image) (hosts : Hosts) (c : Candidate) (h : ℕ) → IsTrue (test (stage_at hosts c h)) ↔ StageIs P h (possible_of start hosts c)
-tests test P some none start hosts c h = stage_tests start hosts c h (stage_at hosts c h) P (test (stage_at hosts c h)) refl
+    → (start : Image) (hosts : Hosts) (c : Candidate) (h : ℕ) → IsTrue (test (stage_of_host hosts c h)) ↔ StageIs P h (possible_of start hosts c)
+tests test P some none start hosts c h = stage_tests start hosts c h (stage_of_host hosts c h) P (test (stage_of_host hosts c h)) refl
     (λ s is. subst (λ (o : Option Stage). IsTrue (test o) ↔ P (stage_shape s)) (sym is) (some s)) (λ is. ap test is ∙ none)
 
 -- no stage passes
@@ -30,7 +30,7 @@ no : {P : Type 0} → (P → ⊥) → IsTrue false ↔ P
 no none = (λ h. absurd (true≢false (sym h)), λ p. absurd (none p))
 
 -- it has just begun
-pub begun_tests : (start : Image) (hosts : Hosts) (c : Candidate) (h : ℕ) → IsTrue (is_begun (stage_at hosts c h)) ↔ StageIs (λ stage. stage ≡ Begun) h (possible_of start hosts c)
+pub begun_tests : (start : Image) (hosts : Hosts) (c : Candidate) (h : ℕ) → IsTrue (is_begun (stage_of_host hosts c h)) ↔ StageIs (λ stage. stage ≡ Begun) h (possible_of start hosts c)
 begun_tests = tests is_begun (λ s. s ≡ Begun) by refl
   where
     by : (s : Stage) → IsTrue (is_begun (Some s)) ↔ (stage_shape s ≡ Begun)
@@ -40,7 +40,7 @@ begun_tests = tests is_begun (λ s. s ≡ Begun) by refl
     by (stage.Named n) = no (λ e. cc)
 
 -- it has found nothing yet
-pub head_tests : (start : Image) (hosts : Hosts) (c : Candidate) (h : ℕ) → IsTrue (is_at_head (stage_at hosts c h)) ↔ StageIs IsHead h (possible_of start hosts c)
+pub head_tests : (start : Image) (hosts : Hosts) (c : Candidate) (h : ℕ) → IsTrue (is_at_head (stage_of_host hosts c h)) ↔ StageIs IsHead h (possible_of start hosts c)
 head_tests = tests is_at_head IsHead by refl
   where
     by : (s : Stage) → IsTrue (is_at_head (Some s)) ↔ IsHead (stage_shape s)
@@ -57,12 +57,12 @@ met_stage n (stage.Met k) = (λ h. ap Met (grind (arith, nat_tests, h)), λ p. l
 met_stage n (stage.Named k) = no (λ e. cc)
 
 -- it has found so many entries
-pub met_tests : (n : ℕ) (start : Image) (hosts : Hosts) (c : Candidate) (h : ℕ) → IsTrue (is_met n (stage_at hosts c h)) ↔ StageIs (λ stage. stage ≡ Met n) h (possible_of start hosts c)
+pub met_tests : (n : ℕ) (start : Image) (hosts : Hosts) (c : Candidate) (h : ℕ) → IsTrue (is_met n (stage_of_host hosts c h)) ↔ StageIs (λ stage. stage ≡ Met n) h (possible_of start hosts c)
 met_tests n = tests (is_met n) (λ s. s ≡ Met n) (met_stage n) refl
 
 -- a wish
 wishes_by : (start : Image) (hosts : Hosts) (c : Candidate) (h : ℕ) (run : Option ToldCommand) (track : Option Track)
-    → running hosts.seen.items hosts.commands.items h ≡ run → slice_get c.tracks.items h ≡ track → (s : Stage) → stage_in run track ≡ Some s → IsTrue (appends run) ↔ WantsToAppend h (possible_of start hosts c)
+    → running hosts.seen.items hosts.commands.items h ≡ run → slice_get c.tracks.items h ≡ track → (s : Stage) → stage_in run track ≡ Some s → IsTrue (is_appending run) ↔ WantsToAppend h (possible_of start hosts c)
 wishes_by start hosts c h None track runs at s is = absurd cc
 wishes_by start hosts c h (Some cmd) None runs at s is = absurd cc
 wishes_by start hosts c h (Some cmd) (Some t) runs at s is =
@@ -84,10 +84,10 @@ staged test none None h = absurd (true≢false (sym h ∙ none))
 staged test none (Some s) h = (s, refl)
 
 -- its command appends
-pub wishes_tests : (test : Option Stage → Bool) → test None ≡ false → (start : Image) (hosts : Hosts) (c : Candidate) (h : ℕ) → test (stage_at hosts c h) ≡ true
-    → IsTrue (appends (running hosts.seen.items hosts.commands.items h)) ↔ WantsToAppend h (possible_of start hosts c)
+pub wishes_tests : (test : Option Stage → Bool) → test None ≡ false → (start : Image) (hosts : Hosts) (c : Candidate) (h : ℕ) → test (stage_of_host hosts c h) ≡ true
+    → IsTrue (is_appending (running hosts.seen.items hosts.commands.items h)) ↔ WantsToAppend h (possible_of start hosts c)
 wishes_tests test none start hosts c h is =
-    let s = staged test none (stage_at hosts c h) is in
+    let s = staged test none (stage_of_host hosts c h) is in
     wishes_by start hosts c h (running hosts.seen.items hosts.commands.items h) (slice_get c.tracks.items h) refl refl s.0 s.1
 
 -- a command that has found so many entries
@@ -107,6 +107,6 @@ met_by hosts c h n cmd (Some t) runs at is = record {
 }
 
 -- where it runs
-pub met_at : (hosts : Hosts) (c : Candidate) (h n : ℕ) (cmd : ToldCommand) → running hosts.seen.items hosts.commands.items h ≡ Some cmd → is_met n (stage_at hosts c h) ≡ true → MetAt hosts c h n cmd
+pub met_at : (hosts : Hosts) (c : Candidate) (h n : ℕ) (cmd : ToldCommand) → running hosts.seen.items hosts.commands.items h ≡ Some cmd → is_met n (stage_of_host hosts c h) ≡ true → MetAt hosts c h n cmd
 met_at hosts c h n cmd runs is =
     met_by hosts c h n cmd (slice_get c.tracks.items h) runs refl (ap (λ (o : Option ToldCommand). is_met n (stage_in o (slice_get c.tracks.items h))) (sym runs) ∙ is)

@@ -20,7 +20,7 @@ use Rattle.fam_judging.specs.declared.candidate.Track.{Track}
 use Rattle.fam_judging.specs.declared.hosts.Hosts.{Hosts}
 use Rattle.fam_judging.specs.After.{named_track}
 use Rattle.fam_judging.specs.Candidates.{possible_of, progress_list, progress_of, settled_state}
-use Rattle.fam_judging.specs.Going.{MayName, is_met, stage_at}
+use Rattle.fam_judging.specs.Going.{MayName, is_met, stage_of_host}
 use Rattle.fam_judging.specs.Told.{NamesIn, NamesNext}
 use Rattle.fam_judging.proofs.Goings.{same_possible}
 use Rattle.fam_judging.proofs.Lists.{named_hosts}
@@ -33,7 +33,7 @@ pub names_not : (start : Image) (h n : ℕ) (x y : Possible) → ((e : Entry) �
 names_not start h n x y never = record { may = λ e is. absurd cc; is = λ e is. absurd cc; complete = λ e m. absurd (never e m) }
 
 -- none where it hasn't found so many
-pub names_unmet : (start : Image) (hosts : Hosts) (c : Candidate) (h n : ℕ) (y : Possible) → false ≡ is_met n (stage_at hosts c h) → NamesNext start h n (possible_of start hosts c) y None
+pub names_unmet : (start : Image) (hosts : Hosts) (c : Candidate) (h n : ℕ) (y : Possible) → false ≡ is_met n (stage_of_host hosts c h) → NamesNext start h n (possible_of start hosts c) y None
 names_unmet start hosts c h n y not =
     let x = possible_of start hosts c in
     names_not start h n x y (λ e m. true≢false (sym (not ∙ (met_tests n start hosts c h).1

@@ -33,7 +33,7 @@ HasGiven start given settled.Given = IsGivenImage start given
 HasGiven start given settled.Halted = ⊤
 
 -- host h's command, which appends, finds n entries
-pub record Finds (start : Image) (h n : ℕ) (x met : Possible) : Type 0 where
+pub record FindsEntries (start : Image) (h n : ℕ) (x met : Possible) : Type 0 where
   pub head : StageIs IsHead h x
   pub wishes : WantsToAppend h x
   pub found : FoundAllowed n x.state
@@ -41,7 +41,7 @@ pub record Finds (start : Image) (h n : ℕ) (x met : Possible) : Type 0 where
 
 -- it has found n entries by now
 abbrev pub MeetsAt : Image → ℕ → ℕ → Possible → Possible → Type 0
-MeetsAt start h n x met = (StageIs (λ stage. stage ≡ Met n) h x × (met ≡ x)) ⊎ Finds start h n x met
+MeetsAt start h n x met = (StageIs (λ stage. stage ≡ Met n) h x × (met ≡ x)) ⊎ FindsEntries start h n x met
 
 -- it may name this entry next
 pub record MayName (start : Image) (h seq : ℕ) (e : Entry) (x : Possible) : Type 0 where
@@ -49,7 +49,7 @@ pub record MayName (start : Image) (h seq : ℕ) (e : Entry) (x : Possible) : Ty
   pub fits : FitsNext (past_in start x) (Writes h seq e)
 
 -- it names it by now
-pub record Names (start : Image) (h seq : ℕ) (e : Entry) (x named : Possible) : Type 0 where
+pub record NamesByNow (start : Image) (h seq : ℕ) (e : Entry) (x named : Possible) : Type 0 where
   pub met : Possible
   pub meets : MeetsAt start h seq x met
   pub may : MayName start h seq e met
@@ -74,8 +74,8 @@ stage_in (Some cmd) None = None
 stage_in (Some cmd) (Some track) = Some track.stage
 
 -- so of the host of this number
-abbrev pub stage_at : Hosts → Candidate → ℕ → Option Stage
-stage_at hosts c h = stage_in (running hosts.seen.items hosts.commands.items h) (slice_get c.tracks.items h)
+abbrev pub stage_of_host : Hosts → Candidate → ℕ → Option Stage
+stage_of_host hosts c h = stage_in (running hosts.seen.items hosts.commands.items h) (slice_get c.tracks.items h)
 
 -- its command has just begun
 abbrev pub is_begun : Option Stage → Bool
@@ -102,12 +102,12 @@ is_met n (Some (stage.Met found)) = found == n
 is_met n (Some (stage.Named seq)) = false
 
 -- a command appends
-abbrev pub appends : Option ToldCommand → Bool
-appends None = false
-appends (Some cmd) = is_some (wish_of (untold_of cmd))
+abbrev pub is_appending : Option ToldCommand → Bool
+is_appending None = false
+is_appending (Some cmd) = is_some (wish_of (untold_of cmd))
 
 -- host h's command, which appends, may find n entries
-pub record MayFind (start : Image) (h n : ℕ) (x : Possible) : Type 0 where
+pub record MayFindEntries (start : Image) (h n : ℕ) (x : Possible) : Type 0 where
   pub head : StageIs IsHead h x
   pub wishes : WantsToAppend h x
   pub found : FoundAllowed n x.state

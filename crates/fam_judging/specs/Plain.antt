@@ -7,8 +7,8 @@ use Rattle.fam_lines.specs.declared.line.Line.TheVariants as line
 use Rattle.fam_lines.specs.Lines.{note_of_line}
 
 -- no running command gives the line
-abbrev pub IsPlain : Line → Type 0
-IsPlain l = is_own (note_of_line l) ≡ false
+abbrev pub IsPlainLine : Line → Type 0
+IsPlainLine l = is_own (note_of_line l) ≡ false
 
 -- a file system that the line says was made has sound parameters
 abbrev pub HasSoundMade : Line → Type 0

@@ -13,7 +13,7 @@ use Rattle.fam_rules.specs.Decide.{Wish, wish_of}
 use Rattle.fam_rules.specs.DecideLaws.{IsSoundWish}
 use Rattle.fam_settled.specs.Told.{HasToldFill, bare_cmd}
 use Rattle.fam_judging.specs.declared.hosts.Hosts.{Hosts}
-use Rattle.fam_judging.specs.Going.{MayName, Names}
+use Rattle.fam_judging.specs.Going.{MayName, NamesByNow}
 
 -- what a line tells of the command is all that is told of it, and what it wants is within its limits
 pub record IsToldCommand (c : ToldCommand) : Type 0 where
@@ -22,8 +22,8 @@ pub record IsToldCommand (c : ToldCommand) : Type 0 where
   pub sound : (w : Wish) → wish_of (bare_cmd c) ≡ Some w → IsSoundWish w
 
 -- so it is of each host's last command
-abbrev pub AreTold : Hosts → Type 0
-AreTold hosts = (k : ℕ) (c : ToldCommand) → slice_get hosts.commands.items k ≡ Some (Some c) → IsToldCommand c
+abbrev pub AreToldCommands : Hosts → Type 0
+AreToldCommands hosts = (k : ℕ) (c : ToldCommand) → slice_get hosts.commands.items k ≡ Some (Some c) → IsToldCommand c
 
 -- a host's command names this entry, numbered n, and the state comes to be t; or none
 pub record NamesIn (n : ℕ) (host : HostPast) (c : ToldCommand) (s t : State) (named : Option Entry) : Type 0 where
@@ -40,5 +40,5 @@ pub record NamesNext (start : Image) (h n : ℕ) (x y : Possible) (named : Optio
 
 -- host h's command, which has found n entries by now, names this entry and leads from x to y; or none
 pub record NamesFrom (start : Image) (h n : ℕ) (x y : Possible) (named : Option Entry) : Type 0 where
-  pub sound : (e : Entry) → named ≡ Some e → Names start h n e x y
-  pub complete : (e : Entry) (z : Possible) → Names start h n e x z → (named ≡ Some e) × (z ≡ y)
+  pub sound : (e : Entry) → named ≡ Some e → NamesByNow start h n e x y
+  pub complete : (e : Entry) (z : Possible) → NamesByNow start h n e x z → (named ≡ Some e) × (z ≡ y)

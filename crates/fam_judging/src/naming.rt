@@ -8,7 +8,7 @@ ghost use Rattle.fam_settled.specs.Settled.{settled_log_state};
 ghost use Rattle.fam_judging.specs.declared.given.GivenImage.{GivenImage};
 ghost use Rattle.fam_judging.specs.Candidates.{possible_of, settled_state};
 ghost use Rattle.fam_judging.specs.Going.{HasGiven};
-ghost use Rattle.fam_judging.specs.Told.{AreTold, IsToldCommand, NamesIn, NamesNext};
+ghost use Rattle.fam_judging.specs.Told.{AreToldCommands, IsToldCommand, NamesIn, NamesNext};
 
 use crate::candidate::{Candidate, Settled};
 use crate::hosts::Hosts;
@@ -58,7 +58,7 @@ fn name_in(settled: &mut Settled, cmd: &ToldCommand, me: Uuid, n: u64) -> Option
 
 /// The entry of number `n` that a host's command names next, where it has found so many entries and names one.
 pub(crate) fn name(hosts: &Hosts, candidate: &mut Candidate, at: usize, n: u64) -> Option<Entry>
-    requires told { AreTold hosts.now }
+    requires told { AreToldCommands hosts.now }
     ensures names { (start : Image) (given : GivenImage) → HasGiven start given candidate.old.settled
         → NamesNext start at n (possible_of start hosts.now candidate.old) (possible_of start hosts.now candidate.new) result }
     ensures given { (start : Image) (given : GivenImage) → HasGiven start given candidate.old.settled → HasGiven start given candidate.new.settled }

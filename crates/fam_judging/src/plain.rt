@@ -13,7 +13,7 @@ ghost use Rattle.fam_judging.specs.declared.given.GivenImage.{GivenImage};
 ghost use Rattle.fam_judging.specs.After.{possible_after, seen_after, tracks_after};
 ghost use Rattle.fam_judging.specs.Candidates.{HostsFit, IsCandidate, possible_of, settled_state};
 ghost use Rattle.fam_judging.specs.Going.{Goes, HasGiven};
-ghost use Rattle.fam_judging.specs.Plain.{HasSoundMade, HasUuid, IsPlain};
+ghost use Rattle.fam_judging.specs.Plain.{HasSoundMade, HasUuid, IsPlainLine};
 
 use crate::candidate::{Candidate, Settled, Track};
 use crate::hosts::Hosts;
@@ -52,7 +52,7 @@ fn cut(settled: &mut Settled, k: u64)
 
 /// What is settled behind the line.
 fn settle(alloc: Global, settled: &mut Settled, line: &Line) -> Result<(), OutOfMemory>
-    requires plain { IsPlain line.now }
+    requires plain { IsPlainLine line.now }
     requires made { HasSoundMade line.now }
     ensures settled { (start : Image) (past : Past) → past.state ≡ settled_state start settled.old
         → OnOk result (settled_state start settled.new ≡ state_after past (note_of_line line.now)) }
@@ -70,7 +70,7 @@ fn settle(alloc: Global, settled: &mut Settled, line: &Line) -> Result<(), OutOf
 
 /// What a candidate keeps of the hosts behind the line, before which so much is settled.
 fn keep(tracks: &mut Vec<Track>, settled: u64, line: &Line) -> Result<(), OutOfMemory>
-    requires plain { IsPlain line.now }
+    requires plain { IsPlainLine line.now }
     ensures { OnOk result (tracks.new.items ≡ tracks_after settled tracks.old.items line.now) }
 {
     match line {
@@ -101,7 +101,7 @@ pub(crate) fn plain(
     candidate: &mut Candidate,
     line: &Line,
 ) -> Result<bool, OutOfMemory>
-    requires plain { IsPlain line.now }
+    requires plain { IsPlainLine line.now }
     requires few { line_bytes * lines ≤ device_limit }
     requires hosts { HostsFit hosts.now }
     requires candidate { IsCandidate hosts.now candidate.old }

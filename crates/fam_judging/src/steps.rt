@@ -5,8 +5,8 @@ ghost use Rattle.fam_base.specs.Image.{Image};
 ghost use Rattle.fam_journal.specs.Notes.{Writes};
 ghost use Rattle.fam_judge.specs.Possible.{StepsTo};
 ghost use Rattle.fam_judging.specs.Candidates.{possible_of};
-ghost use Rattle.fam_judging.specs.Told.{AreTold, NamesFrom};
-ghost use Rattle.fam_judging.specs.Going.{Finds, Goes, HasGiven, MayFind, MeetsAt};
+ghost use Rattle.fam_judging.specs.Told.{AreToldCommands, NamesFrom};
+ghost use Rattle.fam_judging.specs.Going.{FindsEntries, Goes, HasGiven, MayFindEntries, MeetsAt};
 
 use crate::candidate::Candidate;
 use crate::given::GivenImage;
@@ -20,7 +20,7 @@ use fam_base::{Entry, OutOfMemory};
 /// Whether a host's command, which appends, may find so many entries.
 fn may_be_found(given: &GivenImage, hosts: &Hosts, candidate: &Candidate, at: usize, n: u64) -> bool
     ensures { (start : Image) → HasGiven start given.now candidate.now.settled
-        → IsTrue result ↔ MayFind start at n (possible_of start hosts.now candidate.now) }
+        → IsTrue result ↔ MayFindEntries start at n (possible_of start hosts.now candidate.now) }
 {
     if !is_head(hosts, candidate, at) {
         return false;
@@ -40,7 +40,7 @@ pub(crate) fn found(
     n: u64,
 ) -> Result<bool, OutOfMemory>
     ensures goes { (start : Image) → HasGiven start given.now candidate.old.settled
-        → IfOk result (Goes (Finds start at n (possible_of start hosts.now candidate.old)) (possible_of start hosts.now candidate.new)) }
+        → IfOk result (Goes (FindsEntries start at n (possible_of start hosts.now candidate.old)) (possible_of start hosts.now candidate.new)) }
     ensures given { (start : Image) → HasGiven start given.now candidate.old.settled → HasGiven start given.now candidate.new.settled }
     ensures placed { length candidate.new.tracks.items ≡ length candidate.old.tracks.items }
 {
@@ -79,7 +79,7 @@ pub(crate) fn wrote(
     at: usize,
     n: u64,
 ) -> Result<Option<Entry>, OutOfMemory>
-    requires told { AreTold hosts.now }
+    requires told { AreToldCommands hosts.now }
     ensures names { (start : Image) → HasGiven start given.now candidate.old.settled
         → IfOk result (NamesFrom start at n (possible_of start hosts.now candidate.old) (possible_of start hosts.now candidate.new)) }
     ensures given { (start : Image) → HasGiven start given.now candidate.old.settled → HasGiven start given.now candidate.new.settled }
@@ -111,7 +111,7 @@ fn writes(
     seq: u64,
     entry: &Entry,
 ) -> Result<bool, OutOfMemory>
-    requires told { AreTold hosts.now }
+    requires told { AreToldCommands hosts.now }
     ensures goes { (start : Image) → HasGiven start given.now candidate.old.settled
         → IfOk result (Goes (StepsTo start (possible_of start hosts.now candidate.old) (Writes at seq entry.now)) (possible_of start hosts.now candidate.new)) }
     ensures given { (start : Image) → HasGiven start given.now candidate.old.settled → HasGiven start given.now candidate.new.settled }

@@ -1,7 +1,7 @@
 //! The running command of a host, and how far it has come in a candidate.
 
 ghost use Rattle.std.specs.Prelude.{◌≡◌, ◌↔◌, ◌<◌, IfSome, IsSome, IsTrue, Some, length, option_map};
-ghost use Rattle.fam_judging.specs.Going.{appends, is_at_head, is_begun, is_met, running, stage_at};
+ghost use Rattle.fam_judging.specs.Going.{is_appending, is_at_head, is_begun, is_met, running, stage_of_host};
 
 use crate::candidate::{Candidate, Stage};
 use crate::hosts::Hosts;
@@ -34,7 +34,7 @@ fn is_running(hosts: &Hosts, at: usize) -> bool
 
 /// How far a host's running command has come.
 pub(crate) fn stage_at(hosts: &Hosts, candidate: &Candidate, at: usize) -> Option<Stage>
-    ensures { result ≡ stage_at hosts.now candidate.now at }
+    ensures { result ≡ stage_of_host hosts.now candidate.now at }
 {
     if at < candidate.tracks.len() && is_running(hosts, at) {
         Some(candidate.tracks[at].stage)
@@ -45,7 +45,7 @@ pub(crate) fn stage_at(hosts: &Hosts, candidate: &Candidate, at: usize) -> Optio
 
 /// Whether it has just begun.
 pub(crate) fn has_begun(hosts: &Hosts, candidate: &Candidate, at: usize) -> bool
-    ensures { result ≡ is_begun (stage_at hosts.now candidate.now at) }
+    ensures { result ≡ is_begun (stage_of_host hosts.now candidate.now at) }
 {
     match stage_at(hosts, candidate, at) {
         Some(Stage::Begun) => true,
@@ -55,7 +55,7 @@ pub(crate) fn has_begun(hosts: &Hosts, candidate: &Candidate, at: usize) -> bool
 
 /// Whether it has found nothing yet.
 pub(crate) fn is_head(hosts: &Hosts, candidate: &Candidate, at: usize) -> bool
-    ensures { result ≡ is_at_head (stage_at hosts.now candidate.now at) }
+    ensures { result ≡ is_at_head (stage_of_host hosts.now candidate.now at) }
 {
     match stage_at(hosts, candidate, at) {
         Some(Stage::Begun) => true,
@@ -66,7 +66,7 @@ pub(crate) fn is_head(hosts: &Hosts, candidate: &Candidate, at: usize) -> bool
 
 /// Whether it has found so many entries.
 pub(crate) fn has_met(hosts: &Hosts, candidate: &Candidate, at: usize, n: u64) -> bool
-    ensures { result ≡ is_met n (stage_at hosts.now candidate.now at) }
+    ensures { result ≡ is_met n (stage_of_host hosts.now candidate.now at) }
 {
     match stage_at(hosts, candidate, at) {
         Some(Stage::Met(found)) => found == n,
@@ -76,7 +76,7 @@ pub(crate) fn has_met(hosts: &Hosts, candidate: &Candidate, at: usize, n: u64) -
 
 /// Whether a command appends.
 fn is_append(cmd: &ToldCommand) -> bool
-    ensures { result ≡ appends (Some cmd.now) }
+    ensures { result ≡ is_appending (Some cmd.now) }
 {
     match cmd {
         ToldCommand::Plain(Cmd::Mkdir { .. }) => true,
@@ -91,7 +91,7 @@ fn is_append(cmd: &ToldCommand) -> bool
 
 /// Whether a host runs a command that appends.
 pub(crate) fn appends(hosts: &Hosts, at: usize) -> bool
-    ensures { result ≡ appends (running hosts.now.seen.items hosts.now.commands.items at) }
+    ensures { result ≡ is_appending (running hosts.now.seen.items hosts.now.commands.items at) }
 {
     match running(hosts, at) {
         Some(cmd) => is_append(cmd),

@@ -1,7 +1,7 @@
 use Rattle.fam_judge.specs.Possible.{Possible}
 use Rattle.fam_judging.specs.declared.candidate.Candidate.{Candidate}
 use Rattle.fam_judging.specs.Candidates.{possible_of}
-use Rattle.fam_judging.specs.Going.{Finds, Goes, MeetsAt}
+use Rattle.fam_judging.specs.Going.{FindsEntries, Goes, MeetsAt}
 use Rattle.fam_judging.proofs.Goings.{if_ok}
 use Rattle.fam_judging.proofs.Meeting.{meets_found, meets_told}
 use Rattle.fam_judging.proofs.steps.meet.Goals as goal
@@ -13,5 +13,5 @@ pub returns-clause-goes : goal.returns-clause-goes
 returns-clause-goes c start has =
     let x = possible_of start c.args.hosts.now c.args.candidate.now in
     let y = possible_of start c.args.hosts.now c.found.new.candidate in
-    if_ok c.found.result (Goes (Finds start c.args.at c.args.n x) y) (Goes (MeetsAt start c.args.at c.args.n x) y)
+    if_ok c.found.result (Goes (FindsEntries start c.args.at c.args.n x) y) (Goes (MeetsAt start c.args.at c.args.n x) y)
     (meets_found start c.args.hosts.now c.args.candidate.now c.args.at c.args.n c.if-has_met.ensures y) (c.found.ensures.goes start has)
