@@ -5,3 +5,4 @@ pub mod Going
 pub mod Told
 pub mod Plain
 pub mod Into
+pub mod Pushing

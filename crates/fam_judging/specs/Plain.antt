@@ -1,10 +1,16 @@
 -- Lines that no running command gives.
 use Rattle.std.specs.Prelude.{⊤, ◌≡◌, false}
 use Rattle.fam_format.specs.Params.{IsUuid, SoundParams}
+use Rattle.fam_journal.specs.Notes.{Answer, MediaFault, Replied}
 use Rattle.fam_judge.specs.Standing.{is_own}
 use Rattle.fam_lines.specs.declared.line.Line.{Line}
 use Rattle.fam_lines.specs.declared.line.Line.TheVariants as line
-use Rattle.fam_lines.specs.Lines.{note_of_line}
+use Rattle.fam_lines.specs.Lines.{answer_of, note_of_line}
+
+-- the media failed
+abbrev pub IsFault : Answer → Type 0
+IsFault (Replied given) = ⊥
+IsFault (MediaFault at) = ⊤
 
 -- no running command gives the line
 abbrev pub IsPlainLine : Line → Type 0
@@ -39,3 +45,18 @@ HasUuid (line.Stop h) = ⊤
 HasUuid (line.Halt h) = ⊤
 HasUuid (line.Umount h) = ⊤
 HasUuid (line.Refused name why) = ⊤
+
+-- the line tells no reply
+abbrev pub TellsNoReply : Line → Type 0
+TellsNoReply (line.Host name uuid) = ⊤
+TellsNoReply (line.Made h p) = ⊤
+TellsNoReply (line.Cut h k) = ⊤
+TellsNoReply (line.Start h cmd) = ⊤
+TellsNoReply (line.Mark h) = ⊤
+TellsNoReply (line.Found h n) = ⊤
+TellsNoReply (line.Writes h seq e) = ⊤
+TellsNoReply (line.Answered h answer) = IsFault (answer_of answer)
+TellsNoReply (line.Stop h) = ⊤
+TellsNoReply (line.Halt h) = ⊤
+TellsNoReply (line.Umount h) = ⊤
+TellsNoReply (line.Refused name why) = ⊤

@@ -12,10 +12,13 @@ pub use given::{Damage, GivenImage};
 pub use hosts::Hosts;
 
 mod commands;
+mod elsewhere;
+mod lead;
 mod naming;
 mod plain;
 mod settled;
 mod steps;
 mod tasks;
 mod tracks;
-mod elsewhere;
+
+pub use lead::step;
