@@ -75,7 +75,7 @@ of_push (a ∷ xs) x y (zero, e) = inl (0, e)
 of_push (a ∷ xs) x y (suc i, e) = elim (of_push xs x y (i, e)) [ inl h ↦ inl (suc h.0, h.1) | inr h ↦ inr h ]
 
 -- a host that runs a command is one of the hosts
-running_within : (hosts : List Progress) (k : ℕ) (P : List ℕ → TaskShape → Type 0) → OfRunning (slice_get (map (λ (p : Progress). p.shape) hosts) k) P → k < length hosts
+pub running_within : (hosts : List Progress) (k : ℕ) (P : List ℕ → TaskShape → Type 0) → OfRunning (slice_get (map (λ (p : Progress). p.shape) hosts) k) P → k < length hosts
 running_within [] k P runs = absurd runs
 running_within (p ∷ hosts) zero P runs = omega arith
 running_within (p ∷ hosts) (suc k) P runs = omega (arith, running_within hosts k P runs)

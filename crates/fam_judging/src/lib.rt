@@ -22,3 +22,4 @@ mod tasks;
 mod tracks;
 
 pub use lead::step;
+mod going;
