@@ -32,7 +32,7 @@ leads_first start line x old new s = record {
 }
 
 -- a number below the next one is below this one, or is it
-less_or_same : (k n : ℕ) → k < n + 1 → (k < n) ⊎ (k ≡ n)
+pub less_or_same : (k n : ℕ) → k < n + 1 → (k < n) ⊎ (k ≡ n)
 less_or_same zero zero less = inr refl
 less_or_same zero (suc n) less = inl (omega arith)
 less_or_same (suc k) zero less = absurd (omega (arith, less))

@@ -1,5 +1,5 @@
 -- Hosts and candidates keep their places behind a line.
-use Rattle.std.proofs.Common.{◌≡◌, ◌+◌, ◌++◌, ◌<◌, ◌≤◌, ℕ, zero, suc, Bool, true, false, List, [], ◌∷◌, length, set, Option, Some, None, refl, sym, ap, subst, ◌∙◌, arith}
+use Rattle.std.proofs.Common.{◌≡◌, ◌⊎◌, inl, inr, ◌+◌, ◌++◌, ◌<◌, ◌≤◌, ℕ, zero, suc, Bool, true, false, List, [], ◌∷◌, length, set, Option, Some, None, refl, sym, ap, subst, ◌∙◌, arith}
 use Rattle.std.specs.Prelude.{slice_get}
 use Rattle.std.proofs.lemmas.Option.{same_Some}
 use Rattle.fam_history.specs.declared.command.ToldCommand.{ToldCommand}
@@ -13,6 +13,7 @@ use Rattle.fam_lines.specs.Lines.{answer_of}
 use Rattle.fam_judging.specs.declared.candidate.Track.{Track}
 use Rattle.fam_judging.specs.Candidates.{AreCommanded, RunsCommand}
 use Rattle.fam_judging.specs.After.{commands_after, new_seen, new_track, seen_after, tracks_after}
+use Rattle.fam_judging.specs.Told.{IsToldCommand}
 use Rattle.fam_judging.proofs.Lists.{kept}
 
 -- Members that are written.
@@ -99,3 +100,46 @@ placed_after settled seen tracks (line.Stop h) same = same ∙ sym (changed_coun
 placed_after settled seen tracks (line.Halt h) same = same ∙ sym (changed_count h _ seen)
 placed_after settled seen tracks (line.Umount h) same = same ∙ sym (changed_count h _ seen)
 placed_after settled seen tracks (line.Refused name why) same = same
+
+-- Told commands.
+
+-- a member of a list of which one was written
+one_of : {A : Type 0} (h k : ℕ) (x y : A) (xs : List A) → slice_get (changed_at h (λ z. x) xs) k ≡ Some y → (y ≡ x) ⊎ (slice_get xs k ≡ Some y)
+one_of h k x y [] at = inr at
+one_of zero zero x y (z ∷ xs) at = inl (sym (same_Some x y at))
+one_of zero (suc k) x y (z ∷ xs) at = inr at
+one_of (suc h) zero x y (z ∷ xs) at = inr at
+one_of (suc h) (suc k) x y (z ∷ xs) at = one_of h k x y xs at
+
+-- or that one more joined
+one_more : {A : Type 0} (k : ℕ) (x y : A) (xs : List A) → slice_get (xs ++ x ∷ []) k ≡ Some y → (y ≡ x) ⊎ (slice_get xs k ≡ Some y)
+one_more zero x y [] at = inl (sym (same_Some x y at))
+one_more (suc k) x y [] at = absurd cc
+one_more zero x y (z ∷ xs) at = inr at
+one_more (suc k) x y (z ∷ xs) at = one_more k x y xs at
+
+-- a line begins only commands of which it tells all
+abbrev pub BeginsTold : Line → Type 0
+BeginsTold l = (h : ℕ) (cmd : ToldCommand) → l ≡ line.Start h cmd → IsToldCommand cmd
+
+-- so they are told behind it
+pub told_after : (cmds : List (Option ToldCommand)) (l : Line) → BeginsTold l → ((k : ℕ) (c : ToldCommand) → slice_get cmds k ≡ Some (Some c) → IsToldCommand c)
+    → (k : ℕ) (c : ToldCommand) → slice_get (commands_after cmds l) k ≡ Some (Some c) → IsToldCommand c
+told_after cmds (line.Host name uuid) begins told k c at = elim (one_more k None (Some c) cmds at) [
+  | inl none ↦ absurd cc
+  | inr old ↦ told k c old
+]
+told_after cmds (line.Made h p) begins told k c at = told k c at
+told_after cmds (line.Cut h n) begins told k c at = told k c at
+told_after cmds (line.Start h cmd) begins told k c at = elim (one_of h k (Some cmd) (Some c) cmds at) [
+  | inl same ↦ subst IsToldCommand (sym (same_Some c cmd same)) (begins h cmd refl)
+  | inr old ↦ told k c old
+]
+told_after cmds (line.Mark h) begins told k c at = told k c at
+told_after cmds (line.Found h n) begins told k c at = told k c at
+told_after cmds (line.Writes h seq e) begins told k c at = told k c at
+told_after cmds (line.Answered h answer) begins told k c at = told k c at
+told_after cmds (line.Stop h) begins told k c at = told k c at
+told_after cmds (line.Halt h) begins told k c at = told k c at
+told_after cmds (line.Umount h) begins told k c at = told k c at
+told_after cmds (line.Refused name why) begins told k c at = told k c at

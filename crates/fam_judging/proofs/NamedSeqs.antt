@@ -46,7 +46,7 @@ pub named_seq : (start : Image) (h : ℕ) (x : Possible) (hosts : Hosts) (c : Ca
     → slice_get c.tracks.items h ≡ Some t → t.wrote ≡ Some w → w.seq ≡ wrote.seq
 named_seq start h x hosts c t w wrote at keeps =
     ap (λ (n : Named). n.seq) (same_Some (named_of w) named (ap (option_map named_of) (sym keeps) ∙ kept_in hosts.seen.items hosts.commands.items c.tracks.items h t named at
-        (ap (λ (p : Possible). wrote_in p.hosts h) wrote.is ∙ named_in change named (λ p. refl) wrote.met.hosts h within)))
+    (ap (λ (p : Possible). wrote_in p.hosts h) wrote.is ∙ named_in change named (λ p. refl) wrote.met.hosts h within)))
   where
     named : Named
     named = record { seq = wrote.seq; entry = wrote.entry }

@@ -6,3 +6,4 @@ pub mod Told
 pub mod Plain
 pub mod Into
 pub mod Pushing
+pub mod Among

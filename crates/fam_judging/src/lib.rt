@@ -22,4 +22,8 @@ mod tasks;
 mod tracks;
 
 pub use lead::step;
+
+mod behind;
 mod going;
+
+pub use behind::written;
