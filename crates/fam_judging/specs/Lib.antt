@@ -7,3 +7,12 @@ pub mod Plain
 pub mod Into
 pub mod Pushing
 pub mod Among
+pub mod Replies
+pub mod ReplyKinds
+pub mod Lefts
+pub mod FoundLefts
+pub mod NamedLefts
+pub mod Showing
+pub mod AnsweredHosts
+pub mod Reporting
+pub mod PlainAnswers

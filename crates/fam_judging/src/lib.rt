@@ -27,3 +27,13 @@ mod behind;
 mod going;
 
 pub use behind::written;
+
+mod lefts;
+mod replies_appended;
+mod replies_damage;
+mod replies_decided;
+mod replies_plain;
+mod replies_put;
+mod replies_refused;
+mod replies_reported;
+mod replies_shown;

@@ -1,0 +1,182 @@
+//! Answers that an entry is appended.
+
+ghost use Rattle.std.specs.Prelude.{◌≡◌, ◌↔◌, IfOk, IsTrue, None, length};
+ghost use Rattle.fam_settled.specs.Settled.{settled_log_state};
+ghost use Rattle.fam_journal.specs.Legal.{AppendedAllowed, FoundAllowed};
+ghost use Rattle.fam_journal.specs.Past.{acknowledges, finds};
+ghost use Rattle.fam_rules.specs.Reply as reply;
+ghost use Rattle.fam_judging.specs.FoundLefts.{host_of};
+ghost use Rattle.fam_judging.specs.Lefts.{LeavesEndings};
+ghost use Rattle.fam_judging.specs.NamedLefts.{AcknowledgedLeft, FoundNamed, NamesDecided, TellsCommand, NamedLeft};
+
+use crate::candidate::{Settled, Stage, Track, Wrote};
+use crate::given::GivenImage;
+use crate::lefts::{Left, Lefts, none, one};
+use fam_base::{Entry, OutOfMemory};
+use fam_history::ToldCommand;
+use fam_lines::SeenHost;
+use fam_settled::{Log, bytes_told};
+use std::alloc::Global;
+
+/// A command names the entry that the settled ones decide on, and it is acknowledged.
+fn name(
+    log: &mut Log,
+    seen: &SeenHost,
+    cmd: &ToldCommand,
+    seq: u64,
+) -> Result<Option<Entry>, OutOfMemory>
+    requires { TellsCommand cmd.now }
+    ensures { IfOk result (λ named. NamesDecided log.old log.new seq seen.now cmd.now named) }
+{
+    log.is_settled();
+    match log.decide(cmd, seen.uuid) {
+        Some(Ok(entry)) => {
+            log.pend(&entry, bytes_told(cmd));
+            log.acknowledge(seq)?;
+            Ok(Some(entry))
+        }
+        _ => Ok(None),
+    }
+}
+
+/// Whether nothing pends, and so many entries are settled.
+fn is_free(log: &Log, seq: u64) -> bool
+    ensures { IsTrue result ↔ ((seq ≡ length log.now.entries) × (log.now.pending ≡ None)) }
+{
+    log.pending().is_none() && log.count() == seq
+}
+
+/// Where a command found what is settled, what is left behind entry `seq` of it.
+fn named(
+    mut log: Log,
+    seen: &SeenHost,
+    cmd: &ToldCommand,
+    seq: u64,
+    track: &Track,
+) -> Result<Option<Left>, OutOfMemory>
+    requires { TellsCommand cmd.now }
+    ensures { IfOk result (λ left. NamedLeft log seq seen.now cmd.now track.now left) }
+{
+    if !is_free(&log, seq) {
+        return Ok(None);
+    }
+    match name(&mut log, seen, cmd, seq)? {
+        Some(entry) => Ok(Some(Left {
+            settled: Settled::Log(log),
+            track: Track {
+                wrote: Some(Wrote { seq, entry }),
+                ..*track
+            },
+        })),
+        None => Ok(None),
+    }
+}
+
+/// Whether the entry that a command named may be acknowledged.
+fn is_acknowledged(log: &Log, seen: &SeenHost, cmd: &ToldCommand, track: &Track, seq: u64) -> bool
+    ensures { IsTrue result ↔ AppendedAllowed seq (host_of seen.now cmd.now track.now) (acknowledges seq (settled_log_state log.now)) }
+{
+    let _ = seen;
+    let _ = cmd;
+    match track.wrote {
+        Some(wrote) => log.acknowledged_fits(seq, wrote.seq, &wrote.entry),
+        None => false,
+    }
+}
+
+/// What is left where it is.
+fn acknowledged(
+    alloc: Global,
+    log: &Log,
+    seen: &SeenHost,
+    cmd: &ToldCommand,
+    track: &Track,
+    seq: u64,
+) -> Result<Option<Left>, OutOfMemory>
+    ensures { IfOk result (λ left. AcknowledgedLeft log.now seq seen.now cmd.now track.now left) }
+{
+    if !is_acknowledged(log, seen, cmd, track, seq) {
+        return Ok(None);
+    }
+    let mut log = log.copy(alloc)?;
+    log.acknowledge(seq)?;
+    Ok(Some(Left {
+        settled: Settled::Log(log),
+        track: *track,
+    }))
+}
+
+/// What is left behind entry `seq` of a command that finds so many entries now, where it may find them.
+fn found_named(
+    alloc: Global,
+    log: &Log,
+    seen: &SeenHost,
+    cmd: &ToldCommand,
+    track: &Track,
+    seq: u64,
+) -> Result<Option<Left>, OutOfMemory>
+    requires { TellsCommand cmd.now }
+    ensures { IfOk result (λ left. FoundNamed log.now seq seen.now cmd.now track.now left) }
+{
+    if !log.found_fits(seq) {
+        return Ok(None);
+    }
+    let mut log = log.copy(alloc)?;
+    log.finds(seq)?;
+    named(log, seen, cmd, seq, track)
+}
+
+/// What is left of a command that has named no entry yet, where it is told how many it found.
+fn met_named(
+    alloc: Global,
+    log: &Log,
+    seen: &SeenHost,
+    cmd: &ToldCommand,
+    track: &Track,
+    seq: u64,
+) -> Result<Option<Left>, OutOfMemory>
+    requires { TellsCommand cmd.now }
+    ensures { IfOk result (λ left. NamedLeft log.now seq seen.now cmd.now track.now left) }
+{
+    let log = log.copy(alloc)?;
+    named(log, seen, cmd, seq, track)
+}
+
+/// What an answer leaves that entry `seq` is appended.
+pub(crate) fn appended(
+    alloc: Global,
+    given: &GivenImage,
+    seen: &SeenHost,
+    cmd: &ToldCommand,
+    settled: &Settled,
+    track: &Track,
+    seq: u64,
+) -> Result<Lefts, OutOfMemory>
+    requires { TellsCommand cmd.now }
+    ensures { IfOk result (λ lefts. LeavesEndings given.now seen.now cmd.now settled.now track.now (reply.Appended seq) lefts) }
+{
+    let _ = given;
+    let Settled::Log(log) = settled else {
+        return Ok(none());
+    };
+    match track.stage {
+        Stage::Begun | Stage::Marked => {
+            let left = found_named(alloc, log, seen, cmd, track, seq)?;
+            Ok(one(left))
+        }
+        Stage::Met(n) => {
+            if n != seq {
+                return Ok(none());
+            }
+            let left = met_named(alloc, log, seen, cmd, track, seq)?;
+            Ok(one(left))
+        }
+        Stage::Named(n) => {
+            if n != seq {
+                return Ok(none());
+            }
+            let left = acknowledged(alloc, log, seen, cmd, track, seq)?;
+            Ok(one(left))
+        }
+    }
+}
