@@ -1,14 +1,12 @@
 -- Loops over candidates and hosts put states among others.
-use Rattle.std.proofs.Common.{◌≡◌, ◌<◌, ◌⊎◌, inl, inr, ℕ, zero, suc, ◌+◌, List, [], ◌∷◌, ◌++◌, length, map, Some, refl, ap, sym, ◌∙◌, subst, arith}
+use Rattle.std.proofs.Common.{◌≡◌, ◌<◌, ◌⊎◌, inl, inr, ℕ, zero, suc, ◌+◌, List, [], ◌∷◌, ◌++◌, map, Some, refl, sym, ◌∙◌, subst, arith}
 use Rattle.std.specs.List.{slice_get}
-use Rattle.std.proofs.lemmas.Option.{none-some, same_Some}
+use Rattle.std.proofs.lemmas.Option.{same_Some}
 use Rattle.fam_base.specs.Image.{Image}
 use Rattle.fam_journal.specs.Notes.{Note}
-use Rattle.fam_judge.specs.Covering.{HasBelow, IsOf}
 use Rattle.fam_judge.specs.Possible.{Elsewhere, MayLead, Possible, StepsTo, Wrote, written}
 use Rattle.fam_judging.specs.declared.candidate.Candidate.{Candidate}
-use Rattle.fam_judging.specs.Among.{AllFine, LeadsBehind, LeadsBehindAll, LedBehind, PutAmong}
-use Rattle.fam_judging.specs.Into.{PutsInto}
+use Rattle.fam_judging.specs.Among.{LeadsBehind, LeadsBehindAll, LedBehind, PutAmong}
 use Rattle.fam_judging.specs.Pushing.{Pushes}
 use Rattle.fam_judging.proofs.Into.{below_stays, less_or_same, puts_puts}
 use Rattle.fam_judging.proofs.PushedInto.{pushes_all, pushes_into}
@@ -70,4 +68,4 @@ module _ (start : Image) (line : Note) (k : ℕ) (x : Possible) (at : Candidate 
       by i e (inl less) at_i = λ z wrote not steps. below_stays (MayLead start x line) (map see mid) (map see new) z b.among.puts (a.all i e less at_i z wrote not steps)
       by i e (inr same) at_i =
           subst (λ (c : Candidate). LedBehind start line k x (at c) (map see new))
-              (same_Some d e (sym is ∙ subst (λ (j : ℕ). slice_get ws j ≡ Some e) same at_i)) b.all
+          (same_Some d e (sym is ∙ subst (λ (j : ℕ). slice_get ws j ≡ Some e) same at_i)) b.all

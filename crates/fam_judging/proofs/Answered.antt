@@ -79,8 +79,8 @@ module _ (start : Image) (hosts : Hosts) (c : Candidate) (h : ℕ) (s : SeenHost
         ap (λ (ps : List Progress). let x : Possible = record { state = settled_state start l.settled; hosts = ps } in x)
         (sym (list_behind h hosts.seen.items hosts.commands.items c.tracks.items s cmd t r start l is_seen is_cmd is_track))
         ∙ ap₂ (λ (k : Settled) (tracks : List Track).
-          let x : Possible = record { state = settled_state start k; hosts = progress_list (answered_seen h (Replied r) hosts.seen.items) hosts.commands.items tracks } in x) (sym is.settled)
-              (sym is.tracks)
+        let x : Possible = record { state = settled_state start k; hosts = progress_list (answered_seen h (Replied r) hosts.seen.items) hosts.commands.items tracks } in x) (sym is.settled)
+        (sym is.tracks)
 
     -- the line leads to it
     pub put_steps : (l : Left) (d : Candidate) → (lefts.first ≡ Some l) ⊎ (lefts.second ≡ Some l) → KeepsLeft c h l d

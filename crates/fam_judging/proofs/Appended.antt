@@ -41,9 +41,15 @@ met_same n m e = cc
 pub found_of : (log met : Log) (seq : ℕ) (seen : SeenHost) (cmd : ToldCommand) (t : Track) → settled_log_state met ≡ finds seq (settled_log_state log) → FoundAllowed seq (settled_log_state log)
     → (left : Option Left) → NamedLeft met seq seen cmd t left → FoundNamed log seq seen cmd t left
 found_of log met seq seen cmd t same found None none = λ f e is. none e (subst (WritesAllowed seq e (host_of seen cmd t)) (sym same) is)
-found_of log met seq seen cmd t same found (Some l) is =
-    (found, (is.0, subst (WritesAllowed seq is.0 (host_of seen cmd t)) same is.1, is.2,
-     λ start. is.3 start ∙ ap (λ (s : State). let e : EndingState = record { state = acknowledged_state cmd seq is.0 s; floor = t.floor; wrote = Some (record { seq = seq; entry = is.0 }) } in e) same))
+found_of log met seq seen cmd t same found (Some l) is = (
+  found,
+  (
+    is.0,
+    subst (WritesAllowed seq is.0 (host_of seen cmd t)) same is.1,
+    is.2,
+    λ start. is.3 start ∙ ap (λ (s : State). let e : EndingState = record { state = acknowledged_state cmd seq is.0 s; floor = t.floor; wrote = Some (record { seq = seq; entry = is.0 }) } in e) same,
+  ),
+)
 
 -- one ending
 abbrev pub one : Option Left → Lefts
@@ -137,15 +143,22 @@ module _ (given : GivenImage) (seen : SeenHost) (cmd : ToldCommand) (t : Track) 
       stage = is.names.stage ∙ ap Met is.number;
       writes = subst (λ (n : ℕ). WritesAllowed n is.names.entry (told_at (asker_of seen cmd) is.names.met) is.names.met.state) is.number is.names.writes;
       is = is.is ∙ ap (λ (p : Point). let k : EndingState = record { state = acknowledges seq p.state; floor = p.floor; wrote = p.wrote } in k) is.names.is
-          ∙ ap (λ (n : ℕ). let k : EndingState = record { state = acknowledged_state cmd seq is.names.entry is.names.met.state; floor = is.names.met.floor; wrote = Some
-              (record { seq = n; entry = is.names.entry }) } in k) is.number;
+          ∙ ap (λ (n : ℕ). let k : EndingState = record {
+            state = acknowledged_state cmd seq is.names.entry is.names.met.state;
+            floor = is.names.met.floor;
+            wrote = Some
+                (record { seq = n; entry = is.names.entry });
+          } in k) is.number;
     }
 
   -- of a command that is told how many it found
   pub met_leaves : (log : Log) → stage_shape t.stage ≡ Met seq → (left : Option Left) → NamedLeft log seq seen cmd t left → LeavesEndings given seen cmd (settled.Log log) t (reply.Appended seq) (one left)
-  met_leaves log stage left is start own e = (out left is, λ ends. let new = new_of s start e (λ m named. absurd (met_named m seq (sym stage
-      ∙ named))) (appended (asker_of seen cmd) (point_of start s t) e seq ends) in
-      back left is (at_met new.names.met new.names.meets (left_at s start e new)))
+  met_leaves log stage left is start own e = (
+    out left is,
+    λ ends. let new = new_of s start e (λ m named. absurd (met_named m seq (sym stage
+        ∙ named))) (appended (asker_of seen cmd) (point_of start s t) e seq ends) in
+        back left is (at_met new.names.met new.names.meets (left_at s start e new)),
+  )
     where
       s : Settled
       s = settled.Log log
@@ -163,14 +176,21 @@ module _ (given : GivenImage) (seen : SeenHost) (cmd : ToldCommand) (t : Track) 
       back None is l = absurd (is l.entry l.writes)
       back (Some k) is l =
           let same = same_entry (settled_log_state log) seq l.entry is.0 (host_of seen cmd t) l.writes is.1 in
-          first k refl (l.is ∙ ap (λ (entry : Entry). let r : EndingState = record { state = acknowledged_state cmd seq entry (settled_log_state log); floor = t.floor; wrote = Some
-              (record { seq = seq; entry = entry }) } in r) same ∙ sym (is.3 start))
+          first k refl (l.is ∙ ap (λ (entry : Entry). let r : EndingState = record {
+            state = acknowledged_state cmd seq entry (settled_log_state log);
+            floor = t.floor;
+            wrote = Some
+                (record { seq = seq; entry = entry });
+          } in r) same ∙ sym (is.3 start))
 
   -- of one that finds them now
   pub found_leaves : (log : Log) → IsHead (stage_shape t.stage) → (left : Option Left) → FoundNamed log seq seen cmd t left → LeavesEndings given seen cmd (settled.Log log) t (reply.Appended seq) (one left)
-  found_leaves log head left is start own e = (out left is, λ ends. let new = new_of s start e (λ m named. absurd (subst IsHead named head)) (appended (asker_of seen cmd)
-      (point_of start s t) e seq ends) in
-      back left is (at_found new.names.met new.names.meets (left_at s start e new)))
+  found_leaves log head left is start own e = (
+    out left is,
+    λ ends. let new = new_of s start e (λ m named. absurd (subst IsHead named head)) (appended (asker_of seen cmd)
+        (point_of start s t) e seq ends) in
+        back left is (at_found new.names.met new.names.meets (left_at s start e new)),
+  )
     where
       s : Settled
       s = settled.Log log
@@ -179,9 +199,10 @@ module _ (given : GivenImage) (seen : SeenHost) (cmd : ToldCommand) (t : Track) 
           → FoundAllowed seq (settled_log_state log) × Left_at (settled.Log log) start e (found_at seq (point_of start (settled.Log log) t))
       at_found met (told n there same) is = absurd (subst IsHead there head)
       at_found met (untold n own wish found same) is =
-          let k : n ≡ seq = met_same n seq (sym (ap (λ (p : Point). p.stage) same) ∙ is.stage) in
-          (subst (λ (m : ℕ). FoundAllowed m (settled_log_state log)) k found,
-           subst (λ (m : ℕ). Left_at (settled.Log log) start e (found_at m (point_of start (settled.Log log) t))) k (subst (Left_at (settled.Log log) start e) same is))
+          let k : n ≡ seq = met_same n seq (sym (ap (λ (p : Point). p.stage) same) ∙ is.stage) in (
+            subst (λ (m : ℕ). FoundAllowed m (settled_log_state log)) k found,
+            subst (λ (m : ℕ). Left_at (settled.Log log) start e (found_at m (point_of start (settled.Log log) t))) k (subst (Left_at (settled.Log log) start e) same is),
+          )
 
       wish_in : (entry : Entry) → EntryShape (untold_of cmd) entry → HasWish (untold_of cmd)
       wish_in entry is = (is.0, is.1)
@@ -197,8 +218,12 @@ module _ (given : GivenImage) (seen : SeenHost) (cmd : ToldCommand) (t : Track) 
       back None is l = absurd (is l.0 l.1.entry l.1.writes)
       back (Some k) is l =
           let same = same_entry (finds seq (settled_log_state log)) seq l.1.entry is.1.0 (host_of seen cmd t) l.1.writes is.1.1 in
-          first k refl (l.1.is ∙ ap (λ (entry : Entry). let r : EndingState = record { state = acknowledged_state cmd seq entry (finds seq (settled_log_state log)); floor = t.floor; wrote = Some
-              (record { seq = seq; entry = entry }) } in r) same ∙ sym (is.1.3 start))
+          first k refl (l.1.is ∙ ap (λ (entry : Entry). let r : EndingState = record {
+            state = acknowledged_state cmd seq entry (finds seq (settled_log_state log));
+            floor = t.floor;
+            wrote = Some
+                (record { seq = seq; entry = entry });
+          } in r) same ∙ sym (is.1.3 start))
 
   -- the number is another one
   pub other_leaves : (s : Settled) (n : ℕ) → (stage_shape t.stage ≡ Met n) ⊎ (stage_shape t.stage ≡ Named n) → n ≢ seq → LeavesEndings given seen cmd s t (reply.Appended seq) (one None)

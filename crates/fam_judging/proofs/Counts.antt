@@ -1,9 +1,8 @@
 -- How many entries a master may find.
-use Rattle.std.proofs.Common.{◌≡◌, ◌≢◌, ◌⊎◌, ◌↔◌, ◌+◌, ℕ, IsTrue, true, false, Option, Some, None, inl, inr, refl, sym, arith}
+use Rattle.std.proofs.Common.{◌≡◌, ◌≢◌, ◌↔◌, ◌+◌, ℕ, IsTrue, true, false, Option, Some, None, inl, inr, refl, sym, arith}
 use Rattle.std.specs.Prelude.{is_some}
 use Rattle.std.proofs.lemmas.Bool.{true≢false}
 use Rattle.fam_journal.specs.Legal.{FoundPending}
-use Rattle.fam_rules.specs.Asks.{File}
 use Rattle.fam_settled.specs.declared.bytes.Filed.{Filed}
 use Rattle.fam_settled.specs.Settled.{filed}
 

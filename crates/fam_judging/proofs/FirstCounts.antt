@@ -8,14 +8,14 @@ use Rattle.fam_base.specs.Image.{Image}
 use Rattle.fam_journal.specs.Legal.{FoundAllowed, FoundPending, OfHost, WritesAllowed}
 use Rattle.fam_journal.specs.Notes.{Found}
 use Rattle.fam_journal.specs.Past.{Bad, Damage, HostPast, Origin, Sound, State, finds, first_state, settled_length}
-use Rattle.fam_journal.specs.Shapes.{CommandStage, IsHead, Met}
+use Rattle.fam_journal.specs.Shapes.{IsHead, Met}
 use Rattle.fam_judge.specs.Possible.{Possible, StageIs, Wrote, after_note, past_in}
 use Rattle.fam_judging.specs.declared.candidate.Candidate.{Candidate}
 use Rattle.fam_judging.specs.declared.candidate.Stage.{Stage}
 use Rattle.fam_judging.specs.declared.candidate.Stage.TheVariants as stage
 use Rattle.fam_judging.specs.declared.hosts.Hosts.{Hosts}
 use Rattle.fam_judging.specs.Candidates.{IsGivenImage, possible_of, settled_state, stage_shape}
-use Rattle.fam_judging.specs.Going.{FindsEntries, MeetsAt, NamesByNow, stage_of_host}
+use Rattle.fam_judging.specs.Going.{NamesByNow, stage_of_host}
 use Rattle.fam_judging.specs.Pushing.{IsMore, IsSoundState, Pushes, WrittenAt, first_count}
 use Rattle.fam_settled.specs.declared.bytes.Filed.{Filed}
 use Rattle.fam_settled.specs.Settled.{SettledLog, filed, settled_files, settled_log_state}

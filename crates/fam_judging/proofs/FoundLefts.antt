@@ -71,10 +71,13 @@ none_filed (Some f) e = absurd cc
 -- a refusal of a log on which nothing pends
 pub refused_log : (log : Log) (host : HostPast) (cmd : Cmd) (why : Cause) → host.cmd ≡ Some cmd
     → DecideAllowed host (Err why) (settled_log_state log) ↔ ((log.pending ≡ None) × (decide log.params host.uuid (Rattle.fam_rules.specs.Asks.entries_of (settled_files log)) cmd ≡ Some (Err why)))
-refused_log log host cmd why own =
-    (λ is. (none_filed log.pending is.none,
-      subst (λ (c : Cmd). decide log.params host.uuid (Rattle.fam_rules.specs.Asks.entries_of (settled_files log)) c ≡ Some (Err why)) (sym (same_Some cmd is.cmd (sym own ∙ is.told))) is.is),
-     λ both. record { cmd = cmd; told = own; none = filed_none log.pending both.0; is = both.1 })
+refused_log log host cmd why own = (
+  λ is. (
+    none_filed log.pending is.none,
+    subst (λ (c : Cmd). decide log.params host.uuid (Rattle.fam_rules.specs.Asks.entries_of (settled_files log)) c ≡ Some (Err why)) (sym (same_Some cmd is.cmd (sym own ∙ is.told))) is.is,
+  ),
+  λ both. record { cmd = cmd; told = own; none = filed_none log.pending both.0; is = both.1 },
+)
 
 -- Lefts.
 
@@ -151,10 +154,16 @@ module _ (given : GivenImage) (seen : SeenHost) (cmd : ToldCommand) (t : Track) 
       → ((start : Image) → IsTrue b ↔ DecideAllowed (host_of seen cmd t) (Err why) (settled_state start s))
       → LeavesEndings given seen cmd s t (reply.NotAppended why) (only b s t)
   met_leaves s n met b is start own e =
-      let left = Rattle.fam_judging.proofs.Leaves.only_left start b s t (DecideAllowed (host_of seen cmd t) (Err why) (settled_state start s)) (is start) e in
-      (λ l. let both = left.0 l in declines_met (asker_of seen cmd) (point_of start s t) e why (record {
-        met = point_of start s t; meets = told n met refl; decided = ruled; decides = both.0; is = both.1 }),
-       λ ends. let m = met_of s start own e ends in left.1 (back m.met m.meets m.decides m.is))
+      let left = Rattle.fam_judging.proofs.Leaves.only_left start b s t (DecideAllowed (host_of seen cmd t) (Err why) (settled_state start s)) (is start) e in (
+        λ l. let both = left.0 l in declines_met (asker_of seen cmd) (point_of start s t) e why (record {
+          met = point_of start s t;
+          meets = told n met refl;
+          decided = ruled;
+          decides = both.0;
+          is = both.1;
+        }),
+        λ ends. let m = met_of s start own e ends in left.1 (back m.met m.meets m.decides m.is),
+      )
     where
       back : (p : Point) → MeetsAtPoint (asker_of seen cmd) (point_of start s t) p → DecideAllowed (Rattle.fam_judging.specs.Replies.told_at (asker_of seen cmd) p) (Err why) p.state → e ≡ same_ending p
           → DecideAllowed (host_of seen cmd t) (Err why) (settled_state start s) × (e ≡ ending_left start s t)
@@ -198,7 +207,7 @@ module _ (given : GivenImage) (seen : SeenHost) (cmd : ToldCommand) (t : Track) 
           by None pending is = let no : None ≡ Some l = sym is ∙ there in absurd cc
           by (Some f) pending is =
               ends_at (length log.entries + 1) (subst (λ (o : Option Filed). FoundAllowed (length log.entries + 1) (Sound log.params (settled_files log) (filed o))) (sym pending) (inr (ap
-                  (λ n. n + 1) (sym count))))
+              (λ n. n + 1) (sym count))))
               lefts.second is l there same
 
       left_at : (n : ℕ) → DecideAllowed (host_of seen cmd t) (Err why) (finds n (settled_log_state log)) → e ≡ same_ending (found_at n (point_of start (settled.Log log) t))

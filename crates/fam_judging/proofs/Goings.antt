@@ -1,5 +1,5 @@
 -- What a function says of the states to which a line leads.
-use Rattle.std.proofs.Common.{◌≡◌, ◌↔◌, ℕ, Bool, true, false, IsTrue, refl, sym, ap, ap₂, subst, ◌∙◌, List, Some, Result, Ok, Err}
+use Rattle.std.proofs.Common.{◌≡◌, ℕ, Bool, true, false, refl, sym, ap, ap₂, subst, ◌∙◌, List, Some, Result, Ok, Err}
 use Rattle.std.specs.Result.{IfOk, OnOk}
 use Rattle.std.proofs.lemmas.Bool.{true≢false}
 use Rattle.fam_base.specs.Image.{Image}

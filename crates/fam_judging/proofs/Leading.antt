@@ -6,15 +6,13 @@ use Rattle.fam_base.specs.Image.{Image}
 use Rattle.fam_commands.specs.Appends.{HasWish}
 use Rattle.fam_journal.specs.Legal.{FoundAllowed}
 use Rattle.fam_journal.specs.Members.{changed_at}
-use Rattle.fam_journal.specs.Notes.{Found, Mark, Note, Writes}
-use Rattle.fam_journal.specs.Past.{finds, settled_length}
-use Rattle.fam_journal.specs.Shapes.{Begun, CommandStage, HostShape, IsHead, Marked, Met, Named, OfRunning, OfTask, TaskNote, TaskShape, with_stage}
-use Rattle.fam_judge.specs.Fitting.{FitsNext}
-use Rattle.fam_judge.specs.Possible.{Possible, Progress, MeetsEntries, Reaches, ReachesFor, StageIs, StepsTo, WantsToAppend, Wrote, after_note, after_line, meets, marked, past_in, shapes_in, stands, shown_met, unmarked, left_out_met, after_mark, without_mark}
-use Rattle.fam_judge.proofs.Members.{map_changed}
+use Rattle.fam_journal.specs.Notes.{Found, Mark, Writes}
+use Rattle.fam_journal.specs.Past.{finds}
+use Rattle.fam_journal.specs.Shapes.{Begun, CommandStage, HostShape, IsHead, Marked, Met, Named, OfRunning, OfTask, TaskNote, TaskShape}
+use Rattle.fam_judge.specs.Possible.{Possible, Progress, MeetsEntries, StageIs, StepsTo, WantsToAppend, Wrote, after_note, meets, marked, shapes_in, stands, shown_met, unmarked, left_out_met, after_mark, without_mark}
 use Rattle.fam_judge.proofs.OverOwn.{marked_begun}
 use Rattle.fam_judge.proofs.Places.{changed_twice}
-use Rattle.fam_judging.specs.Going.{FindsEntries, MayName, MeetsAt, NamesByNow}
+use Rattle.fam_judging.specs.Going.{FindsEntries, MeetsAt, NamesByNow}
 use Rattle.fam_judging.proofs.Reaching.{behind_found, behind_mark, both, one_stage, reach_begun, reach_marked, reach_met, weaker, with_its_mark, without_its_mark}
 
 -- two changes that are the same

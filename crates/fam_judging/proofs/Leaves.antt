@@ -117,9 +117,10 @@ module _ (given : GivenImage) (seen : SeenHost) (cmd : ToldCommand) (s : Settled
   -- a refusal that the superblock tells
   pub early_leaves : (why : Cause) (b : Bool) → (IsTrue b ↔ DeclinesEarly (params_in given s) seen.uuid (untold_of cmd) (stage_shape t.stage) why) → (IsDecidedCause why → ⊥)
       → LeavesEndings given seen cmd s t (reply.NotAppended why) (only b s (record t { floor = None }))
-  early_leaves why b is early = only_leaves (reply.NotAppended why) b (record t { floor = None }) _ is (λ start own e.
-      (λ ends. out start e (declined (asker_of seen cmd) (point_of start s t) e (params_in given s) (params_are start given s own) why ends),
-       λ both. declines_early (asker_of seen cmd) (point_of start s t) e (params_in given s) (params_are start given s own) why both.0 both.1))
+  early_leaves why b is early = only_leaves (reply.NotAppended why) b (record t { floor = None }) _ is (λ start own e. (
+    λ ends. out start e (declined (asker_of seen cmd) (point_of start s t) e (params_in given s) (params_are start given s own) why ends),
+    λ both. declines_early (asker_of seen cmd) (point_of start s t) e (params_in given s) (params_are start given s own) why both.0 both.1,
+  ))
     where
       out : (start : Image) (e : EndingState) → (DeclinesEarly (params_in given s) seen.uuid (untold_of cmd) (stage_shape t.stage) why × (e ≡ ending_left start s
           (record t { floor = None }))) ⊎ DeclinesMet (asker_of seen cmd) (point_of start s t) why e
@@ -130,9 +131,10 @@ module _ (given : GivenImage) (seen : SeenHost) (cmd : ToldCommand) (s : Settled
   -- no superblock
   pub super_leaves : (fault : SuperFault) (b : Bool) → (IsTrue b ↔ FailsSuper (damage_in given s) (untold_of cmd) (stage_shape t.stage) fault)
       → LeavesEndings given seen cmd s t (reply.NoSuperblock fault) (only b s (record t { floor = None }))
-  super_leaves fault b is = only_leaves (reply.NoSuperblock fault) b (record t { floor = None }) _ is (λ start own e.
-      (no_superblock (asker_of seen cmd) (point_of start s t) e (damage_in given s) (damage_is start given s own) fault,
-       λ both. fails_super (asker_of seen cmd) (point_of start s t) e (damage_in given s) (damage_is start given s own) fault both.0 both.1))
+  super_leaves fault b is = only_leaves (reply.NoSuperblock fault) b (record t { floor = None }) _ is (λ start own e. (
+    no_superblock (asker_of seen cmd) (point_of start s t) e (damage_in given s) (damage_is start given s own) fault,
+    λ both. fails_super (asker_of seen cmd) (point_of start s t) e (damage_in given s) (damage_is start given s own) fault both.0 both.1,
+  ))
 
   field_apart : (f : LogField) → FieldPlace f Begun → FieldPlace f Marked → ⊥
   field_apart field.Gate begun mark = Rattle.fam_judging.proofs.ReplyPlaces.begun_marked begun
@@ -149,9 +151,10 @@ module _ (given : GivenImage) (seen : SeenHost) (cmd : ToldCommand) (s : Settled
   -- a bad header
   pub header_leaves : (fault : LogFault) (b : Bool) → (IsTrue b ↔ FailsHeader (damage_in given s) (untold_of cmd) (stage_shape t.stage) fault) → (FaultPlace fault Marked → ⊥)
       → LeavesEndings given seen cmd s t (reply.BadHeader fault) (only b s (record t { floor = None }))
-  header_leaves fault b is other = only_leaves (reply.BadHeader fault) b (record t { floor = None }) _ is (λ start own e.
-      (λ ends. out start e (bad_header (asker_of seen cmd) (point_of start s t) e (damage_in given s) (damage_is start given s own) fault ends),
-       λ both. fails_header (asker_of seen cmd) (point_of start s t) e (damage_in given s) (damage_is start given s own) fault both.0 both.1))
+  header_leaves fault b is other = only_leaves (reply.BadHeader fault) b (record t { floor = None }) _ is (λ start own e. (
+    λ ends. out start e (bad_header (asker_of seen cmd) (point_of start s t) e (damage_in given s) (damage_is start given s own) fault ends),
+    λ both. fails_header (asker_of seen cmd) (point_of start s t) e (damage_in given s) (damage_is start given s own) fault both.0 both.1,
+  ))
     where
       out : (start : Image) (e : EndingState) → (FailsHeader (damage_in given s) (untold_of cmd) (stage_shape t.stage) fault × (e ≡ ending_left start s (record t { floor = None })))
           ⊎ (FailsGate (damage_in given s) (untold_of cmd) (stage_shape t.stage) fault × (e ≡ ending_left start s t))
@@ -162,9 +165,10 @@ module _ (given : GivenImage) (seen : SeenHost) (cmd : ToldCommand) (s : Settled
   -- a bad gate
   pub gate_leaves : (fault : LogFault) (b : Bool) → (IsTrue b ↔ FailsGate (damage_in given s) (untold_of cmd) (stage_shape t.stage) fault) → FaultPlace fault Marked
       → LeavesEndings given seen cmd s t (reply.BadHeader fault) (only b s t)
-  gate_leaves fault b is place = only_leaves (reply.BadHeader fault) b t _ is (λ start own e.
-      (λ ends. out start e (bad_header (asker_of seen cmd) (point_of start s t) e (damage_in given s) (damage_is start given s own) fault ends),
-       λ both. fails_gate (asker_of seen cmd) (point_of start s t) e (damage_in given s) (damage_is start given s own) fault both.0 both.1))
+  gate_leaves fault b is place = only_leaves (reply.BadHeader fault) b t _ is (λ start own e. (
+    λ ends. out start e (bad_header (asker_of seen cmd) (point_of start s t) e (damage_in given s) (damage_is start given s own) fault ends),
+    λ both. fails_gate (asker_of seen cmd) (point_of start s t) e (damage_in given s) (damage_is start given s own) fault both.0 both.1,
+  ))
     where
       out : (start : Image) (e : EndingState) → (FailsHeader (damage_in given s) (untold_of cmd) (stage_shape t.stage) fault × (e ≡ ending_left start s (record t { floor = None })))
           ⊎ (FailsGate (damage_in given s) (untold_of cmd) (stage_shape t.stage) fault × (e ≡ ending_left start s t))
@@ -175,9 +179,10 @@ module _ (given : GivenImage) (seen : SeenHost) (cmd : ToldCommand) (s : Settled
   -- a bad slot
   pub slot_leaves : (i : ℕ) (reason : Reason) (b : Bool) → (IsTrue b ↔ FailsSlot (damage_in given s) (untold_of cmd) (stage_shape t.stage) i reason)
       → LeavesEndings given seen cmd s t (reply.BadSlot i reason) (only b s t)
-  slot_leaves i reason b is = only_leaves (reply.BadSlot i reason) b t _ is (λ start own e.
-      (bad_slot (asker_of seen cmd) (point_of start s t) e (damage_in given s) (damage_is start given s own) i reason,
-       λ both. fails_slot (asker_of seen cmd) (point_of start s t) e (damage_in given s) (damage_is start given s own) i reason both.0 both.1))
+  slot_leaves i reason b is = only_leaves (reply.BadSlot i reason) b t _ is (λ start own e. (
+    bad_slot (asker_of seen cmd) (point_of start s t) e (damage_in given s) (damage_is start given s own) i reason,
+    λ both. fails_slot (asker_of seen cmd) (point_of start s t) e (damage_in given s) (damage_is start given s own) i reason both.0 both.1,
+  ))
 
 -- a reply is the one that an answer tells
 pub replied_leaves : (given : GivenImage) (seen : SeenHost) (cmd : ToldCommand) (s : Settled) (t : Track) (lefts : Lefts) (a : Answer) (r q : Reply) → a ≡ Replied r → a ≡ Replied q

@@ -7,7 +7,7 @@ use Rattle.fam_history.specs.declared.command.ToldCommand.{ToldCommand}
 use Rattle.fam_journal.specs.Members.{changed_at}
 use Rattle.fam_journal.specs.Past.{HostPast, State, settled_length}
 use Rattle.fam_journal.specs.Shapes.{Begun, CommandStage, Marked, Met, Named, TaskShape, with_stage}
-use Rattle.fam_judge.specs.Possible.{Possible, Progress, after_line, new_progress}
+use Rattle.fam_judge.specs.Possible.{Progress, after_line, new_progress}
 use Rattle.fam_judge.proofs.Members.{changed_same}
 use Rattle.fam_lines.specs.declared.host.SeenHost.{SeenHost}
 use Rattle.fam_lines.specs.declared.line.Line.{Line}

@@ -1,17 +1,16 @@
 -- What a command has found by now, and what it names behind that.
-use Rattle.std.proofs.Common.{◌≡◌, ◌⊎◌, ◌↔◌, inl, inr, ℕ, Bool, true, false, IsTrue, Option, Some, None, refl, sym, ap, subst, ◌∙◌}
+use Rattle.std.proofs.Common.{◌≡◌, ◌↔◌, inl, inr, ℕ, Bool, true, false, IsTrue, Option, Some, None, refl, sym, ap, subst, ◌∙◌}
 use Rattle.std.specs.Prelude.{slice_get}
 use Rattle.std.proofs.lemmas.Bool.{true≢false}
-use Rattle.std.proofs.lemmas.Option.{same_Some}
 use Rattle.fam_base.specs.declared.entry.Entry.{Entry}
 use Rattle.fam_base.specs.Image.{Image}
 use Rattle.fam_journal.specs.Notes.{Writes}
-use Rattle.fam_journal.specs.Shapes.{CommandStage, IsHead, Met, TaskShape}
-use Rattle.fam_judge.specs.Possible.{Possible, StageIs, StepsTo, after_note, shapes_in}
+use Rattle.fam_journal.specs.Shapes.{IsHead, Met}
+use Rattle.fam_judge.specs.Possible.{Possible, StepsTo, after_note, shapes_in}
 use Rattle.fam_judging.specs.declared.candidate.Candidate.{Candidate}
 use Rattle.fam_judging.specs.declared.hosts.Hosts.{Hosts}
 use Rattle.fam_judging.specs.Candidates.{possible_of}
-use Rattle.fam_judging.specs.Going.{FindsEntries, Goes, MayName, MeetsAt, NamesByNow, is_met, stage_of_host}
+use Rattle.fam_judging.specs.Going.{FindsEntries, Goes, MayName, MeetsAt, is_met, stage_of_host}
 use Rattle.fam_judging.specs.Told.{NamesFrom, NamesNext}
 use Rattle.fam_judging.proofs.Goings.{goes_there}
 use Rattle.fam_judging.proofs.Leading.{writes_from, writes_to}

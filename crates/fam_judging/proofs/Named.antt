@@ -1,6 +1,6 @@
 -- The entry that a command names.
-use Rattle.std.proofs.Common.{◌≡◌, ◌≢◌, ℕ, false, List, length, Option, Some, None, Result, Ok, refl, sym, ap, ap₂, subst, ◌∙◌}
-use Rattle.std.specs.Prelude.{is_some, option_map, slice_get}
+use Rattle.std.proofs.Common.{◌≡◌, ℕ, false, List, length, Option, Some, None, Result, Ok, refl, sym, ap, ap₂, subst, ◌∙◌}
+use Rattle.std.specs.Prelude.{is_some, option_map}
 use Rattle.std.proofs.lemmas.Bool.{true≢false}
 use Rattle.std.proofs.lemmas.Option.{same_Some}
 use Rattle.fam_base.specs.declared.cmd.Cmd.{Cmd}
@@ -8,13 +8,13 @@ use Rattle.fam_base.specs.declared.entry.Entry.{Entry}
 use Rattle.fam_base.specs.declared.entry.Params.{Params}
 use Rattle.fam_format.specs.Params.{SoundParams}
 use Rattle.fam_history.specs.declared.command.ToldCommand.{ToldCommand}
-use Rattle.fam_journal.specs.Legal.{IsDecided, WritesAllowed}
-use Rattle.fam_journal.specs.Past.{HostPast, Sound, State, filled_bytes, pends}
-use Rattle.fam_journal.specs.Shapes.{EntryShape, IsWished}
+use Rattle.fam_journal.specs.Legal.{WritesAllowed}
+use Rattle.fam_journal.specs.Past.{HostPast, State, filled_bytes, pends}
+use Rattle.fam_journal.specs.Shapes.{EntryShape}
 use Rattle.fam_lines.specs.Lines.{untold_of}
-use Rattle.fam_rules.specs.Asks.{File, entries_of}
+use Rattle.fam_rules.specs.Asks.{entries_of}
 use Rattle.fam_rules.specs.Decide.{Wish, decide, decide_wish, wish_of}
-use Rattle.fam_rules.specs.DecideLaws.{IsAsWished, IsSoundWish}
+use Rattle.fam_rules.specs.DecideLaws.{IsAsWished}
 use Rattle.fam_rules.specs.declared.answers.Refused.{Refused}
 use Rattle.fam_rules.proofs.DecideProofs.{as_wished}
 use Rattle.fam_settled.specs.declared.bytes.Bytes.{Bytes}

@@ -60,7 +60,11 @@ file_is cmd e b told is bytes =
 -- an entry may be written where nothing pends and it is decided
 pub writes_log : (log : Log) (seq : ℕ) (e : Entry) (seen : SeenHost) (cmd : ToldCommand) (t : Track)
     → WritesAllowed seq e (host_of seen cmd t) (settled_log_state log) ↔ ((seq ≡ length log.entries) × (log.pending ≡ None) × (decision log seen cmd ≡ Some (Ok e)))
-writes_log log seq e seen cmd t =
-    (λ is. (is.0 ∙ length-files_of log.entries log.bytes, none_filed log.pending is.1.none,
-      subst (λ (c : Cmd). decide log.params seen.uuid (entries_of (settled_files log)) c ≡ Some (Ok e)) (sym (same_Some (untold_of cmd) is.1.cmd is.1.told)) is.1.is),
-     λ all. (all.0 ∙ sym (length-files_of log.entries log.bytes), record { cmd = untold_of cmd; told = refl; none = filed_none log.pending all.1; is = all.2 }))
+writes_log log seq e seen cmd t = (
+  λ is. (
+    is.0 ∙ length-files_of log.entries log.bytes,
+    none_filed log.pending is.1.none,
+    subst (λ (c : Cmd). decide log.params seen.uuid (entries_of (settled_files log)) c ≡ Some (Ok e)) (sym (same_Some (untold_of cmd) is.1.cmd is.1.told)) is.1.is,
+  ),
+  λ all. (all.0 ∙ sym (length-files_of log.entries log.bytes), record { cmd = untold_of cmd; told = refl; none = filed_none log.pending all.1; is = all.2 }),
+)

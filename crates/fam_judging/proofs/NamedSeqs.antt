@@ -1,5 +1,5 @@
 -- The number of the entry that a host has named.
-use Rattle.std.proofs.Common.{◌≡◌, ◌<◌, ℕ, zero, suc, ◌+◌, List, [], ◌∷◌, length, map, Option, Some, None, refl, ap, sym, ◌∙◌, subst, arith}
+use Rattle.std.proofs.Common.{◌≡◌, ◌<◌, ℕ, zero, suc, List, [], ◌∷◌, length, Option, Some, None, refl, ap, sym, ◌∙◌, arith}
 use Rattle.std.specs.Option.{option_map}
 use Rattle.std.specs.List.{slice_get}
 use Rattle.std.proofs.lemmas.Option.{none-some, same_Some}
@@ -7,16 +7,15 @@ use Rattle.fam_base.specs.Image.{Image}
 use Rattle.fam_history.specs.declared.command.ToldCommand.{ToldCommand}
 use Rattle.fam_journal.specs.Members.{changed_at}
 use Rattle.fam_journal.specs.Notes.{Writes}
-use Rattle.fam_journal.specs.Past.{settled_length}
-use Rattle.fam_journal.specs.Shapes.{HostShape, Named as StageNamed, OfRunning, TaskNote, TaskShape, with_stage}
-use Rattle.fam_judge.specs.Possible.{Possible, Progress, Wrote, after_note}
+use Rattle.fam_journal.specs.Shapes.{Named as StageNamed, TaskNote, with_stage}
+use Rattle.fam_judge.specs.Possible.{Possible, Progress, Wrote}
 use Rattle.fam_lines.specs.declared.host.SeenHost.{SeenHost}
 use Rattle.fam_protocol.specs.After.{Named}
 use Rattle.fam_judging.specs.declared.candidate.Candidate.{Candidate}
 use Rattle.fam_judging.specs.declared.candidate.Track.{Track}
 use Rattle.fam_judging.specs.declared.candidate.Wrote.{Wrote as Written}
 use Rattle.fam_judging.specs.declared.hosts.Hosts.{Hosts}
-use Rattle.fam_judging.specs.Candidates.{named_of, possible_of, progress_list, progress_of}
+use Rattle.fam_judging.specs.Candidates.{named_of, possible_of, progress_list}
 use Rattle.fam_judging.proofs.Into.{running_within}
 
 -- what host h named last

@@ -6,7 +6,7 @@ use Rattle.std.proofs.lemmas.Option.{same_Some}
 use Rattle.fam_base.specs.Image.{Image}
 use Rattle.fam_history.specs.declared.command.ToldCommand.{ToldCommand}
 use Rattle.fam_journal.specs.Shapes.{CommandStage, HostShape, OfRunning, TaskShape}
-use Rattle.fam_judge.specs.Possible.{Possible, StageIs, shapes_in}
+use Rattle.fam_judge.specs.Possible.{StageIs, shapes_in}
 use Rattle.fam_judge.proofs.Folding.{shape_in}
 use Rattle.fam_lines.specs.declared.host.SeenHost.{SeenHost}
 use Rattle.fam_judging.specs.declared.candidate.Candidate.{Candidate}
@@ -56,7 +56,15 @@ owns (s ∷ seen) (c ∷ cmds) [] h cmd t is at = absurd cc
 owns (s ∷ seen) (c ∷ cmds) (k ∷ tracks) zero cmd t is at =
     let r = first_runs s.runs c cmd is in
     let one : k ≡ t = same_Some k t at in
-    record { host = s; is = refl; runs = r.0; told = ap Some r.1; there = ap₂ (λ (o : Option ToldCommand) (q : Track). Some (progress_of s o q)) r.1 one; shape = ap (λ (o : Option TaskShape). Some (let y : HostShape = record { name = s.name; uuid = s.uuid; task = o; keeps = s.keeps } in y)) (here s.runs c cmd k r.0 r.1) ∙ ap (λ (q : Track). Some (shaped s cmd q)) one }
+    record {
+      host = s;
+      is = refl;
+      runs = r.0;
+      told = ap Some r.1;
+      there = ap₂ (λ (o : Option ToldCommand) (q : Track). Some (progress_of s o q)) r.1 one;
+      shape = ap (λ (o : Option TaskShape). Some (let y : HostShape = record { name = s.name; uuid = s.uuid; task = o; keeps = s.keeps } in y)) (here s.runs c cmd k r.0 r.1)
+          ∙ ap (λ (q : Track). Some (shaped s cmd q)) one;
+    }
 owns (s ∷ seen) (c ∷ cmds) (k ∷ tracks) (suc h) cmd t is at =
     let o = owns seen cmds tracks h cmd t is at in
     record { host = o.host; is = o.is; runs = o.runs; told = o.told; there = o.there; shape = o.shape }

@@ -1,6 +1,6 @@
 -- Lines that no running command gives.
-use Rattle.std.proofs.Common.{◌≡◌, ◌≢◌, ◌↔◌, ◌+◌, ◌*◌, ◌≤◌, ◌&&◌, ℕ, Bool, true, false, IsTrue, List, [], ◌∷◌, length, map, Option, Some, None, refl, sym, ap, ap₂, subst, ◌∙◌, arith}
-use Rattle.std.specs.Prelude.{⊤, if◌then◌else◌, is_some, option_map, slice_get}
+use Rattle.std.proofs.Common.{◌≡◌, ◌↔◌, ◌*◌, ◌≤◌, ◌&&◌, ℕ, Bool, true, false, IsTrue, List, [], ◌∷◌, length, map, Option, Some, None, refl, sym, ap, ap₂, subst, ◌∙◌, arith}
+use Rattle.std.specs.Prelude.{if◌then◌else◌, is_some, option_map, slice_get}
 use Rattle.std.proofs.lemmas.Bool.{true≢false}
 use Rattle.fam_base.specs.declared.entry.Params.{Params}
 use Rattle.fam_base.specs.Image.{Image}
@@ -13,16 +13,16 @@ use Rattle.fam_journal.specs.Past.{Past, settled_length, state_after}
 use Rattle.fam_journal.specs.Shapes.{HostShape, TaskShape}
 use Rattle.fam_judge.specs.Fitting.{FitsNext}
 use Rattle.fam_judge.specs.Possible.{Possible, ReachesFor, StepsTo, after_line, giver, past_in, shapes_in}
-use Rattle.fam_judge.specs.Standing.{Face, IsMadeBy, OfFace, MayStand, face, faces, is_own}
+use Rattle.fam_judge.specs.Standing.{Face, IsMadeBy, OfFace, MayStand, faces, is_own}
 use Rattle.fam_judge.proofs.Folding.{shape_in}
 use Rattle.fam_lines.specs.declared.host.SeenHost.{SeenHost}
 use Rattle.fam_lines.specs.declared.line.Line.{Line}
 use Rattle.fam_lines.specs.declared.line.Line.TheVariants as line
-use Rattle.fam_lines.specs.Hosts.{face_of, faces_of}
+use Rattle.fam_lines.specs.Hosts.{faces_of}
 use Rattle.fam_lines.specs.Lines.{note_of_line}
 use Rattle.fam_rules.specs.Place.{line_bytes}
 use Rattle.fam_judging.specs.declared.candidate.Track.{Track}
-use Rattle.fam_judging.specs.Candidates.{AreCommanded, HostsFit, IsCandidate, RunsCommand, possible_of, progress_list, progress_of, settled_state, stage_shape}
+use Rattle.fam_judging.specs.Candidates.{AreCommanded, HostsFit, IsCandidate, RunsCommand, possible_of, progress_list, settled_state, stage_shape}
 use Rattle.fam_judging.specs.Going.{Goes}
 use Rattle.fam_judging.specs.Plain.{HasSoundMade, HasUuid, IsPlainLine}
 use Rattle.fam_judging.specs.declared.candidate.Candidate.{Candidate}

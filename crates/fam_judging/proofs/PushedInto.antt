@@ -7,7 +7,7 @@ use Rattle.fam_judge.specs.Covering.{HasBelow, IsOf}
 use Rattle.fam_judge.specs.Possible.{Possible}
 use Rattle.fam_judging.specs.declared.candidate.Candidate.{Candidate}
 use Rattle.fam_judging.specs.Into.{PutsInto}
-use Rattle.fam_judging.specs.Pushing.{HasState, Pushes}
+use Rattle.fam_judging.specs.Pushing.{Pushes}
 
 -- a state of a list is one of it with others behind
 pub of_append : (xs ys : List Possible) (z : Possible) → IsOf xs z → IsOf (xs ++ ys) z

@@ -1,12 +1,12 @@
 -- How far a command may have come where its line wants a stage.
-use Rattle.std.proofs.Common.{◌≡◌, ◌⊎◌, inl, inr, ℕ, List, map, Option, Some, None, refl, sym, ap, subst, ◌∙◌}
+use Rattle.std.proofs.Common.{◌≡◌, ◌⊎◌, inl, inr, ℕ, List, Option, Some, None, refl, sym, ap, subst, ◌∙◌}
 use Rattle.std.specs.Prelude.{option_map, slice_get}
 use Rattle.fam_base.specs.declared.entry.Entry.{Entry}
 use Rattle.fam_base.specs.Image.{Image}
 use Rattle.fam_journal.specs.Members.{changed_at}
-use Rattle.fam_journal.specs.Notes.{Found, Mark, Note, Writes}
-use Rattle.fam_journal.specs.Shapes.{Begun, CommandStage, HostShape, Marked, Met, Named, OfRunning, OfTask, TaskNote, TaskShape, with_stage}
-use Rattle.fam_judge.specs.Possible.{Possible, Progress, MeetsEntries, Reaches, StageIs, Wrote, after_note, meets, marked, shapes_in, stands, shown_met, unmarked, left_out_met, after_mark, without_mark, wrote}
+use Rattle.fam_journal.specs.Notes.{Found, Writes}
+use Rattle.fam_journal.specs.Shapes.{Begun, CommandStage, HostShape, Marked, Met, Named, OfRunning, OfTask, TaskShape, with_stage}
+use Rattle.fam_judge.specs.Possible.{Possible, MeetsEntries, Reaches, StageIs, Wrote, after_note, meets, marked, shapes_in, stands, shown_met, unmarked, left_out_met, after_mark, without_mark, wrote}
 use Rattle.fam_journal.proofs.Calls.Members.{changed_here}
 use Rattle.fam_judge.proofs.Folding.{shape_after, shape_in}
 use Rattle.fam_judge.proofs.Members.{changed_same, map_changed}

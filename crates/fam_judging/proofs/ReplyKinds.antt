@@ -89,31 +89,37 @@ module _ (who : Asker) (at : Point) (e : EndingState) where
     declined (cause.NotMaster me master) ends =
         let begun = begun_of who at ends.now ends.reached ends.answered.place in
         let state : ends.now.state ≡ at.state = ap (λ (p : Point). p.state) begun.1 in
-        inl (record {
-          begun = begun.0;
-          wish = ends.answered.shape.0;
-          cause = record {
-            own_is = ends.answered.shape.1.0;
-            other = ends.answered.shape.1.1;
-            master_is = sym own.master ∙ ap Rattle.fam_journal.specs.Legal.master_of (sym state) ∙ ends.answered.fits.master_is;
-          };
-        }, ends.is ∙ ap (ending_at (reply.NotAppended (cause.NotMaster me master))) begun.1)
+        inl (
+          record {
+            begun = begun.0;
+            wish = ends.answered.shape.0;
+            cause = record {
+              own_is = ends.answered.shape.1.0;
+              other = ends.answered.shape.1.1;
+              master_is = sym own.master ∙ ap Rattle.fam_journal.specs.Legal.master_of (sym state) ∙ ends.answered.fits.master_is;
+            };
+          },
+          ends.is ∙ ap (ending_at (reply.NotAppended (cause.NotMaster me master))) begun.1,
+        )
     declined (cause.LongPath limit) ends =
         let begun = begun_of who at ends.now ends.reached ends.answered.place in
         let state : ends.now.state ≡ at.state = ap (λ (p : Point). p.state) begun.1 in
         let fits = ends.answered.fits in
         let same : fits.names.cmd ≡ who.cmd = sym (same_Some who.cmd fits.names.cmd fits.names.told) in
-        inl (record {
-          begun = begun.0;
-          wish = ends.answered.shape.0;
-          cause = record {
-            p = fits.params;
-            params_are = own.some fits.params (subst (HasParams fits.params) state fits.super);
-            wish = fits.names.wish;
-            wished = ap wish_of (sym same) ∙ fits.names.wished;
-            long = fits.names.is;
-          };
-        }, ends.is ∙ ap (ending_at (reply.NotAppended (cause.LongPath limit))) begun.1)
+        inl (
+          record {
+            begun = begun.0;
+            wish = ends.answered.shape.0;
+            cause = record {
+              p = fits.params;
+              params_are = own.some fits.params (subst (HasParams fits.params) state fits.super);
+              wish = fits.names.wish;
+              wished = ap wish_of (sym same) ∙ fits.names.wished;
+              long = fits.names.is;
+            };
+          },
+          ends.is ∙ ap (ending_at (reply.NotAppended (cause.LongPath limit))) begun.1,
+        )
     declined why ends = inr (of_ruled why tt ends)
 
     -- and where it does it may be given
@@ -231,12 +237,14 @@ module _ (who : Asker) (at : Point) (e : EndingState) where
     -- a missing superblock is told right behind the start
     pub no_superblock : (fault : SuperFault) → MayEnd who at (reply.NoSuperblock fault) e → FailsSuper damage who.cmd at.stage fault × (e ≡ unmarked_ending at)
     no_superblock fault ends =
-        let begun = begun_of who at ends.now ends.reached ends.answered.shape.1 in
-        (record {
-          begun = begun.0;
-          other = ends.answered.shape.0;
-          damage_is = of_now (past.NoSuperblock fault) ends.now (ap (λ (p : Point). p.state) begun.1) ends.answered.fits;
-        }, ends.is ∙ ap (ending_at (reply.NoSuperblock fault)) begun.1)
+        let begun = begun_of who at ends.now ends.reached ends.answered.shape.1 in (
+          record {
+            begun = begun.0;
+            other = ends.answered.shape.0;
+            damage_is = of_now (past.NoSuperblock fault) ends.now (ap (λ (p : Point). p.state) begun.1) ends.answered.fits;
+          },
+          ends.is ∙ ap (ending_at (reply.NoSuperblock fault)) begun.1,
+        )
 
     -- and where it is missing it may be told
     pub fails_super : (fault : SuperFault) → FailsSuper damage who.cmd at.stage fault → e ≡ unmarked_ending at → MayEnd who at (reply.NoSuperblock fault) e
@@ -263,20 +271,26 @@ module _ (who : Asker) (at : Point) (e : EndingState) where
             → (FailsHeader damage who.cmd at.stage fault × (e ≡ unmarked_ending at)) ⊎ (FailsGate damage who.cmd at.stage fault × (e ≡ same_ending at))
         by (inl is) =
             let begun = begun_of who at ends.now ends.reached is.0 in
-            inl (record {
-              begun = begun.0;
-              place = is.1;
-              other = ends.answered.shape.0;
-              damage_is = of_now (past.BadHeader fault) ends.now (ap (λ (p : Point). p.state) begun.1) ends.answered.fits;
-            }, ends.is ∙ ap (ending_at (reply.BadHeader fault)) begun.1)
+            inl (
+              record {
+                begun = begun.0;
+                place = is.1;
+                other = ends.answered.shape.0;
+                damage_is = of_now (past.BadHeader fault) ends.now (ap (λ (p : Point). p.state) begun.1) ends.answered.fits;
+              },
+              ends.is ∙ ap (ending_at (reply.BadHeader fault)) begun.1,
+            )
         by (inr is) =
             let here = marked_of who at ends.now ends.reached is.0 in
-            inr (record {
-              marks = here.0;
-              place = is.1;
-              other = ends.answered.shape.0;
-              damage_is = of_now (past.BadHeader fault) ends.now (ap (λ (p : Point). p.state) here.1) ends.answered.fits;
-            }, ends.is ∙ ap (ending_at (reply.BadHeader fault)) here.1)
+            inr (
+              record {
+                marks = here.0;
+                place = is.1;
+                other = ends.answered.shape.0;
+                damage_is = of_now (past.BadHeader fault) ends.now (ap (λ (p : Point). p.state) here.1) ends.answered.fits;
+              },
+              ends.is ∙ ap (ending_at (reply.BadHeader fault)) here.1,
+            )
 
     -- and where the header is bad it may be told
     pub fails_header : (fault : LogFault) → FailsHeader damage who.cmd at.stage fault → e ≡ unmarked_ending at → MayEnd who at (reply.BadHeader fault) e
@@ -323,28 +337,34 @@ module _ (who : Asker) (at : Point) (e : EndingState) where
       where
         as_marked : ends.now.stage ≡ Marked → FailsSlot damage who.cmd at.stage i reason × (e ≡ same_ending at)
         as_marked is =
-            let here = marked_of who at ends.now ends.reached is in
-            (record {
-              comes = inl here.0;
-              other = ends.answered.shape.0;
-              damage_is = of_now (past.BadSlot i reason) ends.now (ap (λ (p : Point). p.state) here.1) ends.answered.fits;
-            }, ends.is ∙ ap (ending_at (reply.BadSlot i reason)) here.1)
+            let here = marked_of who at ends.now ends.reached is in (
+              record {
+                comes = inl here.0;
+                other = ends.answered.shape.0;
+                damage_is = of_now (past.BadSlot i reason) ends.now (ap (λ (p : Point). p.state) here.1) ends.answered.fits;
+              },
+              ends.is ∙ ap (ending_at (reply.BadSlot i reason)) here.1,
+            )
 
         as_met : MeetsAtPoint who at ends.now → FailsSlot damage who.cmd at.stage i reason × (e ≡ same_ending at)
-        as_met (told n met same) = (record {
-          comes = inr (subst HasMet (sym met) tt);
-          other = ends.answered.shape.0;
-          damage_is = of_now (past.BadSlot i reason) ends.now (ap (λ (p : Point). p.state) same) ends.answered.fits;
-        }, ends.is ∙ ap (ending_at (reply.BadSlot i reason)) same)
+        as_met (told n met same) = (
+          record {
+            comes = inr (subst HasMet (sym met) tt);
+            other = ends.answered.shape.0;
+            damage_is = of_now (past.BadSlot i reason) ends.now (ap (λ (p : Point). p.state) same) ends.answered.fits;
+          },
+          ends.is ∙ ap (ending_at (reply.BadSlot i reason)) same,
+        )
         as_met (untold n head wish found same) =
-            let bad = found_bad n i reason at.state (subst (DamageAllowed (past.BadSlot i reason)) (ap (λ (p : Point). p.state) same) ends.answered.fits) in
-
-            (record {
-              comes = inl (head_marks at.stage head);
-              other = ends.answered.shape.0;
-              damage_is = own ∙ damage_told (past.BadSlot i reason) at.state bad;
-            }, ends.is ∙ ap (ending_at (reply.BadSlot i reason)) same
-            ∙ ap (λ (s : State). let k : EndingState = record { state = s; floor = at.floor; wrote = at.wrote } in k) (bad_found n i reason at.state bad))
+            let bad = found_bad n i reason at.state (subst (DamageAllowed (past.BadSlot i reason)) (ap (λ (p : Point). p.state) same) ends.answered.fits) in (
+              record {
+                comes = inl (head_marks at.stage head);
+                other = ends.answered.shape.0;
+                damage_is = own ∙ damage_told (past.BadSlot i reason) at.state bad;
+              },
+              ends.is ∙ ap (ending_at (reply.BadSlot i reason)) same
+                  ∙ ap (λ (s : State). let k : EndingState = record { state = s; floor = at.floor; wrote = at.wrote } in k) (bad_found n i reason at.state bad),
+            )
           where
             head_marks : (stage : CommandStage) → IsHead stage → MayMark stage
             head_marks Begun is = inl refl

@@ -224,8 +224,10 @@ module _ (start : Image) (x : Possible) (h : ℕ) (who : Asker) where
           record {
             now = r.now;
             reaches = r.reaches;
-            may = (task_in ends.now r.now r.is (λ me t. TaskNote h me t (Answered h (Replied given))) (refl, ends.answered.shape),
-              task_in ends.now r.now r.is (λ me t. AnswerPlace t.cmd t.stage (Replied given)) ends.answered.place);
+            may = (
+              task_in ends.now r.now r.is (λ me t. TaskNote h me t (Answered h (Replied given))) (refl, ends.answered.shape),
+              task_in ends.now r.now r.is (λ me t. AnswerPlace t.cmd t.stage (Replied given)) ends.answered.place,
+            );
             fits = past_is ends.now r.now r.is (λ host state. AnswerFits (Replied given) host state) ends.answered.fits;
             is = ap (possible_behind_answer x h who given) ends.is ∙ sym (left ends.now r.now r.is);
           }

@@ -84,20 +84,26 @@ module _ (who : Asker) (at : Point) (e : EndingState) (report : Report) where
           → (ReportsBegun who at report × (e ≡ reported_ending report (record at { floor = None }))) ⊎ (ReportsMarked who at report × (e ≡ reported_ending report at))
       by (inl is) =
           let begun = begun_of who at ends.now ends.reached is.0 in
-          inl (record {
-            begun = begun.0;
-            place = is.1;
-            cmd = ends.answered.shape.0;
-            fits = subst (λ (p : Point). ReportAllowed report (told_at who p) p.state) begun.1 ends.answered.fits;
-          }, ends.is ∙ ap (ending_at (reply.Reports report)) begun.1)
+          inl (
+            record {
+              begun = begun.0;
+              place = is.1;
+              cmd = ends.answered.shape.0;
+              fits = subst (λ (p : Point). ReportAllowed report (told_at who p) p.state) begun.1 ends.answered.fits;
+            },
+            ends.is ∙ ap (ending_at (reply.Reports report)) begun.1,
+          )
       by (inr is) =
           let here = marked_of who at ends.now ends.reached is.0 in
-          inr (record {
-            marks = here.0;
-            place = is.1;
-            cmd = ends.answered.shape.0;
-            fits = subst (λ (p : Point). ReportAllowed report (told_at who p) p.state) here.1 ends.answered.fits;
-          }, ends.is ∙ ap (ending_at (reply.Reports report)) here.1)
+          inr (
+            record {
+              marks = here.0;
+              place = is.1;
+              cmd = ends.answered.shape.0;
+              fits = subst (λ (p : Point). ReportAllowed report (told_at who p) p.state) here.1 ends.answered.fits;
+            },
+            ends.is ∙ ap (ending_at (reply.Reports report)) here.1,
+          )
 
   -- and where it may be given right behind the start it is
   pub begun_ends : ReportsBegun who at report → e ≡ reported_ending report (record at { floor = None }) → MayEnd who at (reply.Reports report) e
@@ -160,10 +166,15 @@ module _ (given : GivenImage) (seen : SeenHost) (c : ToldCommand) (s : Settled) 
   -- what is left of a report that stands right behind the start
   pub begun_leaves : (b : Bool) → (IsTrue b ↔ ((stage_shape t.stage ≡ Begun) × (untold_of c ≡ Fsck) × DamagedReport given s report)) → ReportPlace report.log Begun
       → LeavesEndings given seen c s t (reply.Reports report) (only b s (record t { floor = None }))
-  begun_leaves b is place = only_leaves given seen c s t (reply.Reports report) b (record t { floor = None }) _ is (λ start own e.
-      (λ ends. out start own e (reports (asker_of seen c) (point_of start s t) e report ends),
-       λ both. begun_ends (asker_of seen c) (point_of start s t) e report (record {
-         begun = both.0.0; place = place; cmd = both.0.1; fits = damaged_allowed start given s report _ own both.0.2 }) (both.1 ∙ state start own both.0.2)))
+  begun_leaves b is place = only_leaves given seen c s t (reply.Reports report) b (record t { floor = None }) _ is (λ start own e. (
+    λ ends. out start own e (reports (asker_of seen c) (point_of start s t) e report ends),
+    λ both. begun_ends (asker_of seen c) (point_of start s t) e report (record {
+      begun = both.0.0;
+      place = place;
+      cmd = both.0.1;
+      fits = damaged_allowed start given s report _ own both.0.2;
+    }) (both.1 ∙ state start own both.0.2),
+  ))
     where
       state : (start : Image) → SaysOfGiven start given s → DamagedReport given s report → ending_left start s (record t { floor = None }) ≡ reported_ending report (record (point_of start s t) { floor = None })
       state start own is = ap (λ (k : State). let e : EndingState = record { state = k; floor = None; wrote = option_map named_of t.wrote } in e) (sym (damaged_kept start given s report
@@ -181,10 +192,15 @@ module _ (given : GivenImage) (seen : SeenHost) (c : ToldCommand) (s : Settled) 
   -- what is left of a damaged image of one behind the mark
   pub damaged_leaves : (d : past.Damage) → Rattle.fam_judging.specs.ReplyKinds.damage_in given s ≡ Some d → (b : Bool)
       → (IsTrue b ↔ (MayMark (stage_shape t.stage) × (untold_of c ≡ Fsck) × DamagedReport given s report)) → ReportPlace report.log Marked → LeavesEndings given seen c s t (reply.Reports report) (only b s t)
-  damaged_leaves d is_bad b is place = only_leaves given seen c s t (reply.Reports report) b t _ is (λ start own e.
-      (λ ends. out start own e (reports (asker_of seen c) (point_of start s t) e report ends),
-       λ both. marked_ends (asker_of seen c) (point_of start s t) e report (record {
-         marks = both.0.0; place = place; cmd = both.0.1; fits = damaged_allowed start given s report _ own both.0.2 }) (both.1 ∙ state start own both.0.2)))
+  damaged_leaves d is_bad b is place = only_leaves given seen c s t (reply.Reports report) b t _ is (λ start own e. (
+    λ ends. out start own e (reports (asker_of seen c) (point_of start s t) e report ends),
+    λ both. marked_ends (asker_of seen c) (point_of start s t) e report (record {
+      marks = both.0.0;
+      place = place;
+      cmd = both.0.1;
+      fits = damaged_allowed start given s report _ own both.0.2;
+    }) (both.1 ∙ state start own both.0.2),
+  ))
     where
       state : (start : Image) → SaysOfGiven start given s → DamagedReport given s report → ending_left start s t ≡ reported_ending report (point_of start s t)
       state start own is = ap (λ (k : State). let e : EndingState = record { state = k; floor = t.floor; wrote = option_map named_of t.wrote } in e) (sym (damaged_kept start given s report
@@ -221,9 +237,10 @@ module _ (given : GivenImage) (seen : SeenHost) (c : ToldCommand) (log : Log) (t
   -- what is left of one that is
   pub log_leaves : (m : ℕ) → reported_count report.log ≡ Some m → (MayMark (stage_shape t.stage) × (untold_of c ≡ Fsck) × ReportAllowed report (host_of seen c t) (settled_log_state log))
       → (lefts : Lefts) → IsShown log m t lefts → LeavesEndings given seen c (settled.Log log) t (reply.Reports report) lefts
-  log_leaves m count is lefts shown = subst (LeavesEndings given seen c (settled.Log log) t (reply.Reports report)) (sym shown.is) (λ start own e.
-      (λ l. marked_ends (asker_of seen c) (point_of start (settled.Log log) t) e report (record { marks = is.0; place = place; cmd = is.1; fits = is.2 }) (the_left start e _ l ∙ state start),
-       λ ends. first (record { settled = settled.Log shown.shown; track = t }) refl ((marked_of_log start e ends).1 ∙ sym (state start))))
+  log_leaves m count is lefts shown = subst (LeavesEndings given seen c (settled.Log log) t (reply.Reports report)) (sym shown.is) (λ start own e. (
+    λ l. marked_ends (asker_of seen c) (point_of start (settled.Log log) t) e report (record { marks = is.0; place = place; cmd = is.1; fits = is.2 }) (the_left start e _ l ∙ state start),
+    λ ends. first (record { settled = settled.Log shown.shown; track = t }) refl ((marked_of_log start e ends).1 ∙ sym (state start)),
+  ))
     where
       state : (start : Image) → ending_left start (settled.Log shown.shown) t ≡ reported_ending report (point_of start (settled.Log log) t)
       state start = ap (λ (s : State). let k : EndingState = record { state = s; floor = t.floor; wrote = option_map named_of t.wrote } in k)

@@ -119,11 +119,13 @@ module _ (who : Asker) (at : Point) (e : EndingState) (m : ℕ) (r : Reply) (cla
   pub showing : MayEnd who at r e → ShowsAnswer who at m r × (e ≡ shown_ending m at)
   showing ends =
       let stage = counted_marked who.uuid who.cmd ends.now.stage r m ends.answered.shape (ap count_of_in class) in
-      let here = marked_of who at ends.now ends.reached stage in
-      (record {
-        marks = here.0;
-        fits = (fits_to m r (told_at who at) at.state class).0 (subst (λ (p : Point). ReplyFits r (told_at who p) p.state) here.1 ends.answered.fits);
-      }, ends.is ∙ left ends.now here.1)
+      let here = marked_of who at ends.now ends.reached stage in (
+        record {
+          marks = here.0;
+          fits = (fits_to m r (told_at who at) at.state class).0 (subst (λ (p : Point). ReplyFits r (told_at who p) p.state) here.1 ends.answered.fits);
+        },
+        ends.is ∙ left ends.now here.1,
+      )
 
   -- and where they may be, they are
   pub shows_ends : ShowsAnswer who at m r → e ≡ shown_ending m at → MayEnd who at r e
@@ -143,20 +145,22 @@ module _ (who : Asker) (at : Point) (e : EndingState) (m : ℕ) (r : Reply) (cla
 -- a question of a log, as it is told
 question_told : (log : Log) (m : ℕ) (seen : SeenHost) (c : ToldCommand) (t : Track) (answer : ToldAnswer) (listed : List Entry) (r : Reply) → IsAnswerTold answer listed r → untold_of c ≡ bare_cmd c
     → QuestionFits m r (host_of seen c t) (settled_log_state log) ↔ ShowsTold log m c t answer listed
-question_told log m seen c t answer listed r by told =
-    (λ is. record {
-      floor = is.bounds.floor;
-      floor_is = is.bounds.marked;
-      low = is.bounds.low;
-      high = is.bounds.high;
-      fits = record { given = r; told = by.told; lines = by.lines; fits = subst (λ (k : Cmd). AskFits (take m (settled_and_pending log)) k r) (sym (same_Some (untold_of c) is.cmd is.told) ∙ told) is.fits };
-    }, λ is. record {
-      bounds = record { floor = is.floor; marked = is.floor_is; low = is.low; high = is.high };
-      cmd = untold_of c;
-      told = refl;
-      fits = subst (λ (k : Cmd). AskFits (take m (settled_and_pending log)) k r) (sym told)
-          (subst (λ (q : Reply). AskFits (take m (settled_and_pending log)) (bare_cmd c) q) (by.alone is.fits.given is.fits.told is.fits.lines) is.fits.fits);
-    })
+question_told log m seen c t answer listed r by told = (
+  λ is. record {
+    floor = is.bounds.floor;
+    floor_is = is.bounds.marked;
+    low = is.bounds.low;
+    high = is.bounds.high;
+    fits = record { given = r; told = by.told; lines = by.lines; fits = subst (λ (k : Cmd). AskFits (take m (settled_and_pending log)) k r) (sym (same_Some (untold_of c) is.cmd is.told) ∙ told) is.fits };
+  },
+  λ is. record {
+    bounds = record { floor = is.floor; marked = is.floor_is; low = is.low; high = is.high };
+    cmd = untold_of c;
+    told = refl;
+    fits = subst (λ (k : Cmd). AskFits (take m (settled_and_pending log)) k r) (sym told)
+        (subst (λ (q : Reply). AskFits (take m (settled_and_pending log)) (bare_cmd c) q) (by.alone is.fits.given is.fits.told is.fits.lines) is.fits.fits);
+  },
+)
 
 module _ (given : GivenImage) (seen : SeenHost) (c : ToldCommand) (t : Track) (m : ℕ) (r : Reply) (class : reply_class r ≡ Showing m) where
   none_left : (s : Settled) → ((start : Image) → SaysOfGiven start given s → ShowsAnswer (asker_of seen c) (point_of start s t) m r → ⊥) → LeavesEndings given seen c s t r (one None)
@@ -183,10 +187,11 @@ module _ (given : GivenImage) (seen : SeenHost) (c : ToldCommand) (t : Track) (m
 
     -- what is left where it is
     pub shown_leaves : MayMark (stage_shape t.stage) → ShowsTold log m c t answer listed → (lefts : Lefts) → IsShown log m t lefts → LeavesEndings given seen c (settled.Log log) t r lefts
-    shown_leaves marks is lefts shown = subst (LeavesEndings given seen c (settled.Log log) t r) (sym shown.is) (λ start own e.
-        (λ l. shows_ends (asker_of seen c) (point_of start (settled.Log log) t) e m r class
+    shown_leaves marks is lefts shown = subst (LeavesEndings given seen c (settled.Log log) t r) (sym shown.is) (λ start own e. (
+      λ l. shows_ends (asker_of seen c) (point_of start (settled.Log log) t) e m r class
           (record { marks = marks; fits = (question_told log m seen c t answer listed r by told).1 is }) (the_left start e _ l ∙ state start),
-         λ ends. first (record { settled = settled.Log shown.shown; track = t }) refl ((showing (asker_of seen c) (point_of start (settled.Log log) t) e m r class ends).1 ∙ sym (state start))))
+      λ ends. first (record { settled = settled.Log shown.shown; track = t }) refl ((showing (asker_of seen c) (point_of start (settled.Log log) t) e m r class ends).1 ∙ sym (state start)),
+    ))
       where
         state : (start : Image) → ending_left start (settled.Log shown.shown) t ≡ shown_ending m (point_of start (settled.Log log) t)
         state start = ap (λ (s : State). let k : EndingState = record { state = s; floor = t.floor; wrote = option_map Rattle.fam_judging.specs.Candidates.named_of t.wrote } in k) shown.state

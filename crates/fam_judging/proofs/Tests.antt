@@ -1,12 +1,12 @@
 -- What tests of a host's stage say.
-use Rattle.std.proofs.Common.{◌≡◌, ◌↔◌, ◌==◌, ℕ, Bool, true, false, IsTrue, Option, Some, None, refl, sym, ap, subst, ◌∙◌, arith}
+use Rattle.std.proofs.Common.{◌≡◌, ◌↔◌, ℕ, Bool, true, false, IsTrue, Option, Some, None, refl, sym, ap, subst, ◌∙◌, arith}
 use Rattle.std.specs.Prelude.{is_some, slice_get}
 use Rattle.std.proofs.lemmas.Bool.{true≢false}
 use Rattle.std.proofs.lemmas.Bool.Decides.{nat_tests}
 use Rattle.fam_base.specs.Image.{Image}
 use Rattle.fam_commands.specs.Appends.{HasWish}
 use Rattle.fam_history.specs.declared.command.ToldCommand.{ToldCommand}
-use Rattle.fam_journal.specs.Shapes.{Begun, CommandStage, IsHead, Marked, Met, Named, OfRunning, TaskShape}
+use Rattle.fam_journal.specs.Shapes.{Begun, CommandStage, IsHead, Met}
 use Rattle.fam_judge.specs.Possible.{StageIs, WantsToAppend}
 use Rattle.fam_lines.specs.Lines.{untold_of}
 use Rattle.fam_rules.specs.Decide.{Wish, wish_of}
@@ -62,7 +62,8 @@ met_tests n = tests (is_met n) (λ s. s ≡ Met n) (met_stage n) refl
 
 -- a wish
 wishes_by : (start : Image) (hosts : Hosts) (c : Candidate) (h : ℕ) (run : Option ToldCommand) (track : Option Track)
-    → running hosts.seen.items hosts.commands.items h ≡ run → slice_get c.tracks.items h ≡ track → (s : Stage) → stage_in run track ≡ Some s → IsTrue (is_appending run) ↔ WantsToAppend h (possible_of start hosts c)
+    → running hosts.seen.items hosts.commands.items h ≡ run → slice_get c.tracks.items h ≡ track
+    → (s : Stage) → stage_in run track ≡ Some s → IsTrue (is_appending run) ↔ WantsToAppend h (possible_of start hosts c)
 wishes_by start hosts c h None track runs at s is = absurd cc
 wishes_by start hosts c h (Some cmd) None runs at s is = absurd cc
 wishes_by start hosts c h (Some cmd) (Some t) runs at s is =

@@ -1,27 +1,24 @@
 -- What a program knows that has read some records of a history, one record more.
 use Prim.Native.Nat.{zero, suc}
-use Rattle.std.proofs.Common.{◌≡◌, ◌⊎◌, inl, inr, ℕ, List, [], ◌∷◌, ◌++◌, length, map, Option, Some, None, refl, ap, ap₂, sym, ◌∙◌, subst}
-use Rattle.std.specs.Prelude.{⊤, slice_get}
+use Rattle.std.proofs.Common.{◌≡◌, ℕ, List, [], ◌∷◌, ◌++◌, length, Some, refl, ap, ap₂, sym, ◌∙◌, subst}
+use Rattle.std.specs.Prelude.{slice_get}
 use Rattle.std.proofs.lemmas.List.{map-append}
 use Rattle.fam_base.specs.Image.{Image}
-use Rattle.fam_journal.specs.Notes.{Note, Host, Made, Cut, Start, Mark, Found, Writes, Answered, Stop, Halt, Umount, Refused}
-use Rattle.fam_journal.specs.Shapes.{HostShape}
+use Rattle.fam_journal.specs.Notes.{Note, Host, Start}
 use Rattle.fam_history.specs.declared.note.LineNote.{LineNote}
 use Rattle.fam_history.specs.declared.note.LineNote.TheVariants as told
 use Rattle.fam_history.specs.declared.note.ToldLine.{ToldLine}
 use Rattle.fam_history.specs.ToldNotes.{line_told}
 use Rattle.fam_judge.specs.Alike.{told_note}
-use Rattle.fam_judge.specs.Covering.{AreFitting, Direct, LeadsStates, IsOf, Judges, Late, Over, behind, direct, late, possible_behind}
+use Rattle.fam_judge.specs.Covering.{LeadsStates, IsOf, Judges}
 use Rattle.fam_judge.specs.Explained.{IsExplained}
-use Rattle.fam_judge.specs.Fitting.{FitsNext}
 use Rattle.fam_judge.specs.Possible.{Possible, first_possible, past_in, shapes_in}
-use Rattle.fam_judge.specs.Shows.{ShowsJournal}
-use Rattle.fam_judge.specs.Standing.{Face, MayStand, faces}
+use Rattle.fam_judge.specs.Standing.{faces}
 use Rattle.fam_judge.specs.Untold.{untold_note, untold_notes}
 use Rattle.fam_judge.proofs.Explaining.{first_explained}
 use Rattle.fam_judge.proofs.Sets.{faces_covered, judges_first, judges_line, judges_none, judges_some, stands_last}
 use Rattle.fam_judge.proofs.Untelling.{alike_untold, untold_alike}
-use Rattle.fam_lines.specs.Behind.{IsNoteOf, IsEntireNote, behind_note, further}
+use Rattle.fam_lines.specs.Behind.{IsEntireNote, behind_note}
 use Rattle.fam_lines.proofs.Whole.{whole_note}
 use Rattle.fam_lines.specs.declared.host.SeenHost.{SeenHost}
 use Rattle.fam_lines.specs.Hosts.{faces_of, seen_names}

@@ -1,20 +1,19 @@
 -- A candidate behind the entry that a command names.
-use Rattle.std.proofs.Common.{◌≡◌, ℕ, List, Option, Some, None, true, false, refl, sym, ap, ap₂, subst, ◌∙◌}
+use Rattle.std.proofs.Common.{◌≡◌, ℕ, List, Option, Some, None, false, refl, sym, ap, ◌∙◌}
 use Rattle.std.specs.Prelude.{slice_get}
 use Rattle.std.proofs.lemmas.Bool.{true≢false}
 use Rattle.fam_base.specs.declared.cmd.Cmd.{Cmd}
 use Rattle.fam_base.specs.declared.entry.Entry.{Entry}
 use Rattle.fam_base.specs.Image.{Image}
 use Rattle.fam_history.specs.declared.command.ToldCommand.{ToldCommand}
-use Rattle.fam_journal.specs.Legal.{OfHost, WritesAllowed}
+use Rattle.fam_journal.specs.Legal.{WritesAllowed}
 use Rattle.fam_journal.specs.Members.{changed_at}
 use Rattle.fam_journal.specs.Notes.{Writes}
 use Rattle.fam_journal.specs.Past.{HostPast, filled_bytes, pends}
-use Rattle.fam_journal.specs.Shapes.{CommandStage, Met, TaskNote}
-use Rattle.fam_judge.specs.Possible.{Possible, Progress, after_note, past_in, shapes_in}
+use Rattle.fam_journal.specs.Shapes.{Met, TaskNote}
+use Rattle.fam_judge.specs.Possible.{Possible, shapes_in}
 use Rattle.fam_judge.proofs.OverWrites.{cmd_at}
 use Rattle.fam_judge.proofs.Places.{of_told, told_at}
-use Rattle.fam_lines.specs.Lines.{untold_of}
 use Rattle.fam_judging.specs.declared.candidate.Candidate.{Candidate}
 use Rattle.fam_judging.specs.declared.candidate.Track.{Track}
 use Rattle.fam_judging.specs.declared.hosts.Hosts.{Hosts}

@@ -1,17 +1,17 @@
 -- What a command may have named by now.
-use Rattle.std.proofs.Common.{◌≡◌, ◌≢◌, ◌⊎◌, ◌+◌, ◌++◌, inl, inr, ℕ, zero, suc, Bool, true, false, List, [], ◌∷◌, length, Option, Some, None, refl, sym, ap, ap₂, subst, ◌∙◌, append_assoc, arith}
+use Rattle.std.proofs.Common.{◌≡◌, ◌⊎◌, ◌+◌, ◌++◌, inl, inr, ℕ, zero, suc, true, false, List, [], ◌∷◌, length, Option, Some, None, refl, sym, ap, ◌∙◌, append_assoc, arith}
 use Rattle.std.specs.Prelude.{is_some, slice_get}
 use Rattle.std.proofs.lemmas.Bool.{true≢false}
 use Rattle.fam_base.specs.declared.entry.Entry.{Entry}
 use Rattle.fam_base.specs.Image.{Image}
-use Rattle.fam_judge.specs.Possible.{Possible, Wrote}
+use Rattle.fam_judge.specs.Possible.{Possible}
 use Rattle.fam_judging.specs.declared.candidate.Candidate.{Candidate}
 use Rattle.fam_judging.specs.declared.candidate.Settled.{Settled}
 use Rattle.fam_judging.specs.declared.candidate.Track.{Track}
 use Rattle.fam_judging.specs.declared.hosts.Hosts.{Hosts}
 use Rattle.fam_judging.specs.Candidates.{possible_of, progress_list, settled_state}
-use Rattle.fam_judging.specs.Going.{Goes, NamesByNow}
-use Rattle.fam_judging.specs.Pushing.{HasState, Pushes, WrittenAt}
+use Rattle.fam_judging.specs.Going.{Goes}
+use Rattle.fam_judging.specs.Pushing.{Pushes, WrittenAt}
 use Rattle.fam_judging.specs.Told.{NamesFrom}
 use Rattle.fam_judging.proofs.Goings.{goes_not, goes_there, same_possible}
 

@@ -1,5 +1,5 @@
 -- States that are put among others: those to which a line leads from one state, and what a loop over hosts and states comes to.
-use Rattle.std.specs.Prelude.{ℕ, ◌≡◌, ◌<◌, ◌⊎◌, List}
+use Rattle.std.specs.Prelude.{ℕ, ◌<◌, ◌⊎◌, List}
 use Rattle.fam_base.specs.Image.{Image}
 use Rattle.fam_journal.specs.Notes.{Note}
 use Rattle.fam_judge.specs.Covering.{HasBelow, IsOf}

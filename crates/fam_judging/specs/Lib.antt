@@ -16,3 +16,4 @@ pub mod Showing
 pub mod AnsweredHosts
 pub mod Reporting
 pub mod PlainAnswers
+pub mod Below

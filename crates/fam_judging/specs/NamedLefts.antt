@@ -61,5 +61,9 @@ FoundNamed log seq seen cmd track None =
 FoundNamed log seq seen cmd track (Some l) =
     FoundAllowed seq (settled_log_state log)
     × ((e : Entry) × WritesAllowed seq e (host_of seen cmd track) (finds seq (settled_log_state log)) × EntryShape (untold_of cmd) e
-    × ((start : Image) → ending_left start l.settled l.track ≡ record { state = acknowledged_state cmd seq e (finds seq (settled_log_state log)); floor = track.floor; wrote = Some
-        (record { seq = seq; entry = e }) }))
+    × ((start : Image) → ending_left start l.settled l.track ≡ record {
+      state = acknowledged_state cmd seq e (finds seq (settled_log_state log));
+      floor = track.floor;
+      wrote = Some
+          (record { seq = seq; entry = e });
+    }))

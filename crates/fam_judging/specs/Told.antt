@@ -1,5 +1,5 @@
 -- Commands of which a line tells all that is told of any, and what a command of them names.
-use Rattle.std.specs.Prelude.{ℕ, ◌≡◌, Option, Some, None, slice_get}
+use Rattle.std.specs.Prelude.{ℕ, ◌≡◌, Option, Some, slice_get}
 use Rattle.fam_base.specs.declared.entry.Entry.{Entry}
 use Rattle.fam_base.specs.Image.{Image}
 use Rattle.fam_history.specs.declared.command.ToldCommand.{ToldCommand}

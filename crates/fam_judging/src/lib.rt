@@ -28,6 +28,7 @@ mod going;
 
 pub use behind::written;
 
+mod below;
 mod lefts;
 mod replies_appended;
 mod replies_damage;

@@ -44,7 +44,12 @@ fn shows_fits(
 }
 
 /// So many entries of a log are shown.
-pub(crate) fn shown_log(alloc: Global, log: &Log, m: u64, track: &Track) -> Result<Lefts, OutOfMemory>
+pub(crate) fn shown_log(
+    alloc: Global,
+    log: &Log,
+    m: u64,
+    track: &Track,
+) -> Result<Lefts, OutOfMemory>
     ensures { IfOk result (λ lefts. IsShown log.now m track.now lefts) }
 {
     let mut log = log.copy(alloc)?;

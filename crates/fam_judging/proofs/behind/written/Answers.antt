@@ -1,4 +1,4 @@
-use Rattle.std.proofs.Common.{◌≡◌, ℕ, Some, Option, ap, ap₂, ◌∙◌}
+use Rattle.std.proofs.Common.{◌≡◌, ℕ, Some, Option, ap₂, ◌∙◌}
 use Rattle.fam_judge.specs.Possible.{Possible, Wrote}
 use Rattle.fam_judging.specs.declared.candidate.Candidate.{Candidate}
 use Rattle.fam_judging.specs.declared.candidate.Stage.{Stage}

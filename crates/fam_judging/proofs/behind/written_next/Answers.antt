@@ -1,6 +1,5 @@
 use Rattle.std.proofs.Common.{◌≡◌, ℕ, Option, Some, sym, subst}
 use Rattle.std.specs.Result.{OnOk}
-use Rattle.fam_judge.specs.Possible.{Possible}
 use Rattle.fam_judging.specs.declared.candidate.Candidate.{Candidate}
 use Rattle.fam_judging.specs.Candidates.{possible_of}
 use Rattle.fam_judging.specs.Pushing.{IsFine, Pushes, WrittenAt}

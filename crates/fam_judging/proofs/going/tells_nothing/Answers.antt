@@ -1,4 +1,4 @@
-use Rattle.std.proofs.Common.{rules, ◌≡◌, ℕ, length, refl, subst, arith}
+use Rattle.std.proofs.Common.{rules, ℕ, length, refl, subst, arith}
 use Rattle.std.proofs.lemmas.Option.{slice_get_read}
 use Rattle.fam_judge.specs.Possible.{Elsewhere}
 use Rattle.fam_lines.specs.Lines.{note_of_line}

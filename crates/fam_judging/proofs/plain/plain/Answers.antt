@@ -1,4 +1,4 @@
-use Rattle.std.proofs.Common.{◌≡◌, ◌↔◌, ℕ, Bool, false, true, IsTrue, List, length, map, refl, sym, ap, subst, ◌∙◌}
+use Rattle.std.proofs.Common.{◌↔◌, ℕ, false, true, IsTrue, List, length, map, refl, sym, ap, subst, ◌∙◌}
 use Rattle.std.proofs.lemmas.Bool.{true≢false}
 use Rattle.fam_judge.specs.Possible.{shapes_in, past_in}
 use Rattle.fam_judge.specs.Standing.{MayStand}
@@ -7,8 +7,8 @@ use Rattle.fam_lines.specs.declared.host.SeenHost.{SeenHost}
 use Rattle.fam_lines.specs.Hosts.{faces_of}
 use Rattle.fam_lines.specs.Lines.{note_of_line}
 use Rattle.fam_judging.specs.declared.candidate.Track.{Track}
-use Rattle.fam_judging.specs.After.{possible_after, tracks_after}
-use Rattle.fam_judging.specs.Candidates.{possible_of, progress_list, settled_state}
+use Rattle.fam_judging.specs.After.{tracks_after}
+use Rattle.fam_judging.specs.Candidates.{possible_of, progress_list}
 use Rattle.fam_judging.proofs.Keeping.{placed_after}
 use Rattle.fam_judging.proofs.Plains.{faces_seen, line_sound, plain_goes, plain_next}
 use Rattle.fam_judging.proofs.plain.plain.Goals as goal

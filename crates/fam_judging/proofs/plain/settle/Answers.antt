@@ -1,6 +1,6 @@
 use Rattle.std.proofs.Common.{◌≡◌, sym, ap, subst, ◌∙◌}
 use Rattle.std.specs.Result.{OnOk}
-use Rattle.fam_journal.specs.Past.{State, state_after}
+use Rattle.fam_journal.specs.Past.{state_after}
 use Rattle.fam_lines.specs.declared.line.Line.{Line}
 use Rattle.fam_lines.specs.Lines.{note_of_line}
 use Rattle.fam_judging.specs.Candidates.{settled_state}

@@ -11,18 +11,18 @@ returns-in_ok-left-in-Begun c =
     one_leaves c.args.given.now c.args.seen.now c.args.cmd.now c.args.track.now (reply.Appended c.args.seq) c.args.settled.now c.in-Log.log c.in-Log.is
     c.in_ok-left-in-Begun.left c.one.result c.one.ensures.first c.one.ensures.second
     (found_leaves c.args.given.now c.args.seen.now c.args.cmd.now c.args.track.now c.args.seq c.in-Log.log (head_of c.args.track.now.stage c.in-Begun.is) c.in_ok-left-in-Begun.left
-        c.in_ok-left-in-Begun.ensures)
+    c.in_ok-left-in-Begun.ensures)
 
 pub returns-in_ok-left-in-Met : goal.returns-in_ok-left-in-Met
 returns-in_ok-left-in-Met c =
     one_leaves c.args.given.now c.args.seen.now c.args.cmd.now c.args.track.now (reply.Appended c.args.seq) c.args.settled.now c.in-Log.log c.in-Log.is
     c.in_ok-left-in-Met.left c.one-in-Met.result c.one-in-Met.ensures.first c.one-in-Met.ensures.second
     (met_leaves c.args.given.now c.args.seen.now c.args.cmd.now c.args.track.now c.args.seq c.in-Log.log (ap stage_shape c.in-Met.is ∙ ap Met c.if-n-seq.false) c.in_ok-left-in-Met.left
-        c.in_ok-left-in-Met.ensures)
+    c.in_ok-left-in-Met.ensures)
 
 pub returns-in_ok-left-in-Named : goal.returns-in_ok-left-in-Named
 returns-in_ok-left-in-Named c =
     one_leaves c.args.given.now c.args.seen.now c.args.cmd.now c.args.track.now (reply.Appended c.args.seq) c.args.settled.now c.in-Log.log c.in-Log.is
     c.in_ok-left-in-Named.left c.one-in-Named.result c.one-in-Named.ensures.first c.one-in-Named.ensures.second
     (acknowledged_leaves c.args.given.now c.args.seen.now c.args.cmd.now c.args.track.now c.args.seq c.in-Log.log (ap stage_shape c.in-Named.is ∙ ap Named c.if-n-seq-2.false)
-        c.in_ok-left-in-Named.left c.in_ok-left-in-Named.ensures)
+    c.in_ok-left-in-Named.left c.in_ok-left-in-Named.ensures)

@@ -10,15 +10,16 @@ pub pend-requires : goal.pend-requires
 pend-requires c =
     let list = entries_of (settled_files c.args.log.now) in
     let w = wished c.args.log.now.params c.args.seen.now.uuid list c.args.cmd.now c.in-Some-Ok.entry c.is_settled.ensures.history.params c.requires
-        (sym c.in-Some-Ok.ensures.value ∙ ap Some c.in-Some-Ok.field-0-is) in
+    (sym c.in-Some-Ok.ensures.value ∙ ap Some c.in-Some-Ok.field-0-is) in
     c.in-Some-Ok.ensures.may w.wish c.in-Some-Ok.entry w.is (c.requires.sound w.wish w.is) (ap Some c.in-Some-Ok.field-0-is)
 
 pub returns-in_ok-acknowledge-in-Some-Ok : goal.returns-in_ok-acknowledge-in-Some-Ok
 returns-in_ok-acknowledge-in-Some-Ok c =
     let list = entries_of (settled_files c.args.log.now) in
     let w = wished c.args.log.now.params c.args.seen.now.uuid list c.args.cmd.now c.in-Some-Ok.entry c.is_settled.ensures.history.params c.requires
-        (sym c.in-Some-Ok.ensures.value ∙ ap Some c.in-Some-Ok.field-0-is) in
-    (sym (told_decide c.args.log.now.params c.args.seen.now.uuid list c.args.cmd.now) ∙ sym c.in-Some-Ok.ensures.value ∙ ap Some c.in-Some-Ok.field-0-is,
-     shape c.args.cmd.now c.in-Some-Ok.entry c.requires w,
-     c.in_ok-acknowledge-in-Some-Ok.ensures.acknowledged ∙ ap (acknowledges c.args.seq) (c.pend.ensures ∙ ap (λ (f : File). pends f (settled_log_state c.args.log.now))
-     (file_is c.args.cmd.now c.in-Some-Ok.entry c.bytes_told.result c.requires w c.bytes_told.ensures)))
+    (sym c.in-Some-Ok.ensures.value ∙ ap Some c.in-Some-Ok.field-0-is) in (
+      sym (told_decide c.args.log.now.params c.args.seen.now.uuid list c.args.cmd.now) ∙ sym c.in-Some-Ok.ensures.value ∙ ap Some c.in-Some-Ok.field-0-is,
+      shape c.args.cmd.now c.in-Some-Ok.entry c.requires w,
+      c.in_ok-acknowledge-in-Some-Ok.ensures.acknowledged ∙ ap (acknowledges c.args.seq) (c.pend.ensures ∙ ap (λ (f : File). pends f (settled_log_state c.args.log.now))
+          (file_is c.args.cmd.now c.in-Some-Ok.entry c.bytes_told.result c.requires w c.bytes_told.ensures)),
+    )

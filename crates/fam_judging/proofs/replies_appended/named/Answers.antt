@@ -14,6 +14,9 @@ returns-then-not-is_free c e is =
 pub returns-in-Some : goal.returns-in-Some
 returns-in-Some c =
     let free = c.is_free.ensures.0 c.if-not-is_free.false in
-    let named = subst (NamesDecided c.args.log c.name.new.log c.args.seq c.args.seen.now c.args.cmd.now) c.in-Some.is c.in_ok-entry.ensures in
-    (c.in-Some.entry, (writes_log c.args.log c.args.seq c.in-Some.entry c.args.seen.now c.args.cmd.now c.args.track.now).1 (free.0, free.1, named.0), named.1,
-     λ start. ap (λ (s : State). let e : EndingState = record { state = s; floor = c.args.track.now.floor; wrote = Some (record { seq = c.args.seq; entry = c.in-Some.entry }) } in e) named.2)
+    let named = subst (NamesDecided c.args.log c.name.new.log c.args.seq c.args.seen.now c.args.cmd.now) c.in-Some.is c.in_ok-entry.ensures in (
+      c.in-Some.entry,
+      (writes_log c.args.log c.args.seq c.in-Some.entry c.args.seen.now c.args.cmd.now c.args.track.now).1 (free.0, free.1, named.0),
+      named.1,
+      λ start. ap (λ (s : State). let e : EndingState = record { state = s; floor = c.args.track.now.floor; wrote = Some (record { seq = c.args.seq; entry = c.in-Some.entry }) } in e) named.2,
+    )

@@ -19,6 +19,6 @@ pub returns-in-Met : goal.returns-in-Met
 returns-in-Met c =
     ok_is c.kept.result _ _ c.kept.ensures (λ ruled.
     subst (λ (s : Settled). LeavesEndings c.args.given.now c.args.seen.now c.args.cmd.now s c.args.track.now (reply.NotAppended c.args.why.now) (only c.declines-stands.result s
-        c.args.track.now)) (sym c.in-Log.is)
+    c.args.track.now)) (sym c.in-Log.is)
     (met_leaves c.args.given.now c.args.seen.now c.args.cmd.now c.args.track.now c.args.why.now ruled (settled.Log c.in-Log.log) c.in-Met.field-0 (ap stage_shape c.in-Met.is)
     c.declines-stands.result (λ start. c.declines-stands.ensures (host_of c.args.seen.now c.args.cmd.now c.args.track.now) refl refl)))

@@ -10,5 +10,5 @@ pub returns : goal.returns
 returns c =
     ok_is c.kept.result _ _ c.kept.ensures (λ early. early_leaves c.args.given.now c.args.seen.now c.args.cmd.now c.args.settled.now c.args.track.now c.args.why.now
     c.declines_early-stands.result (subst (λ (p : Option Params). IsTrue c.declines_early-stands.result ↔ DeclinesEarly p c.args.seen.now.uuid (untold_of c.args.cmd.now) (stage_shape
-        c.args.track.now.stage) c.args.why.now)
+    c.args.track.now.stage) c.args.why.now)
     c.params_in-params.ensures c.declines_early-stands.ensures) early)

@@ -1,4 +1,4 @@
-use Rattle.std.proofs.Common.{◌≡◌, ◌≢◌, ◌↔◌, ◌+◌, length, refl, sym, ap, subst, ◌∙◌, arith, IsTrue, Bool, Option}
+use Rattle.std.proofs.Common.{◌≡◌, ◌↔◌, ◌+◌, length, refl, sym, ap, subst, ◌∙◌, arith, IsTrue, Bool, Option}
 use Rattle.std.specs.Prelude.{is_some}
 use Rattle.fam_journal.specs.Legal.{FoundPending}
 use Rattle.fam_settled.specs.declared.bytes.Filed.{Filed}
@@ -24,7 +24,8 @@ returns-then-not-is_next c =
 pub returns : goal.returns
 returns c =
     let s = c.args.log.now in
-    let next : c.args.n ≡ length (settled_files s) + 1 = let more : c.args.n ≡ c.count-2.result + 1 = c.if-not-is_next.ensures.0 refl in omega (arith, more, c.count-2.ensures, length-files_of s.entries s.bytes) in
+    let next : c.args.n ≡ length (settled_files s) + 1 =
+    let more : c.args.n ≡ c.count-2.result + 1 = c.if-not-is_next.ensures.0 refl in omega (arith, more, c.count-2.ensures, length-files_of s.entries s.bytes) in
     subst (λ (b : Bool). IsTrue b ↔ FoundPending c.args.n (length (settled_files s)) (filed s.pending))
     (sym (c.is_some.ensures ∙ ap (λ (o : Option Filed). is_some o) c.pending.ensures))
     (found_more c.args.n (length (settled_files s)) s.pending next)

@@ -1,8 +1,7 @@
 use Rattle.std.proofs.Common.{length, refl, sym, ap, ◌∙◌, List}
 use Rattle.fam_judge.proofs.Members.{changed_count}
-use Rattle.fam_settled.proofs.Choices.{untrue}
 use Rattle.fam_judging.specs.declared.candidate.Track.{Track}
-use Rattle.fam_judging.proofs.Goings.{found_next, goes_not, goes_there}
+use Rattle.fam_judging.proofs.Goings.{found_next, goes_there}
 use Rattle.fam_judging.proofs.steps.found.Goals as goal
 
 pub returns-in_err-find-clause-given : goal.returns-in_err-find-clause-given

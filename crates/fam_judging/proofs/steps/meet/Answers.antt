@@ -1,5 +1,3 @@
-use Rattle.fam_judge.specs.Possible.{Possible}
-use Rattle.fam_judging.specs.declared.candidate.Candidate.{Candidate}
 use Rattle.fam_judging.specs.Candidates.{possible_of}
 use Rattle.fam_judging.specs.Going.{FindsEntries, Goes, MeetsAt}
 use Rattle.fam_judging.proofs.Goings.{if_ok}

@@ -1,4 +1,4 @@
-use Rattle.std.proofs.Common.{sym, subst, Bool}
+use Rattle.std.proofs.Common.{subst, Bool}
 use Rattle.fam_judging.specs.Candidates.{possible_of}
 use Rattle.fam_judging.specs.Going.{Goes, MeetsAt}
 use Rattle.fam_judging.proofs.Meeting.{names_from, names_from_none}

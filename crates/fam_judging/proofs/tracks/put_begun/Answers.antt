@@ -1,4 +1,4 @@
-use Rattle.std.proofs.Common.{length, arith}
+use Rattle.std.proofs.Common.{arith}
 use Rattle.fam_judging.specs.After.{begun_track}
 use Rattle.fam_judging.proofs.Keeping.{no_place, put_one}
 use Rattle.fam_judging.proofs.tracks.put_begun.Goals as goal

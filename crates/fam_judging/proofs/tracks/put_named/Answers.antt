@@ -1,7 +1,6 @@
 use Rattle.std.proofs.Common.{length, refl, arith}
 use Rattle.std.proofs.lemmas.Option.{slice_get_read}
 use Rattle.fam_judging.specs.After.{named_track}
-use Rattle.fam_judging.specs.declared.candidate.Track.{Track}
 use Rattle.fam_judging.proofs.Keeping.{no_place, put}
 use Rattle.fam_judging.proofs.tracks.put_named.Goals as goal
 
