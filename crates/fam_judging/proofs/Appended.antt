@@ -152,7 +152,8 @@ module _ (given : GivenImage) (seen : SeenHost) (cmd : ToldCommand) (t : Track) 
     }
 
   -- of a command that is told how many it found
-  pub met_leaves : (log : Log) → stage_shape t.stage ≡ Met seq → (left : Option Left) → NamedLeft log seq seen cmd t left → LeavesEndings given seen cmd (settled.Log log) t (reply.Appended seq) (one left)
+  pub met_leaves : (log : Log) → stage_shape t.stage ≡ Met seq → (left : Option Left) → NamedLeft log seq seen cmd t left → LeavesEndings given seen cmd (settled.Log log) t
+      (reply.Appended seq) (one left)
   met_leaves log stage left is start own e = (
     out left is,
     λ ends. let new = new_of s start e (λ m named. absurd (met_named m seq (sym stage
@@ -184,7 +185,8 @@ module _ (given : GivenImage) (seen : SeenHost) (cmd : ToldCommand) (t : Track) 
           } in r) same ∙ sym (is.3 start))
 
   -- of one that finds them now
-  pub found_leaves : (log : Log) → IsHead (stage_shape t.stage) → (left : Option Left) → FoundNamed log seq seen cmd t left → LeavesEndings given seen cmd (settled.Log log) t (reply.Appended seq) (one left)
+  pub found_leaves : (log : Log) → IsHead (stage_shape t.stage) → (left : Option Left) → FoundNamed log seq seen cmd t left → LeavesEndings given seen cmd (settled.Log log) t
+      (reply.Appended seq) (one left)
   found_leaves log head left is start own e = (
     out left is,
     λ ends. let new = new_of s start e (λ m named. absurd (subst IsHead named head)) (appended (asker_of seen cmd)
@@ -213,7 +215,8 @@ module _ (given : GivenImage) (seen : SeenHost) (cmd : ToldCommand) (t : Track) 
           names_left (settled.Log log) start e (found_at seq (point_of start (settled.Log log) t)) (untold seq head (wish_in is.1.0 is.1.2) is.0 refl) refl is.1.0 is.1.2 is.1.1
           (the_left start e k l ∙ is.1.3 start)
 
-      back : (left : Option Left) → FoundNamed log seq seen cmd t left → FoundAllowed seq (settled_log_state log) × Left_at (settled.Log log) start e (found_at seq (point_of start (settled.Log log) t))
+      back : (left : Option Left) → FoundNamed log seq seen cmd t left → FoundAllowed seq (settled_log_state log) × Left_at (settled.Log log) start e
+          (found_at seq (point_of start (settled.Log log) t))
           → IsOfLefts start (one left) e
       back None is l = absurd (is l.0 l.1.entry l.1.writes)
       back (Some k) is l =
@@ -235,7 +238,8 @@ module _ (given : GivenImage) (seen : SeenHost) (cmd : ToldCommand) (t : Track) 
       meets_none met (untold m head wish found same) is (inl stage) = subst IsHead stage head
       meets_none met (untold m head wish found same) is (inr stage) = subst IsHead stage head
 
-      by : (stage_shape t.stage ≡ Met n) ⊎ (stage_shape t.stage ≡ Named n) → AcknowledgesNamed (asker_of seen cmd) (point_of start s t) seq e ⊎ AppendsNew (asker_of seen cmd) (point_of start s t) seq e → ⊥
+      by : (stage_shape t.stage ≡ Met n) ⊎ (stage_shape t.stage ≡ Named n) → AcknowledgesNamed (asker_of seen cmd) (point_of start s t) seq e ⊎ AppendsNew (asker_of seen cmd)
+          (point_of start s t) seq e → ⊥
       by (inl stage) (inl is) = met_named seq n (sym stage ∙ is.named)
       by (inr stage) (inl is) = ne (named_seq n seq (sym stage ∙ is.named))
       by stage (inr is) = meets_none is.names.met is.names.meets (is.names.stage ∙ ap Met is.number) stage

@@ -165,14 +165,16 @@ module _ (given : GivenImage) (seen : SeenHost) (cmd : ToldCommand) (t : Track) 
         λ ends. let m = met_of s start own e ends in left.1 (back m.met m.meets m.decides m.is),
       )
     where
-      back : (p : Point) → MeetsAtPoint (asker_of seen cmd) (point_of start s t) p → DecideAllowed (Rattle.fam_judging.specs.Replies.told_at (asker_of seen cmd) p) (Err why) p.state → e ≡ same_ending p
+      back : (p : Point) → MeetsAtPoint (asker_of seen cmd) (point_of start s t) p → DecideAllowed (Rattle.fam_judging.specs.Replies.told_at (asker_of seen cmd) p)
+          (Err why) p.state → e ≡ same_ending p
           → DecideAllowed (host_of seen cmd t) (Err why) (settled_state start s) × (e ≡ ending_left start s t)
       back p (told n stage same) decides left =
           (subst (λ (p : Point). DecideAllowed (Rattle.fam_judging.specs.Replies.told_at (asker_of seen cmd) p) (Err why) p.state) same decides, left ∙ ap same_ending same)
       back p (untold n head wish found same) decides left = absurd (subst IsHead met head)
 
   -- one that finds entries now
-  pub found_leaves : (log : Log) (lefts : Lefts) → IsHead (stage_shape t.stage) → FoundLeft log (length log.entries) seen cmd t why lefts.first → PendingLeft log seen cmd t why log.pending lefts.second
+  pub found_leaves : (log : Log) (lefts : Lefts) → IsHead (stage_shape t.stage) → FoundLeft log (length log.entries) seen cmd t why lefts.first
+      → PendingLeft log seen cmd t why log.pending lefts.second
       → LeavesEndings given seen cmd (settled.Log log) t (reply.NotAppended why) lefts
   found_leaves log lefts head one two start own e = (out, λ ends. let m = met_of (settled.Log log) start own e ends in back m.met m.meets m.decides m.is)
     where

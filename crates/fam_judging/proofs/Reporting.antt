@@ -176,7 +176,8 @@ module _ (given : GivenImage) (seen : SeenHost) (c : ToldCommand) (s : Settled) 
     }) (both.1 ∙ state start own both.0.2),
   ))
     where
-      state : (start : Image) → SaysOfGiven start given s → DamagedReport given s report → ending_left start s (record t { floor = None }) ≡ reported_ending report (record (point_of start s t) { floor = None })
+      state : (start : Image) → SaysOfGiven start given s → DamagedReport given s report → ending_left start s (record t { floor = None }) ≡ reported_ending report
+          (record (point_of start s t) { floor = None })
       state start own is = ap (λ (k : State). let e : EndingState = record { state = k; floor = None; wrote = option_map named_of t.wrote } in e) (sym (damaged_kept start given s report
           (reported_count report.log) own is))
 
@@ -191,7 +192,8 @@ module _ (given : GivenImage) (seen : SeenHost) (c : ToldCommand) (s : Settled) 
 
   -- what is left of a damaged image of one behind the mark
   pub damaged_leaves : (d : past.Damage) → Rattle.fam_judging.specs.ReplyKinds.damage_in given s ≡ Some d → (b : Bool)
-      → (IsTrue b ↔ (MayMark (stage_shape t.stage) × (untold_of c ≡ Fsck) × DamagedReport given s report)) → ReportPlace report.log Marked → LeavesEndings given seen c s t (reply.Reports report) (only b s t)
+      → (IsTrue b ↔ (MayMark (stage_shape t.stage) × (untold_of c ≡ Fsck) × DamagedReport given s report)) → ReportPlace report.log Marked → LeavesEndings given seen c s t
+      (reply.Reports report) (only b s t)
   damaged_leaves d is_bad b is place = only_leaves given seen c s t (reply.Reports report) b t _ is (λ start own e. (
     λ ends. out start own e (reports (asker_of seen c) (point_of start s t) e report ends),
     λ both. marked_ends (asker_of seen c) (point_of start s t) e report (record {

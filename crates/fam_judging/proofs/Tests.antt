@@ -108,6 +108,7 @@ met_by hosts c h n cmd (Some t) runs at is = record {
 }
 
 -- where it runs
-pub met_at : (hosts : Hosts) (c : Candidate) (h n : ℕ) (cmd : ToldCommand) → running hosts.seen.items hosts.commands.items h ≡ Some cmd → is_met n (stage_of_host hosts c h) ≡ true → MetAt hosts c h n cmd
+pub met_at : (hosts : Hosts) (c : Candidate) (h n : ℕ) (cmd : ToldCommand) → running hosts.seen.items hosts.commands.items h ≡ Some cmd → is_met n
+    (stage_of_host hosts c h) ≡ true → MetAt hosts c h n cmd
 met_at hosts c h n cmd runs is =
     met_by hosts c h n cmd (slice_get c.tracks.items h) runs refl (ap (λ (o : Option ToldCommand). is_met n (stage_in o (slice_get c.tracks.items h))) (sym runs) ∙ is)

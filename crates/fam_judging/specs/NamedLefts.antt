@@ -45,7 +45,12 @@ abbrev pub NamedLeft : Log → ℕ → SeenHost → ToldCommand → Track → Op
 NamedLeft log seq seen cmd track None = (e : Entry) → WritesAllowed seq e (host_of seen cmd track) (settled_log_state log) → ⊥
 NamedLeft log seq seen cmd track (Some l) =
     (e : Entry) × WritesAllowed seq e (host_of seen cmd track) (settled_log_state log) × EntryShape (untold_of cmd) e
-    × ((start : Image) → ending_left start l.settled l.track ≡ record { state = acknowledged_state cmd seq e (settled_log_state log); floor = track.floor; wrote = Some (record { seq = seq; entry = e }) })
+    × ((start : Image) → ending_left start l.settled l.track ≡ record {
+      state = acknowledged_state cmd seq e (settled_log_state log);
+      floor = track.floor;
+      wrote = Some
+          (record { seq = seq; entry = e });
+    })
 
 -- the entry that it named is acknowledged, or not
 abbrev pub AcknowledgedLeft : Log → ℕ → SeenHost → ToldCommand → Track → Option Left → Type 0

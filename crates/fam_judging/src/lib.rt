@@ -3,33 +3,18 @@
 //! `specs/Candidates.antt` says which state of fam_judge (`Possible`) a candidate is.
 #![tactic(auto)]
 
+mod behind;
+mod below;
 mod candidate;
-mod given;
-mod hosts;
-
-pub use candidate::{Candidate, Settled, Stage, Track, Wrote};
-pub use given::{Damage, GivenImage};
-pub use hosts::Hosts;
-
 mod commands;
 mod elsewhere;
+mod given;
+mod going;
+mod hosts;
 mod lead;
+mod lefts;
 mod naming;
 mod plain;
-mod settled;
-mod steps;
-mod tasks;
-mod tracks;
-
-pub use lead::step;
-
-mod behind;
-mod going;
-
-pub use behind::written;
-
-mod below;
-mod lefts;
 mod replies_appended;
 mod replies_damage;
 mod replies_decided;
@@ -38,3 +23,13 @@ mod replies_put;
 mod replies_refused;
 mod replies_reported;
 mod replies_shown;
+mod settled;
+mod steps;
+mod tasks;
+mod tracks;
+
+pub use behind::written;
+pub use candidate::{Candidate, Settled, Stage, Track, Wrote};
+pub use given::{Damage, GivenImage};
+pub use hosts::Hosts;
+pub use lead::step;

@@ -14,7 +14,8 @@ returns-then-not-is_of_mark c =
 pub returns-in-Log : goal.returns-in-Log
 returns-in-Log c =
     ok_map c.reported_log.result _ _ c.reported_log.ensures (λ lefts is.
-    subst (λ (s : Settled). LeavesEndings c.args.given.now c.args.seen.now c.args.cmd.now s c.args.track.now (reply.Reports c.args.report.now) lefts) (sym c.in-Log.is) (is c.args.given.now c.args.seen.now))
+    subst (λ (s : Settled). LeavesEndings c.args.given.now c.args.seen.now c.args.cmd.now s c.args.track.now (reply.Reports c.args.report.now) lefts) (sym c.in-Log.is)
+    (is c.args.given.now c.args.seen.now))
 
 pub returns-in-Given : goal.returns-in-Given
 returns-in-Given c =
