@@ -78,7 +78,7 @@ AreCommanded [] (c ∷ cmds) = ⊥
 AreCommanded (s ∷ seen) [] = ⊥
 AreCommanded (s ∷ seen) (c ∷ cmds) = RunsCommand s c × AreCommanded seen cmds
 
--- the hosts fit
+-- each host has its place among the commands, and a running one has a command
 abbrev pub HostsFit : Hosts → Type 0
 HostsFit hosts = AreCommanded hosts.seen.items hosts.commands.items
 

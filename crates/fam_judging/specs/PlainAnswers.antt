@@ -1,4 +1,4 @@
--- Answers that show nothing of the first entries.
+-- Answers but those to questions.
 use Rattle.std.specs.Prelude.{⊤}
 use Rattle.fam_lines.specs.declared.answer.HostAnswer.{HostAnswer}
 use Rattle.fam_lines.specs.declared.answer.HostAnswer.TheVariants as given

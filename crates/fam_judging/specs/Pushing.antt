@@ -49,7 +49,7 @@ abbrev pub IsSoundState : State → Type 0
 IsSoundState (Sound p history pending) = ⊤
 IsSoundState (Bad origin damage gate) = ⊥
 
--- a count that isn't the settled one
+-- a count that may be found of a file system, and isn't the settled one
 pub record IsMore (m : ℕ) (s : State) : Type 0 where
   pub found : FoundAllowed m s
   pub sound : IsSoundState s

@@ -1,4 +1,4 @@
-//! Answers that show nothing of the first entries, by their kind.
+//! Answers but those to questions, by their kind.
 
 ghost use Rattle.std.specs.Prelude.{◌≡◌, ◌↔◌, IfOk, IsTrue};
 ghost use Rattle.fam_journal.specs.Notes.{Replied};
@@ -53,7 +53,7 @@ pub(crate) fn refused(
     }
 }
 
-/// What an answer leaves that shows nothing of the first entries.
+/// What an answer leaves that answers no question.
 pub(crate) fn plain_lefts(
     alloc: Global,
     given: &GivenImage,
