@@ -170,7 +170,8 @@ question_told log m seen c t answer listed r by told = (
 )
 
 module _ (given : GivenImage) (seen : SeenHost) (c : ToldCommand) (t : Track) (m : ℕ) (r : Reply) (class : reply_class r ≡ Showing m) where
-  none_left : (s : Settled) → ((start : Image) → SaysOfGiven start given s → ShowsAnswer (asker_of seen c) (point_of start s t) m r → ⊥) → LeavesEndings given seen c s t r (one None)
+  -- where nothing is shown nothing is left
+  pub none_left : (s : Settled) → ((start : Image) → SaysOfGiven start given s → ShowsAnswer (asker_of seen c) (point_of start s t) m r → ⊥) → LeavesEndings given seen c s t r (one None)
   none_left s none start own e =
       (λ l. absurd (no_left start e l), λ ends. absurd (none start own (showing (asker_of seen c) (point_of start s t) e m r class ends).0))
 

@@ -1,11 +1,11 @@
 -- Candidates that are put behind others by loops over candidates and hosts.
-use Rattle.std.specs.Prelude.{ℕ, ◌≡◌, ◌<◌, List, Some, map, slice_get}
+use Rattle.std.specs.Prelude.{ℕ, ◌≡◌, ◌<◌, List, Some, map, slice_get, take}
 use Rattle.fam_base.specs.Image.{Image}
 use Rattle.fam_journal.specs.Notes.{Note}
-use Rattle.fam_judge.specs.Covering.{HasBelow}
+use Rattle.fam_judge.specs.Covering.{HasBelow, LeadsStates}
 use Rattle.fam_judge.specs.Possible.{Elsewhere, MayLead, Possible, StepsTo, Wrote}
 use Rattle.fam_judging.specs.declared.candidate.Candidate.{Candidate}
-use Rattle.fam_judging.specs.Into.{PutsInto}
+use Rattle.fam_judging.specs.Into.{LeadsInto, PutsInto, WritesInto}
 
 -- all of these candidates are fine
 abbrev pub AllFine : (Candidate → Type 0) → List Candidate → Type 0
@@ -30,3 +30,19 @@ pub record LeadsBehindAll (start : Image) (line : Note) (k : ℕ) (x : Possible)
     (Fine : Candidate → Type 0) (see : Candidate → Possible) (old new : List Candidate) : Type 0 where
   pub among : PutAmong (MayLead start x line) Fine see old new
   pub all : (i : ℕ) (d : Candidate) → i < n → slice_get ws i ≡ Some d → LedBehind start line k x (at d) (map see new)
+
+-- those to which the line leads where host k named an entry before are put among the others; where those were fine so are all
+pub record WritesAmong (start : Image) (line : Note) (k : ℕ) (x : Possible) (Fine : Candidate → Type 0) (see : Candidate → Possible) (old new : List Candidate) : Type 0 where
+  pub into : WritesInto start line k x (map see old) (map see new)
+  pub fine : AllFine Fine old → AllFine Fine new
+
+-- so are all to which it leads, as far as hosts of numbers below n may have named an entry before
+pub record LeadsAmong (start : Image) (line : Note) (n : ℕ) (x : Possible) (Fine : Candidate → Type 0) (see : Candidate → Possible) (old new : List Candidate) : Type 0 where
+  pub into : LeadsInto start line n x (map see old) (map see new)
+  pub fine : AllFine Fine old → AllFine Fine new
+
+-- the line leads from the first n of these candidates to the others, and each of those is fine
+pub record LeadsAll (start : Image) (line : Note) (at : Candidate → Possible) (cs : List Candidate) (n : ℕ) (Fine : Candidate → Type 0) (see : Candidate → Possible)
+    (new : List Candidate) : Type 0 where
+  pub leads : LeadsStates start line (map at (take n cs)) (map see new)
+  pub fine : AllFine Fine new

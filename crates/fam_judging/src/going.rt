@@ -1,15 +1,30 @@
 //! To which states a line leads from others, where hosts may have named entries before.
 
-ghost use Rattle.std.specs.Prelude.{IsTrue};
+ghost use Rattle.std.specs.Prelude.{◌≡◌, ◌*◌, ◌≤◌, ℕ, IfOk, IsTrue, OnOk, Some, length, slice_get};
 ghost use Rattle.fam_base.specs.Image.{Image};
+ghost use Rattle.fam_format.specs.Layout.{device_limit};
 ghost use Rattle.fam_judge.specs.Possible.{Elsewhere, Possible, Wrote};
 ghost use Rattle.fam_lines.specs.Lines.{note_of_line};
+ghost use Rattle.fam_rules.specs.Place.{line_bytes};
+ghost use Rattle.fam_judging.specs.declared.candidate.Candidate.{Candidate as AnyCandidate};
 ghost use Rattle.fam_judging.specs.declared.hosts.Hosts.{Hosts};
-ghost use Rattle.fam_judging.specs.Candidates.{possible_of};
+ghost use Rattle.fam_judging.specs.After.{possible_after, seen_after};
+ghost use Rattle.fam_judging.specs.Among.{AllFine, LeadsAll, LeadsAmong, LeadsBehind, LeadsBehindAll, WritesAmong};
+ghost use Rattle.fam_judging.specs.Candidates.{HostsFit, IsCandidate, possible_of};
+ghost use Rattle.fam_judging.specs.Going.{HasGiven};
+ghost use Rattle.fam_judging.specs.Plain.{TellsNoReply};
+ghost use Rattle.fam_judging.specs.Pushing.{IsFine};
+ghost use Rattle.fam_judging.specs.Told.{AreToldCommands};
 
+use crate::behind::{copy, written};
 use crate::candidate::Candidate;
 use crate::elsewhere::is_elsewhere;
+use crate::given::GivenImage;
+use crate::hosts::Hosts;
+use crate::lead::step;
+use fam_base::OutOfMemory;
 use fam_lines::Line;
+use std::alloc::Global;
 
 /// Whether a line tells nothing of the entry that host `at` has named.
 fn tells_nothing(written: &Candidate, at: usize, line: &Line) -> bool
@@ -23,4 +38,159 @@ fn tells_nothing(written: &Candidate, at: usize, line: &Line) -> bool
         Some(wrote) => is_elsewhere(at, wrote.seq, line),
         None => false,
     }
+}
+
+/// Pushes the state to which the line leads from one in which host `at` has named an entry, where the line tells of it.
+fn lead_behind(
+    alloc: Global,
+    given: &GivenImage,
+    lines: u64,
+    hosts: &Hosts,
+    written: Candidate,
+    at: usize,
+    line: &Line,
+    out: &mut Vec<Candidate>,
+) -> Result<(), OutOfMemory>
+    requires few { line_bytes * lines ≤ device_limit }
+    requires hosts { HostsFit hosts.now }
+    requires told { AreToldCommands hosts.now }
+    requires fault { TellsNoReply line.now }
+    ensures { (start : Image) (x : Possible) → length start ≡ lines → IsFine start given.now hosts.now.seen.items written → Wrote start at x (possible_of start hosts.now written)
+        → OnOk result (LeadsBehind start (note_of_line line.now) at x (possible_of start hosts.now written) (IsFine start given.now (seen_after hosts.now.seen.items line.now))
+        (possible_after start hosts.now line.now) out.old.items out.new.items) }
+{
+    if written.tracks.len() != hosts.seen.len() {
+        return Ok(());
+    }
+    if tells_nothing(&written, at, line) {
+        return Ok(());
+    }
+    step(alloc, given, lines, hosts, written, line, out)
+}
+
+/// So from each of these.
+fn lead_all_behind(
+    alloc: Global,
+    given: &GivenImage,
+    lines: u64,
+    hosts: &Hosts,
+    written: &Vec<Candidate>,
+    at: usize,
+    line: &Line,
+    out: &mut Vec<Candidate>,
+) -> Result<(), OutOfMemory>
+    requires few { line_bytes * lines ≤ device_limit }
+    requires hosts { HostsFit hosts.now }
+    requires told { AreToldCommands hosts.now }
+    requires fault { TellsNoReply line.now }
+    ensures { (start : Image) (x : Possible) → length start ≡ lines → AllFine (IsFine start given.now hosts.now.seen.items) written.now.items
+        → ((k : ℕ) (d : AnyCandidate) → slice_get written.now.items k ≡ Some d → Wrote start at x (possible_of start hosts.now d))
+        → OnOk result (LeadsBehindAll start (note_of_line line.now) at x (possible_of start hosts.now) written.now.items (length written.now.items)
+        (IsFine start given.now (seen_after hosts.now.seen.items line.now)) (possible_after start hosts.now line.now) out.old.items out.new.items) }
+{
+    'named: for i in 0..written.len() {
+        let one = copy(alloc, &written[i])?;
+        lead_behind(alloc, given, lines, hosts, one, at, line, out)?;
+    }
+    Ok(())
+}
+
+/// Pushes the states to which the line leads where host `at` has named an entry before, of which the line tells.
+fn lead_host(
+    alloc: Global,
+    given: &GivenImage,
+    lines: u64,
+    hosts: &Hosts,
+    candidate: &Candidate,
+    at: usize,
+    line: &Line,
+    out: &mut Vec<Candidate>,
+) -> Result<(), OutOfMemory>
+    requires few { line_bytes * lines ≤ device_limit }
+    requires hosts { HostsFit hosts.now }
+    requires told { AreToldCommands hosts.now }
+    requires candidate { IsCandidate hosts.now candidate.now }
+    requires fault { TellsNoReply line.now }
+    ensures { (start : Image) → length start ≡ lines → HasGiven start given.now candidate.now.settled
+        → OnOk result (WritesAmong start (note_of_line line.now) at (possible_of start hosts.now candidate.now)
+        (IsFine start given.now (seen_after hosts.now.seen.items line.now)) (possible_after start hosts.now line.now) out.old.items out.new.items) }
+{
+    let mut named = Vec::new(alloc);
+    written(alloc, given, hosts, candidate, at, &mut named)?;
+    lead_all_behind(alloc, given, lines, hosts, &named, at, line, out)
+}
+
+/// So for each host.
+fn lead_hosts(
+    alloc: Global,
+    given: &GivenImage,
+    lines: u64,
+    hosts: &Hosts,
+    candidate: &Candidate,
+    line: &Line,
+    out: &mut Vec<Candidate>,
+) -> Result<(), OutOfMemory>
+    requires few { line_bytes * lines ≤ device_limit }
+    requires hosts { HostsFit hosts.now }
+    requires told { AreToldCommands hosts.now }
+    requires candidate { IsCandidate hosts.now candidate.now }
+    requires fault { TellsNoReply line.now }
+    ensures { (start : Image) → length start ≡ lines → HasGiven start given.now candidate.now.settled
+        → OnOk result (LeadsAmong start (note_of_line line.now) (length hosts.now.seen.items) (possible_of start hosts.now candidate.now)
+        (IsFine start given.now (seen_after hosts.now.seen.items line.now)) (possible_after start hosts.now line.now) out.old.items out.new.items) }
+{
+    let own = copy(alloc, candidate)?;
+    step(alloc, given, lines, hosts, own, line, out)?;
+    'hosts: for at in 0..hosts.seen.len() {
+        lead_host(alloc, given, lines, hosts, candidate, at, line, out)?;
+    }
+    Ok(())
+}
+
+/// Pushes all states to which the line leads from this one.
+fn lead_from(
+    alloc: Global,
+    given: &GivenImage,
+    lines: u64,
+    hosts: &Hosts,
+    candidate: &Candidate,
+    line: &Line,
+    out: &mut Vec<Candidate>,
+) -> Result<(), OutOfMemory>
+    requires few { line_bytes * lines ≤ device_limit }
+    requires hosts { HostsFit hosts.now }
+    requires told { AreToldCommands hosts.now }
+    requires fault { TellsNoReply line.now }
+    ensures { (start : Image) → length start ≡ lines → IsFine start given.now hosts.now.seen.items candidate.now
+        → OnOk result (LeadsAmong start (note_of_line line.now) (length hosts.now.seen.items) (possible_of start hosts.now candidate.now)
+        (IsFine start given.now (seen_after hosts.now.seen.items line.now)) (possible_after start hosts.now line.now) out.old.items out.new.items) }
+{
+    if candidate.tracks.len() != hosts.seen.len() {
+        return Ok(());
+    }
+    lead_hosts(alloc, given, lines, hosts, candidate, line, out)
+}
+
+/// The states to which the line leads from these.
+pub fn go_on(
+    alloc: Global,
+    given: &GivenImage,
+    lines: u64,
+    hosts: &Hosts,
+    candidates: &Vec<Candidate>,
+    line: &Line,
+) -> Result<Vec<Candidate>, OutOfMemory>
+    requires few { line_bytes * lines ≤ device_limit }
+    requires hosts { HostsFit hosts.now }
+    requires told { AreToldCommands hosts.now }
+    requires fault { TellsNoReply line.now }
+    ensures { (start : Image) → length start ≡ lines → AllFine (IsFine start given.now hosts.now.seen.items) candidates.now.items
+        → IfOk result (λ next. LeadsAll start (note_of_line line.now) (possible_of start hosts.now) candidates.now.items (length candidates.now.items)
+        (IsFine start given.now (seen_after hosts.now.seen.items line.now)) (possible_after start hosts.now line.now) next.items) }
+{
+    let mut next = Vec::new(alloc);
+    'candidates: for at in 0..candidates.len() {
+        lead_from(alloc, given, lines, hosts, &candidates[at], line, &mut next)?;
+    }
+    Ok(next)
 }
