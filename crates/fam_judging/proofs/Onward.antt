@@ -1,13 +1,13 @@
 -- Loops over hosts and candidates come to all states to which a line leads.
-use Rattle.std.proofs.Common.{◌≡◌, ◌≤◌, ℕ, zero, suc, ◌+◌, List, [], ◌∷◌, ◌++◌, length, map, take, Option, Some, refl, ap, sym, ◌∙◌, subst, arith}
+use Rattle.std.proofs.Common.{◌≡◌, ◌≤◌, ℕ, zero, suc, ◌+◌, List, [], ◌∷◌, ◌++◌, length, map, take, Option, Some, ap, sym, ◌∙◌, subst, arith}
 use Rattle.std.specs.List.{slice_get}
-use Rattle.std.proofs.lemmas.List.{map-append}
+use Rattle.std.proofs.lemmas.List.{map-append, take_all}
 use Rattle.std.proofs.lemmas.Option.{same_Some, slice_get_within}
 use Rattle.fam_base.specs.Image.{Image}
 use Rattle.fam_history.specs.declared.command.ToldCommand.{ToldCommand}
 use Rattle.fam_journal.specs.Notes.{Note}
-use Rattle.fam_judge.specs.Covering.{HasBelow, LeadsStates}
-use Rattle.fam_judge.specs.Possible.{Elsewhere, Possible, StepsTo, Wrote}
+use Rattle.fam_judge.specs.Covering.{LeadsStates}
+use Rattle.fam_judge.specs.Possible.{Possible, StepsTo, Wrote}
 use Rattle.fam_lines.specs.declared.host.SeenHost.{SeenHost}
 use Rattle.fam_judging.specs.declared.candidate.Candidate.{Candidate}
 use Rattle.fam_judging.specs.declared.candidate.Settled.{Settled}
@@ -94,6 +94,10 @@ module _ (start : Image) (line : Note) (at : Candidate → Possible) (cs : List 
         (leads_more start line m (map at (take n cs)) (at d) (map see old) (map see new) within on.leads more.into);
     fine = more.fine on.fine;
   }
+
+  -- behind the last one
+  pub all_leads : (n : ℕ) (new : List Candidate) → length cs ≤ n → LeadsAll start line at cs n Fine see new → LeadsStates start line (map at cs) (map see new)
+  all_leads n new whole all = subst (λ (l : List Candidate). LeadsStates start line (map at l) (map see new)) (take_all n cs whole) all.leads
 
 -- a state has no more hosts than are declared
 pub progress_count : (seen : List SeenHost) (cmds : List (Option ToldCommand)) (tracks : List Track) → length (progress_list seen cmds tracks) ≤ length seen

@@ -1,5 +1,5 @@
 -- Answers that show something of the first entries and list nothing.
-use Rattle.std.proofs.Common.{◌≡◌, ◌⊎◌, ◌∷◌, inl, inr, ℕ, List, [], length, take, Option, Some, None, refl, ap, sym, ◌∙◌, subst}
+use Rattle.std.proofs.Common.{◌≡◌, ◌⊎◌, ◌∷◌, inl, inr, ℕ, List, [], length, take, Option, Some, None, refl, ap, ap₂, sym, ◌∙◌, subst}
 use Rattle.std.proofs.lemmas.Option.{same_Some}
 use Rattle.fam_base.specs.declared.cmd.Cmd.{Cmd}
 use Rattle.fam_base.specs.declared.cmd.Cmd.TheVariants as cmd
@@ -25,6 +25,8 @@ use Rattle.fam_judging.specs.Candidates.{settled_state}
 use Rattle.fam_judging.specs.declared.candidate.Settled.{Settled}
 use Rattle.fam_judging.specs.declared.candidate.Track.{Track}
 use Rattle.fam_judging.specs.declared.given.GivenImage.{GivenImage}
+use Rattle.fam_judging.specs.declared.lefts.Left.{Left}
+use Rattle.fam_judging.specs.declared.lefts.Lefts.{Lefts}
 use Rattle.fam_judging.specs.Lefts.{LeavesEndings}
 use Rattle.fam_judging.specs.NamedLefts.{TellsCommand}
 use Rattle.fam_judging.specs.Plain.{IsFault}
@@ -120,10 +122,11 @@ not_asked files k r check other fits = absurd (check tt)
 
 -- so such an answer leaves nothing of one
 pub check_leaves : (given : GivenImage) (seen : SeenHost) (c : ToldCommand) (s : Settled) (t : Track) (a : HostAnswer) (r : Reply) → TellsCommand c → (IsNoCheck (bare_cmd c) → ⊥)
-    → IsShownAnswer a → answer_of a ≡ Replied r → LeavesEndings given seen c s t r (one None)
-check_leaves given seen c s t a r tells check is same =
+    → IsShownAnswer a → answer_of a ≡ Replied r → (lefts : Lefts) → lefts.first ≡ None → lefts.second ≡ None → LeavesEndings given seen c s t r lefts
+check_leaves given seen c s t a r tells check is same lefts at_first at_second =
     let shown = shown_is a is r same in
-    none_left given seen c t (entries_in a) r shown.class s (λ start own shows. by shown.other (point_of start s t) (settled_state start s) shows.fits)
+    let none : lefts ≡ one None = ap₂ (λ (a b : Option Left). let l : Lefts = record { first = a; second = b } in l) at_first at_second in
+    subst (LeavesEndings given seen c s t r) (sym none) (none_left given seen c t (entries_in a) r shown.class s (λ start own shows. by shown.other (point_of start s t) (settled_state start s) shows.fits))
   where
     by : ((m : ℕ) (counts : Checked) → r ≡ reply.Checks m counts → ⊥) → (at : Point) (s : State)
         → QuestionFits (entries_in a) r (told_at (asker_of seen c) at) s → ⊥

@@ -1,15 +1,16 @@
 //! To which states a line leads from others, where hosts may have named entries before.
 
-ghost use Rattle.std.specs.Prelude.{◌≡◌, ◌*◌, ◌≤◌, ℕ, IfOk, IsTrue, OnOk, Some, length, slice_get};
+ghost use Rattle.std.specs.Prelude.{◌≡◌, ◌*◌, ◌≤◌, ℕ, IfOk, IsTrue, OnOk, Some, length, map, slice_get};
 ghost use Rattle.fam_base.specs.Image.{Image};
 ghost use Rattle.fam_format.specs.Layout.{device_limit};
+ghost use Rattle.fam_judge.specs.Covering.{LeadsStates};
 ghost use Rattle.fam_judge.specs.Possible.{Elsewhere, Possible, Wrote};
 ghost use Rattle.fam_lines.specs.Lines.{note_of_line};
 ghost use Rattle.fam_rules.specs.Place.{line_bytes};
 ghost use Rattle.fam_judging.specs.declared.candidate.Candidate.{Candidate as AnyCandidate};
 ghost use Rattle.fam_judging.specs.declared.hosts.Hosts.{Hosts};
 ghost use Rattle.fam_judging.specs.After.{possible_after, seen_after};
-ghost use Rattle.fam_judging.specs.Among.{AllFine, LeadsAll, LeadsAmong, LeadsBehind, LeadsBehindAll, WritesAmong};
+ghost use Rattle.fam_judging.specs.Among.{AllFine, LeadsAmong, LeadsBehind, LeadsBehindAll, WritesAmong};
 ghost use Rattle.fam_judging.specs.Candidates.{HostsFit, IsCandidate, possible_of};
 ghost use Rattle.fam_judging.specs.Going.{HasGiven};
 ghost use Rattle.fam_judging.specs.Plain.{TellsNoReply};
@@ -120,7 +121,7 @@ fn lead_host(
     lead_all_behind(alloc, given, lines, hosts, &named, at, line, out)
 }
 
-/// So for each host.
+/// Pushes all states to which the line leads from this one, at once and where hosts have named entries before.
 fn lead_hosts(
     alloc: Global,
     given: &GivenImage,
@@ -147,7 +148,7 @@ fn lead_hosts(
     Ok(())
 }
 
-/// Pushes all states to which the line leads from this one.
+/// The same; from one that hasn't its place for each host none.
 fn lead_from(
     alloc: Global,
     given: &GivenImage,
@@ -184,9 +185,11 @@ pub fn go_on(
     requires hosts { HostsFit hosts.now }
     requires told { AreToldCommands hosts.now }
     requires fault { TellsNoReply line.now }
-    ensures { (start : Image) → length start ≡ lines → AllFine (IsFine start given.now hosts.now.seen.items) candidates.now.items
-        → IfOk result (λ next. LeadsAll start (note_of_line line.now) (possible_of start hosts.now) candidates.now.items (length candidates.now.items)
-        (IsFine start given.now (seen_after hosts.now.seen.items line.now)) (possible_after start hosts.now line.now) next.items) }
+    ensures leads { (start : Image) → length start ≡ lines → AllFine (IsFine start given.now hosts.now.seen.items) candidates.now.items
+        → IfOk result (λ next. LeadsStates start (note_of_line line.now) (map (possible_of start hosts.now) candidates.now.items)
+        (map (possible_after start hosts.now line.now) next.items)) }
+    ensures fine { (start : Image) → length start ≡ lines → AllFine (IsFine start given.now hosts.now.seen.items) candidates.now.items
+        → IfOk result (λ next. AllFine (IsFine start given.now (seen_after hosts.now.seen.items line.now)) next.items) }
 {
     let mut next = Vec::new(alloc);
     'candidates: for at in 0..candidates.len() {

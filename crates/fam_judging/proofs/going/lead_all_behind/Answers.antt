@@ -1,10 +1,8 @@
-use Rattle.std.proofs.Common.{◌≡◌, ◌+◌, ℕ, Some, length, slice_get, refl, sym, subst, arith, ap, ◌∙◌, List}
+use Rattle.std.proofs.Common.{◌≡◌, ℕ, length, refl, sym, subst, arith}
 use Rattle.std.proofs.lemmas.Option.{slice_get_read}
 use Rattle.fam_judge.specs.Possible.{Possible, Wrote}
 use Rattle.fam_lines.specs.Lines.{note_of_line}
 use Rattle.fam_judging.specs.declared.candidate.Candidate.{Candidate}
-use Rattle.fam_judging.specs.declared.candidate.Settled.{Settled}
-use Rattle.fam_judging.specs.declared.candidate.Track.{Track}
 use Rattle.fam_judging.specs.After.{possible_after, seen_after}
 use Rattle.fam_judging.specs.Among.{LeadsBehind, LeadsBehindAll}
 use Rattle.fam_judging.specs.Candidates.{possible_of}

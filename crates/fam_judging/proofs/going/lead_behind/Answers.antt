@@ -1,5 +1,5 @@
 use Rattle.std.proofs.Common.{refl}
-use Rattle.fam_judge.specs.Possible.{Possible, StepsTo}
+use Rattle.fam_judge.specs.Possible.{StepsTo}
 use Rattle.fam_lines.specs.Lines.{note_of_line}
 use Rattle.fam_judging.specs.declared.candidate.Candidate.{Candidate}
 use Rattle.fam_judging.specs.After.{possible_after, seen_after}

@@ -1,4 +1,4 @@
-use Rattle.std.proofs.Common.{List, [], length, subst}
+use Rattle.std.proofs.Common.{List, length, subst}
 use Rattle.fam_judge.specs.Possible.{Possible, Wrote}
 use Rattle.fam_lines.specs.Lines.{note_of_line}
 use Rattle.fam_judging.specs.declared.candidate.Candidate.{Candidate}
