@@ -1,12 +1,11 @@
 -- What is left of a host's command behind an answer is pushed behind other candidates.
-use Rattle.std.proofs.Common.{◌≡◌, ◌⊎◌, inl, inr, ℕ, Bool, true, false, List, [], ◌∷◌, length, Option, Some, None, refl, ap, ap₂, sym, ◌∙◌, subst}
+use Rattle.std.proofs.Common.{◌≡◌, ◌⊎◌, inl, inr, ℕ, Bool, true, false, List, [], length, Option, Some, None, refl, ap, ap₂, sym, ◌∙◌, subst}
 use Rattle.std.specs.Prelude.{⊤, if◌then◌else◌, ◌==◌, ◌+◌, slice_get}
 use Rattle.std.proofs.lemmas.List.{append-nil}
 use Rattle.std.proofs.lemmas.Option.{same_Some}
 use Rattle.fam_base.specs.Image.{Image}
 use Rattle.fam_commands.specs.ReplyClasses.{ReplyClass, reply_class, Appending, Declining, Showing, Reporting, Faulty}
 use Rattle.fam_history.specs.declared.command.ToldCommand.{ToldCommand}
-use Rattle.fam_journal.specs.Members.{changed_at}
 use Rattle.fam_journal.specs.Notes.{Answer, Answered, MediaFault, Replied}
 use Rattle.fam_journal.specs.Past as past
 use Rattle.fam_journal.specs.Past.{Bad, Origin, Sound, State, acknowledges, finds, pends, replied_in, shows, shows_count}
@@ -37,7 +36,7 @@ use Rattle.fam_judging.specs.NamedLefts.{TellsCommand}
 use Rattle.fam_judging.specs.Plain.{IsFault}
 use Rattle.fam_judging.specs.PlainAnswers.{IsPlainAnswer}
 use Rattle.fam_judging.specs.Pushing.{IsFine, Pushes}
-use Rattle.fam_judging.specs.Replies.{Asker, EndingState, MayEnd, MeetsAtPoint, Point, ReachesPoint, ending_at, told, untold, unmarked, marked, stands, meets, names}
+use Rattle.fam_judging.specs.Replies.{Asker, EndingState, MayEnd, MeetsAtPoint, Point, ReachesPoint, told, untold, unmarked, marked, stands, meets, names}
 use Rattle.fam_judging.specs.ReplyKinds.{SaysOfGiven, asker_of, ending_left, point_of}
 use Rattle.fam_judging.specs.Told.{AreToldCommands, IsToldCommand}
 use Rattle.fam_judging.proofs.Answered.{answered_runs, put_steps, steps_put}

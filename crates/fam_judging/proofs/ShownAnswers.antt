@@ -1,9 +1,13 @@
 -- Answers that show something of the first entries and list nothing.
-use Rattle.std.proofs.Common.{◌≡◌, ◌⊎◌, ◌∷◌, inl, inr, ℕ, List, [], length, take, Option, Some, None, refl, ap, ap₂, sym, ◌∙◌, subst}
+use Rattle.std.specs.Prelude.{Vec}
+use Rattle.std.specs.Global.{Global}
+use Rattle.std.proofs.Common.{◌≡◌, ◌⊎◌, inl, inr, ℕ, true, List, [], length, take, Option, Some, None, refl, ap, ap₂, sym, ◌∙◌, subst}
 use Rattle.std.proofs.lemmas.Option.{same_Some}
 use Rattle.fam_base.specs.declared.cmd.Cmd.{Cmd}
 use Rattle.fam_base.specs.declared.cmd.Cmd.TheVariants as cmd
+use Rattle.fam_base.specs.declared.entry.Entry.{Entry}
 use Rattle.fam_commands.specs.ReplyClasses.{Showing, reply_class}
+use Rattle.fam_format.specs.Tree.{Tree, replay}
 use Rattle.fam_history.specs.declared.answer.ToldAnswer.{ToldAnswer}
 use Rattle.fam_history.specs.declared.answer.ToldAnswer.TheVariants as told
 use Rattle.fam_history.specs.declared.command.ToldCommand.{ToldCommand}
@@ -16,8 +20,11 @@ use Rattle.fam_lines.specs.declared.answer.HostAnswer.{HostAnswer}
 use Rattle.fam_lines.specs.declared.answer.HostAnswer.TheVariants as given
 use Rattle.fam_lines.specs.declared.host.SeenHost.{SeenHost}
 use Rattle.fam_lines.specs.Lines.{answer_of, untold_of}
+use Rattle.fam_lines.specs.Resolved.{rise_behind}
+use Rattle.fam_lines.proofs.Trees.{in_order, keyed_replay, replayed_values, values_replayed}
+use Rattle.fam_tree.specs.Keyed.{IsKeyed}
 use Rattle.fam_rules.specs.declared.answers.Checked.{Checked}
-use Rattle.fam_rules.specs.Asks.{File}
+use Rattle.fam_rules.specs.Asks.{File, entries_of}
 use Rattle.fam_rules.specs.Reply as reply
 use Rattle.fam_rules.specs.Reply.{Reply}
 use Rattle.fam_settled.specs.Told.{IsNoCheck, bare_cmd, listed_of}
@@ -30,12 +37,12 @@ use Rattle.fam_judging.specs.declared.lefts.Lefts.{Lefts}
 use Rattle.fam_judging.specs.Lefts.{LeavesEndings}
 use Rattle.fam_judging.specs.NamedLefts.{TellsCommand}
 use Rattle.fam_judging.specs.Plain.{IsFault}
-use Rattle.fam_judging.specs.PlainAnswers.{IsShownAnswer, entries_in}
+use Rattle.fam_judging.specs.PlainAnswers.{IsPlayedAnswer, IsShownAnswer, entries_in}
 use Rattle.fam_judging.specs.Replies.{Point, told_at}
 use Rattle.fam_judging.specs.ReplyKinds.{asker_of, point_of}
 use Rattle.fam_judging.specs.Showing.{IsAnswerTold}
 use Rattle.fam_judging.proofs.Appended.{one}
-use Rattle.fam_judging.proofs.Showing.{none_left}
+use Rattle.fam_judging.proofs.Showing.{ask_shape, none_left}
 
 -- such an answer is no fault
 pub shown_replies : (a : HostAnswer) → IsShownAnswer a → IsFault (answer_of a) → ⊥
@@ -69,7 +76,7 @@ told_alone : (r : Reply) → reply_from (reply_told r) ≡ Some r → listed_of 
 told_alone r is none = record {
   told = refl;
   lines = none;
-  alone = λ other same listed. elim (back other) [
+  alone = λ files c other fits same listed. elim (back other) [
     | inl own ↦ same_Some other r (sym own ∙ ap (λ (t : ToldAnswer). reply_from t) same ∙ is)
     | inr not ↦ let e : None ≡ Some r = sym not ∙ ap (λ (t : ToldAnswer). reply_from t) same ∙ is in absurd cc
   ];
@@ -120,17 +127,60 @@ not_asked : (files : List File) (k : Cmd) (r : Reply) → (IsNoCheck k → ⊥) 
 not_asked files (cmd.Check listing) r check other fits = other (length files) fits.0 fits.1
 not_asked files k r check other fits = absurd (check tt)
 
--- so such an answer leaves nothing of one
+-- so a reply that shows entries and isn't of a check leaves nothing of one
+no_check_leaves : (given : GivenImage) (seen : SeenHost) (c : ToldCommand) (s : Settled) (t : Track) (m : ℕ) (r : Reply) → TellsCommand c → (IsNoCheck (bare_cmd c) → ⊥)
+    → reply_class r ≡ Showing m → ((m : ℕ) (counts : Checked) → r ≡ reply.Checks m counts → ⊥) → (lefts : Lefts) → lefts.first ≡ None → lefts.second ≡ None
+    → LeavesEndings given seen c s t r lefts
+no_check_leaves given seen c s t m r tells check class other lefts at_first at_second =
+    let none : lefts ≡ one None = ap₂ (λ (a b : Option Left). let l : Lefts = record { first = a; second = b } in l) at_first at_second in
+    subst (LeavesEndings given seen c s t r) (sym none) (none_left given seen c t m r class s (λ start own shows. by (point_of start s t) (settled_state start s) shows.fits))
+  where
+    by : (at : Point) (s : State) → QuestionFits m r (told_at (asker_of seen c) at) s → ⊥
+    by at (past.Bad origin damage gate) fits = fits
+    by at (past.Sound p history pending) fits =
+        not_asked (take m (past.with_pending history pending)) fits.cmd r
+        (λ no. check (subst IsNoCheck (sym (same_Some (untold_of c) fits.cmd fits.told) ∙ tells.told) no)) other fits.fits
+
+-- so does an answer that lists nothing
 pub check_leaves : (given : GivenImage) (seen : SeenHost) (c : ToldCommand) (s : Settled) (t : Track) (a : HostAnswer) (r : Reply) → TellsCommand c → (IsNoCheck (bare_cmd c) → ⊥)
     → IsShownAnswer a → answer_of a ≡ Replied r → (lefts : Lefts) → lefts.first ≡ None → lefts.second ≡ None → LeavesEndings given seen c s t r lefts
-check_leaves given seen c s t a r tells check is same lefts at_first at_second =
+check_leaves given seen c s t a r tells check is same =
     let shown = shown_is a is r same in
-    let none : lefts ≡ one None = ap₂ (λ (a b : Option Left). let l : Lefts = record { first = a; second = b } in l) at_first at_second in
-    subst (LeavesEndings given seen c s t r) (sym none) (none_left given seen c t (entries_in a) r shown.class s (λ start own shows. by shown.other (point_of start s t) (settled_state start s) shows.fits))
+    no_check_leaves given seen c s t (entries_in a) r tells check shown.class shown.other
+
+-- Logs that are played.
+
+-- such an answer is no fault
+pub played_replies : (a : HostAnswer) → IsPlayedAnswer a → IsFault (answer_of a) → ⊥
+played_replies (given.MediaFault at) played fault = played
+played_replies a played fault = fault
+
+-- the tree that a log's entries make is theirs alone
+pub played_told : (m : ℕ) (es : List Entry) → rise_behind None es ≡ true → IsAnswerTold (told.Played m) es (reply.Played m (replay es))
+played_told m es rises = record {
+  told = refl;
+  lines = replayed_values es (in_order es rises);
+  alone = λ files c other fits same listed. by files c other fits same listed;
+}
   where
-    by : ((m : ℕ) (counts : Checked) → r ≡ reply.Checks m counts → ⊥) → (at : Point) (s : State)
-        → QuestionFits (entries_in a) r (told_at (asker_of seen c) at) s → ⊥
-    by other at (past.Bad origin damage gate) fits = fits
-    by other at (past.Sound p history pending) fits =
-        not_asked (take (entries_in a) (past.with_pending history pending)) fits.cmd r
-        (λ no. check (subst IsNoCheck (sym (same_Some (untold_of c) fits.cmd fits.told) ∙ tells.told) no)) other fits.fits
+    by : (files : List File) (c : Cmd) (other : Reply) → AskFits files c other → reply_told other ≡ told.Played m → listed_of other ≡ es → other ≡ reply.Played m (replay es)
+    by files c (reply.Played n tree) fits same listed =
+        let count : n ≡ m = cc in
+        let logplay = subst (λ (k : Cmd). AskFits files k (reply.Played n tree)) (ask_shape files [] c (reply.Played n tree) fits).0 fits in
+        let all : reply.Played (length files) (replay (entries_of files)) ≡ reply.Played n tree = same_Some _ _ logplay in
+        let made : replay (entries_of files) ≡ tree = cc in
+        ap₂ (λ (k : ℕ) (x : Tree). reply.Played k x) count (sym (values_replayed tree (subst IsKeyed made (keyed_replay (entries_of files)))) ∙ ap replay listed)
+    by files c other fits same listed = absurd cc
+
+-- the reply of such an answer
+pub played_is : (a : HostAnswer) (m : ℕ) (entries : Vec Entry Global) (r : Reply) → a ≡ given.Played m entries → answer_of a ≡ Replied r → reply.Played m (replay entries.items) ≡ r
+played_is a m entries r is same =
+    let e : Replied (reply.Played m (replay entries.items)) ≡ Replied r = sym (ap answer_of is) ∙ same in cc
+
+-- it leaves nothing of a check
+pub check_played : (image : GivenImage) (seen : SeenHost) (c : ToldCommand) (s : Settled) (t : Track) (a : HostAnswer) (r : Reply) → TellsCommand c → (IsNoCheck (bare_cmd c) → ⊥)
+    → IsPlayedAnswer a → answer_of a ≡ Replied r → (lefts : Lefts) → lefts.first ≡ None → lefts.second ≡ None → LeavesEndings image seen c s t r lefts
+check_played image seen c s t (given.Played m entries) r tells check is same lefts at_first at_second =
+    subst (λ (q : Reply). LeavesEndings image seen c s t q lefts) (played_is (given.Played m entries) m entries r refl same)
+    (no_check_leaves image seen c s t m (reply.Played m (replay entries.items)) tells check refl (λ k counts e. cc) lefts at_first at_second)
+check_played image seen c s t a r tells check is same lefts at_first at_second = absurd is

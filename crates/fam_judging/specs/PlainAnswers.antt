@@ -1,7 +1,8 @@
--- Answers but those to questions, and ones to questions that list nothing.
-use Rattle.std.specs.Prelude.{ℕ, ⊤}
+-- Answers but those to questions, ones to questions that list nothing, and listings of a tree.
+use Rattle.std.specs.Prelude.{ℕ, ⊤, ◌≡◌, None, true}
 use Rattle.fam_lines.specs.declared.answer.HostAnswer.{HostAnswer}
 use Rattle.fam_lines.specs.declared.answer.HostAnswer.TheVariants as given
+use Rattle.fam_lines.specs.Resolved.{rise_behind}
 
 -- an answer that appends, declines, reports or tells of damage
 abbrev pub IsPlainAnswer : HostAnswer → Type 0
@@ -59,3 +60,22 @@ entries_in (given.NoSuperblock fault) = 0
 entries_in (given.BadHeader fault) = 0
 entries_in (given.BadSlot seq why) = 0
 entries_in (given.MediaFault at) = 0
+
+-- an answer that lists a tree's entries, by rising paths
+abbrev pub IsPlayedAnswer : HostAnswer → Type 0
+IsPlayedAnswer (given.Appended seq) = ⊥
+IsPlayedAnswer (given.NotAppended why) = ⊥
+IsPlayedAnswer (given.Played m entries) = rise_behind None entries.items ≡ true
+IsPlayedAnswer (given.Mounted m) = ⊥
+IsPlayedAnswer (given.Same m) = ⊥
+IsPlayedAnswer (given.Differs m offset found wanted) = ⊥
+IsPlayedAnswer (given.Length m size wanted) = ⊥
+IsPlayedAnswer (given.Bytes m bytes) = ⊥
+IsPlayedAnswer (given.NotFound m) = ⊥
+IsPlayedAnswer (given.IsDirectory m) = ⊥
+IsPlayedAnswer (given.Checks m checked) = ⊥
+IsPlayedAnswer (given.Reports report) = ⊥
+IsPlayedAnswer (given.NoSuperblock fault) = ⊥
+IsPlayedAnswer (given.BadHeader fault) = ⊥
+IsPlayedAnswer (given.BadSlot seq why) = ⊥
+IsPlayedAnswer (given.MediaFault at) = ⊥

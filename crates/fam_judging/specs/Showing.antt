@@ -1,11 +1,13 @@
 -- What is needed of a command that is answered with something of the first m entries, and what is left behind it.
 use Rattle.std.specs.Prelude.{ℕ, ◌≡◌, ◌≤◌, List, length, take, Some, None}
+use Rattle.fam_base.specs.declared.cmd.Cmd.{Cmd}
 use Rattle.fam_base.specs.declared.entry.Entry.{Entry}
 use Rattle.fam_history.specs.declared.answer.ToldAnswer.{ToldAnswer}
 use Rattle.fam_history.specs.declared.command.ToldCommand.{ToldCommand}
 use Rattle.fam_history.specs.ToldAnswers.{reply_told}
 use Rattle.fam_journal.specs.Past.{shows}
-use Rattle.fam_judge.specs.Fitting.{QuestionFits}
+use Rattle.fam_judge.specs.Fitting.{AskFits, QuestionFits}
+use Rattle.fam_rules.specs.Asks.{File}
 use Rattle.fam_rules.specs.Reply.{Reply}
 use Rattle.fam_settled.specs.Settled.{SettledLog as Log, settled_and_pending, settled_log_state}
 use Rattle.fam_judging.specs.declared.candidate.Settled.TheVariants as settled
@@ -24,11 +26,11 @@ pub record ShowsAnswer (who : Asker) (at : Point) (m : ℕ) (given : Reply) : Ty
 abbrev pub shown_ending : ℕ → Point → EndingState
 shown_ending m at = record { state = shows m at.state; floor = at.floor; wrote = at.wrote }
 
--- no other reply tells the same
+-- no other reply that any command may be given tells the same
 pub record IsAnswerTold (answer : ToldAnswer) (listed : List Entry) (given : Reply) : Type 0 where
   pub told : reply_told given ≡ answer
   pub lines : listed_of given ≡ listed
-  pub alone : (other : Reply) → reply_told other ≡ answer → listed_of other ≡ listed → other ≡ given
+  pub alone : (files : List File) (cmd : Cmd) (other : Reply) → AskFits files cmd other → reply_told other ≡ answer → listed_of other ≡ listed → other ≡ given
 
 -- the first m entries of a log may be answered so: no fewer than were settled at the mark
 pub record ShowsTold (log : Log) (m : ℕ) (cmd : ToldCommand) (track : Track) (answer : ToldAnswer) (listed : List Entry) : Type 0 where

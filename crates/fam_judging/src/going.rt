@@ -23,6 +23,7 @@ use crate::elsewhere::is_elsewhere;
 use crate::given::GivenImage;
 use crate::hosts::Hosts;
 use crate::lead::step;
+use crate::tasks::appends;
 use fam_base::OutOfMemory;
 use fam_lines::Line;
 use std::alloc::Global;
@@ -116,6 +117,9 @@ fn lead_host(
         → OnOk result (WritesAmong start (note_of_line line.now) at (possible_of start hosts.now candidate.now)
         (IsFine start given.now (seen_after hosts.now.seen.items line.now)) (possible_after start hosts.now line.now) out.old.items out.new.items) }
 {
+    if !appends(hosts, at) {
+        return Ok(());
+    }
     let mut named = Vec::new(alloc);
     written(alloc, given, hosts, candidate, at, &mut named)?;
     lead_all_behind(alloc, given, lines, hosts, &named, at, line, out)

@@ -23,6 +23,7 @@ mod replies_plain;
 mod replies_put;
 mod replies_refused;
 mod replies_reported;
+mod replies_rising;
 mod replies_shown;
 mod replies_told;
 mod settled;

@@ -8,7 +8,7 @@ ghost use Rattle.fam_lines.specs.Lines.{note_of_line};
 ghost use Rattle.fam_judging.specs.After.{possible_after, seen_after};
 ghost use Rattle.fam_judging.specs.Candidates.{IsCandidate, possible_of};
 ghost use Rattle.fam_judging.specs.Going.{HasGiven};
-ghost use Rattle.fam_judging.specs.PlainAnswers.{IsPlainAnswer, IsShownAnswer};
+ghost use Rattle.fam_judging.specs.PlainAnswers.{IsPlainAnswer, IsPlayedAnswer, IsShownAnswer};
 ghost use Rattle.fam_judging.specs.Pushing.{IsFine, Pushes};
 ghost use Rattle.fam_judging.specs.Told.{AreToldCommands};
 
@@ -17,7 +17,7 @@ use crate::given::GivenImage;
 use crate::hosts::Hosts;
 use crate::replies_plain::plain_lefts;
 use crate::replies_put::put_all;
-use crate::replies_told::shown_lefts;
+use crate::replies_told::{played_lefts, shown_lefts};
 use crate::tasks::running;
 use fam_base::OutOfMemory;
 use fam_lines::HostAnswer;
@@ -75,5 +75,33 @@ pub(crate) fn shown_reply(
     let seen = &hosts.seen[at];
     let track = &candidate.tracks[at];
     let lefts = shown_lefts(alloc, given, seen, cmd, &candidate.settled, track, answer)?;
+    put_all(alloc, candidate, at, lefts, out)
+}
+
+/// Pushes the candidates that keep what is left of a host's command behind an answer that lists the entries of a
+/// log's tree.
+pub(crate) fn played_reply(
+    alloc: Global,
+    given: &GivenImage,
+    hosts: &Hosts,
+    candidate: &Candidate,
+    at: usize,
+    answer: &HostAnswer,
+    out: &mut Vec<Candidate>,
+) -> Result<(), OutOfMemory>
+    requires told { AreToldCommands hosts.now }
+    requires candidate { IsCandidate hosts.now candidate.now }
+    requires played { IsPlayedAnswer answer.now }
+    ensures { (start : Image) → HasGiven start given.now candidate.now.settled
+        → OnOk result (Pushes (StepsTo start (possible_of start hosts.now candidate.now) (note_of_line (line.Answered at answer.now)))
+        (IsFine start given.now (seen_after hosts.now.seen.items (line.Answered at answer.now)))
+        (possible_after start hosts.now (line.Answered at answer.now)) out.old.items out.new.items) }
+{
+    let Some(cmd) = running(hosts, at) else {
+        return Ok(());
+    };
+    let seen = &hosts.seen[at];
+    let track = &candidate.tracks[at];
+    let lefts = played_lefts(alloc, given, seen, cmd, &candidate.settled, track, answer)?;
     put_all(alloc, candidate, at, lefts, out)
 }

@@ -1,21 +1,24 @@
 //! Answers that show something of the first entries and list nothing, by what is told of them.
 
-ghost use Rattle.std.specs.Prelude.{◌≡◌, ◌↔◌, IfOk, IsTrue};
+ghost use Rattle.std.specs.Prelude.{◌≡◌, ◌↔◌, IfOk, IsTrue, None, true};
+ghost use Rattle.fam_format.specs.Tree.{replay};
 ghost use Rattle.fam_history.specs.ToldAnswers.{answer_told};
 ghost use Rattle.fam_journal.specs.Notes.{Replied};
 ghost use Rattle.fam_judge.specs.Untold.{untold_cmd};
 ghost use Rattle.fam_lines.specs.Lines.{answer_of};
+ghost use Rattle.fam_lines.specs.Resolved.{rise_behind};
+ghost use Rattle.fam_rules.specs.Reply as reply;
 ghost use Rattle.fam_rules.specs.Reply.{Reply};
 ghost use Rattle.fam_settled.specs.Told.{IsNoCheck, bare_cmd};
 ghost use Rattle.fam_judging.specs.Lefts.{LeavesEndings};
 ghost use Rattle.fam_judging.specs.NamedLefts.{TellsCommand};
-ghost use Rattle.fam_judging.specs.PlainAnswers.{IsShownAnswer, entries_in};
+ghost use Rattle.fam_judging.specs.PlainAnswers.{IsPlayedAnswer, IsShownAnswer, entries_in};
 
 use crate::candidate::{Settled, Track};
 use crate::given::GivenImage;
 use crate::lefts::{Lefts, none};
 use crate::replies_shown::shown;
-use fam_base::{Cmd, OutOfMemory, SharedBytes};
+use fam_base::{Cmd, Entry, OutOfMemory, SharedBytes};
 use fam_history::{ToldAnswer, ToldCommand};
 use fam_lines::{HostAnswer, SeenHost};
 use std::alloc::Global;
@@ -125,4 +128,57 @@ pub(crate) fn shown_lefts(
     let m = entries_in(answer);
     let told = told_in(alloc, answer)?;
     shown(alloc, given, seen, cmd, settled, track, m, &told, &[])
+}
+
+/// What is left of a command other than a check that is answered with the tree of these entries.
+fn played(
+    alloc: Global,
+    given: &GivenImage,
+    seen: &SeenHost,
+    cmd: &ToldCommand,
+    settled: &Settled,
+    track: &Track,
+    m: u64,
+    entries: &[Entry],
+) -> Result<Lefts, OutOfMemory>
+    requires told { TellsCommand cmd.now }
+    requires other { IsNoCheck (bare_cmd cmd.now) }
+    requires rises { rise_behind None entries.now ≡ true }
+    ensures { IfOk result (λ lefts. LeavesEndings given.now seen.now cmd.now settled.now track.now (reply.Played m (replay entries.now)) lefts) }
+{
+    let told = ToldAnswer::Played(m);
+    shown(alloc, given, seen, cmd, settled, track, m, &told, entries)
+}
+
+/// What an answer leaves that lists the entries of a log's tree.
+pub(crate) fn played_lefts(
+    alloc: Global,
+    given: &GivenImage,
+    seen: &SeenHost,
+    cmd: &ToldCommand,
+    settled: &Settled,
+    track: &Track,
+    answer: &HostAnswer,
+) -> Result<Lefts, OutOfMemory>
+    requires told { TellsCommand cmd.now }
+    requires played { IsPlayedAnswer answer.now }
+    ensures { IfOk result (λ lefts. (given_reply : Reply) → answer_of answer.now ≡ Replied given_reply
+        → LeavesEndings given.now seen.now cmd.now settled.now track.now given_reply lefts) }
+{
+    if !is_no_check(cmd) {
+        return Ok(none());
+    }
+    match answer {
+        HostAnswer::Played(m, entries) => played(
+            alloc,
+            given,
+            seen,
+            cmd,
+            settled,
+            track,
+            *m,
+            entries.as_slice(),
+        ),
+        _ => unreachable!(),
+    }
 }

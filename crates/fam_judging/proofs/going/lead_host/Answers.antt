@@ -1,4 +1,4 @@
-use Rattle.std.proofs.Common.{List, length, subst}
+use Rattle.std.proofs.Common.{List, length, sym, subst, ◌∙◌}
 use Rattle.fam_judge.specs.Possible.{Possible, Wrote}
 use Rattle.fam_lines.specs.Lines.{note_of_line}
 use Rattle.fam_judging.specs.declared.candidate.Candidate.{Candidate}
@@ -8,7 +8,14 @@ use Rattle.fam_judging.specs.Candidates.{possible_of}
 use Rattle.fam_judging.specs.Pushing.{IsFine, Pushes}
 use Rattle.fam_judging.proofs.Goings.{on_ok}
 use Rattle.fam_judging.proofs.Onward.{pushed_fine, pushed_sound, writes_among}
+use Rattle.fam_judging.proofs.Wanting.{writes_none}
 use Rattle.fam_judging.proofs.going.lead_host.Goals as goal
+
+pub returns-then-not-appends : goal.returns-then-not-appends
+returns-then-not-appends c start long has =
+    let hosts = c.args.hosts.now in
+    writes_none start (note_of_line c.args.line.now) c.args.at hosts c.args.candidate.now (IsFine start c.args.given.now (seen_after hosts.seen.items c.args.line.now))
+    (possible_after start hosts c.args.line.now) c.args.out.now.items (sym c.appends.ensures ∙ c.if-not-appends.true)
 
 pub returns : goal.returns
 returns c start long has =
