@@ -113,7 +113,8 @@ module _ (who : Asker) (at : Point) (e : EndingState) (m : ℕ) (r : Reply) (cla
   at_mark = record at { stage = Marked }
 
   left : (now : Point) → now ≡ record at { stage = Marked } → ending_at r now ≡ shown_ending m at
-  left now same = ap (ending_at r) same ∙ ap (λ (c : Rattle.fam_commands.specs.ReplyClasses.ReplyClass). let k : EndingState = record { state = replied_in c at.state; floor = at.floor; wrote = at.wrote } in k) class
+  left now same = ap (ending_at r) same ∙ ap
+      (λ (c : Rattle.fam_commands.specs.ReplyClasses.ReplyClass). let k : EndingState = record { state = replied_in c at.state; floor = at.floor; wrote = at.wrote } in k) class
 
   -- the first entries are shown behind the mark
   pub showing : MayEnd who at r e → ShowsAnswer who at m r × (e ≡ shown_ending m at)
@@ -151,14 +152,21 @@ question_told log m seen c t answer listed r by told = (
     floor_is = is.bounds.marked;
     low = is.bounds.low;
     high = is.bounds.high;
-    fits = record { given = r; told = by.told; lines = by.lines; fits = subst (λ (k : Cmd). AskFits (take m (settled_and_pending log)) k r) (sym (same_Some (untold_of c) is.cmd is.told) ∙ told) is.fits };
+    fits = record {
+      given = r;
+      told = by.told;
+      lines = by.lines;
+      fits = subst (λ (k : Cmd). AskFits (take m (settled_and_pending log)) k r)
+          (sym (same_Some (untold_of c) is.cmd is.told) ∙ told) is.fits;
+    };
   },
   λ is. record {
     bounds = record { floor = is.floor; marked = is.floor_is; low = is.low; high = is.high };
     cmd = untold_of c;
     told = refl;
     fits = subst (λ (k : Cmd). AskFits (take m (settled_and_pending log)) k r) (sym told)
-        (subst (λ (q : Reply). AskFits (take m (settled_and_pending log)) (bare_cmd c) q) (by.alone (take m (settled_and_pending log)) (bare_cmd c) is.fits.given is.fits.fits is.fits.told is.fits.lines) is.fits.fits);
+        (subst (λ (q : Reply). AskFits (take m (settled_and_pending log)) (bare_cmd c) q)
+        (by.alone (take m (settled_and_pending log)) (bare_cmd c) is.fits.given is.fits.fits is.fits.told is.fits.lines) is.fits.fits);
   },
 )
 
