@@ -2,12 +2,13 @@
 use Rattle.std.proofs.Common.{◌≡◌, true, refl}
 use Rattle.clap.specs.Faults.{is_simple_and_free}
 use Rattle.clap.proofs.OnLiterals.{clap_on_literals}
-use Rattle.fam_words.specs.Simple.{word_rule, option_rule, flag_rule, plain_app}
+use Rattle.fam_words.specs.Simple.{word_rule, optional_rule, option_rule, flag_rule, plain_app}
 use Rattle.fam_words.specs.Apps.{mkfs_app, logplay_app, mkdir_app, creat_app, cp_app, verify_app, read_app, check_app, fsck_app, script_app, storm_app}
 use Rattle.fam_words.specs.Calls.{app_named}
 use Rattle.fam_words.specs.declared.invocations.Name.{Name}
 use Rattle.fam_words.specs.declared.invocations.Name.TheVariants as name
 use Rattle.fam_words.specs.Dups.{dup_app}
+use Rattle.fam_words.specs.Judges.{judge_app}
 use Rattle.fam_words.specs.Mails.{mail_app}
 use Rattle.fam_words.specs.Shadows.{shadow_app}
 
@@ -66,6 +67,10 @@ dup_simple = refl
 pub mail_simple : is_simple_and_free mail_app ≡ true
 unfolding clap_on_literals mail_app word_rule option_rule flag_rule plain_app
 mail_simple = refl
+
+pub judge_simple : is_simple_and_free judge_app ≡ true
+unfolding clap_on_literals judge_app word_rule optional_rule option_rule flag_rule plain_app
+judge_simple = refl
 
 -- so it is of each command
 pub named_simple : (which : Name) → is_simple_and_free (app_named which) ≡ true

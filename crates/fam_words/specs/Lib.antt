@@ -8,4 +8,5 @@ pub mod Singles
 pub mod Shadows
 pub mod Dups
 pub mod Mails
+pub mod Judges
 pub mod Names

@@ -11,6 +11,10 @@ use Rattle.clap.specs.declared.builder.action.ArgAction.TheVariants.{Set, SetTru
 unfoldable pub word_rule : Text → Rule
 word_rule id = record (new_rule id) { required = true; action = Some Set }
 
+-- a word that may stand, as [IMAGE]
+unfoldable pub optional_rule : Text → Rule
+optional_rule id = record (new_rule id) { action = Some Set }
+
 -- an option with a value, `--id VALUE` or `-x VALUE`
 unfoldable pub option_rule : Text → Option ℕ → Bool → Rule
 option_rule id short required =

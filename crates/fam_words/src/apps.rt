@@ -5,6 +5,7 @@ ghost use Rattle.fam_words.specs.Arguments.{with_argument};
 ghost use Rattle.fam_words.specs.Calls.{app_named};
 ghost use Rattle.fam_words.specs.Simple.{plain_app};
 ghost use Rattle.fam_words.specs.Dups.{dup_app};
+ghost use Rattle.fam_words.specs.Judges.{judge_app};
 ghost use Rattle.fam_words.specs.Mails.{mail_app};
 ghost use Rattle.fam_words.specs.Shadows.{shadow_app};
 
@@ -122,6 +123,9 @@ const MAIL: [Argument; 3] = [
     Argument::Word("path"),
 ];
 
+/// The arguments of a history that is judged.
+const JUDGE: [Argument; 2] = [Argument::Word("history"), Argument::Optional("image")];
+
 /// The arguments of the command storm.
 const STORM: [Argument; 4] = [
     Argument::Word("seed"),
@@ -152,6 +156,14 @@ pub(crate) fn mail<'a>() -> (&'a str, &'a [Argument])
     ensures { fold with_argument (plain_app result.0.now) result.1.now ≡ mail_app }
 {
     ("mail", &MAIL)
+}
+
+/// A history that is judged: the program's name, and its arguments.
+#[tactic(auto, unfolding(crate::specs::Arguments::with_argument, crate::specs::Judges::judge_app))]
+pub(crate) fn judge<'a>() -> (&'a str, &'a [Argument])
+    ensures { fold with_argument (plain_app result.0.now) result.1.now ≡ judge_app }
+{
+    ("famfs-judge", &JUDGE)
 }
 
 /// The word that names a command, and its arguments.

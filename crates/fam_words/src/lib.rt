@@ -8,6 +8,7 @@
 mod apps;
 mod dups;
 mod invocations;
+mod judges;
 mod laws;
 mod mails;
 mod shadows;
@@ -18,7 +19,8 @@ mod wanted;
 
 pub use dups::read_dup_words;
 pub use invocations::read_words;
+pub use judges::read_judge_words;
 pub use laws::uuids_of_words_are_uuids;
 pub use mails::read_mail_words;
 pub use shadows::read_shadow_words;
-pub use wanted::{Call, DupCall, Invocation, MailCall, ShadowCall, Shot};
+pub use wanted::{Call, DupCall, Invocation, JudgeCall, MailCall, ShadowCall, Shot};

@@ -15,6 +15,8 @@ use std::alloc::Global;
 pub(crate) enum Argument {
     /// A word that must stand.
     Word(&'static str),
+    /// A word that may stand, behind those that must.
+    Optional(&'static str),
     /// An option that has a long name alone, and whether it must be given.
     Long(&'static str, bool),
     /// An option that has a letter too, and whether it must be given.
@@ -35,13 +37,14 @@ fn plain(alloc: Global, name: &str) -> Command<'_>
 }
 
 /// An argument, as clap has it.
-#[tactic(auto, unfolding(crate::specs::Simple::word_rule, crate::specs::Simple::option_rule, crate::specs::Simple::flag_rule))]
+#[tactic(auto, unfolding(crate::specs::Simple::word_rule, crate::specs::Simple::optional_rule, crate::specs::Simple::option_rule, crate::specs::Simple::flag_rule))]
 fn arg<'a>(alloc: Global, argument: Argument) -> Arg<'a>
     ensures rule { rule_of result ≡ rule_for argument }
     ensures alone { result.global ≡ false }
 {
     match argument {
         Argument::Word(id) => Arg::new(alloc, id).required(true).action(ArgAction::Set),
+        Argument::Optional(id) => Arg::new(alloc, id).action(ArgAction::Set),
         Argument::Long(id, needed) => Arg::new(alloc, id)
             .long(id)
             .required(needed)

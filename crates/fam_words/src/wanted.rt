@@ -55,6 +55,15 @@ pub struct MailCall {
     pub path: Path,
 }
 
+/// A history that is judged.
+#[derive(Drop)]
+pub struct JudgeCall {
+    /// The name of the history's file.
+    pub history: NameText,
+    /// The name of the image's file as it was before the first line, where one is given. It may be empty.
+    pub image: Option<NameText>,
+}
+
 /// What is to be done with the image.
 #[derive(Drop)]
 pub enum Invocation {
