@@ -4,6 +4,7 @@ pub mod Fills
 pub mod Sources
 pub mod Finding
 pub mod Replies
+pub mod BehindPaths
 pub mod ToldChecks
 pub mod Counts
 pub mod OwnEntries

@@ -1,14 +1,11 @@
 -- What is told of a check, and which answers fit it.
-use Rattle.std.proofs.Common.{◌≡◌, ◌↔◌, ◌+◌, ℕ, Bool, true, false, cond, List, [], ◌∷◌, length, replicate, Option, Some, None, refl, sym, ap, ap₂, subst, ◌∙◌, arith}
-use Rattle.std.specs.Prelude.{filter}
+use Rattle.std.proofs.Common.{◌≡◌, ◌↔◌, ℕ, Bool, true, false, List, [], length, replicate, Option, Some, None, refl, sym, ap, ap₂, subst, ◌∙◌, arith}
 use Rattle.std.specs.FinMap as finmap
-use Rattle.std.specs.Ordering.{is_lt}
 use Rattle.std.proofs.lemmas.Bool.Decides.{nat_tests}
 use Rattle.std.proofs.lemmas.List.{length-replicate}
 use Rattle.fam_base.specs.declared.cmd.Cmd.{Cmd}
 use Rattle.fam_base.specs.declared.cmd.Cmd.TheVariants.{Check}
 use Rattle.fam_base.specs.declared.entry.Entry.{Entry}
-use Rattle.fam_base.specs.PathOrder.{path_cmp}
 use Rattle.fam_format.specs.Tree.{Tree, replay}
 use Rattle.fam_history.specs.declared.answer.ToldAnswer.{ToldAnswer}
 use Rattle.fam_history.specs.declared.answer.ToldAnswer.TheVariants as told
@@ -19,11 +16,10 @@ use Rattle.fam_rules.specs.Asks.{File, entries_of}
 use Rattle.fam_rules.specs.Reply as reply
 use Rattle.fam_rules.specs.Reply.{Reply}
 use Rattle.fam_judge.specs.Counting.{CountsFit, FirstCounts, PathCounts, count_behind}
-use Rattle.fam_judge.specs.Fitting.{AskFits}
 use Rattle.fam_judge.specs.Untold.{untold_cmd, untold_entry}
 use Rattle.fam_judge.proofs.Counting.{replay_counts_fit, replay_fit_counts}
 use Rattle.fam_settled.specs.Checking.{CheckTold}
-use Rattle.fam_settled.specs.Told.{IsToldFit, listed_of}
+use Rattle.fam_settled.specs.Told.{IsToldFit}
 
 -- Counts as a history tells them: a first path just where some path differs.
 
@@ -87,15 +83,3 @@ check_told files m count c answer listed same is none =
       λ told. subst Q (sym is) (subst (IsToldFit files (Check (replicate count untold_entry)) answer) (sym none) (check_so files count answer (subst P same told))),
       λ fit. subst P (sym same) (check_in files count answer listed (subst Q is fit)),
     )
-
--- Paths behind a path.
-
--- those among paths
-behind : List ℕ → List (List ℕ) → List (List ℕ)
-behind path xs = filter (λ other. is_lt (path_cmp path other)) xs
-
--- one more
-pub behind_more : (path x : List ℕ) (xs : List (List ℕ)) (b : Bool) → is_lt (path_cmp path x) ≡ b → count_behind path (x ∷ xs) ≡ cond b 1 0 + count_behind path xs
-unfolding behind
-behind_more path x xs true is = ap (λ (t : Bool). length (cond t (x ∷ behind path xs) (behind path xs))) is
-behind_more path x xs false is = ap (λ (t : Bool). length (cond t (x ∷ behind path xs) (behind path xs))) is
