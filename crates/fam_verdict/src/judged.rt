@@ -1,0 +1,144 @@
+//! The states in which hosts may be behind some notes of a history, and how they go on by one more.
+
+ghost use Rattle.std.specs.Prelude.{◌≡◌, ◌*◌, ◌≤◌, ⊤, IfOk, List, [], length, true, false};
+ghost use Rattle.fam_base.specs.Image.{Image};
+ghost use Rattle.fam_format.specs.Layout.{device_limit};
+ghost use Rattle.fam_journal.specs.Past.{first_state};
+ghost use Rattle.fam_judging.specs.Candidates.{settled_state};
+ghost use Rattle.fam_judging.specs.declared.given.GivenImage.{GivenImage as AnyGiven};
+ghost use Rattle.fam_judging.specs.Going.{HasGiven};
+ghost use Rattle.fam_judging.specs.Told.{AreToldCommands};
+ghost use Rattle.fam_records.specs.Histories.{record_seen};
+ghost use Rattle.fam_records.specs.Records.{Recorded};
+ghost use Rattle.fam_rules.specs.Place.{line_bytes};
+ghost use Rattle.fam_verdict.specs.Fills.{HasToldFillIn};
+ghost use Rattle.fam_verdict.specs.Judged.{GoesOn, IsJudged, IsKept, IsLineOf, IsReadAs, IsReady, IsReadyIf, Stops};
+ghost use Rattle.fam_verdict.specs.Known.{IsKnown};
+
+use crate::begins::may_begin;
+use crate::known::{pending_in, settled_in};
+use crate::verdict::Known;
+use fam_base::OutOfMemory;
+use fam_judging::{Candidate, GivenImage, Hosts, Settled, go_on};
+use fam_lines::{Line, resolve};
+use fam_records::Record;
+use std::alloc::Global;
+
+/// The hosts that are declared, and the states in which they may be.
+#[derive(Drop)]
+pub(crate) struct Judged {
+    pub hosts: Hosts,
+    pub candidates: Vec<Candidate>,
+}
+
+impl Judged {
+    /// Before the first note, where this is settled.
+    pub fn new(alloc: Global, settled: Settled) -> Result<Judged, OutOfMemory>
+        ensures kept { IfOk result (λ j. IsKept j) }
+        ensures judged { (start : Image) (given : AnyGiven) → HasGiven start given settled → settled_state start settled ≡ first_state start
+            → IfOk result (λ j. IsJudged start given [] j) }
+    {
+        let first = Candidate {
+            settled,
+            tracks: Vec::new(alloc),
+        };
+        let mut candidates = Vec::new(alloc);
+        if candidates.push(first).is_err() {
+            return Err(OutOfMemory);
+        }
+        let hosts = Hosts {
+            seen: Vec::new(alloc),
+            commands: Vec::new(alloc),
+        };
+        Ok(Judged { hosts, candidates })
+    }
+
+    /// Goes on by a line: says whether some state is left. Where none is, hosts and states stay as they were.
+    fn follow(
+        &mut self,
+        alloc: Global,
+        lines: u64,
+        given: &GivenImage,
+        line: &Line,
+    ) -> Result<bool, OutOfMemory>
+        requires few { line_bytes * lines ≤ device_limit }
+        requires kept { IsKept self.old }
+        requires ready { IsReady line.now }
+        ensures kept { IfOk result (λ goes. goes ≡ true → IsKept self.new) }
+        ensures goes { (start : Image) (records : List Recorded) (r : Recorded) → length start ≡ lines → IsJudged start given.now records self.old
+            → IsLineOf self.old.hosts.seen.items r line.now → IfOk result (λ goes. goes ≡ true → GoesOn start given.now records r self.new) }
+        ensures stops { (start : Image) (records : List Recorded) (r : Recorded) → length start ≡ lines → IsJudged start given.now records self.old
+            → IsLineOf self.old.hosts.seen.items r line.now → IfOk result (λ goes. goes ≡ false → Stops start records r) }
+        ensures stays { IfOk result (λ goes. goes ≡ false → self.new ≡ self.old) }
+    {
+        if !may_begin(lines, &self.hosts.seen, line) {
+            return Ok(false);
+        }
+        let next = go_on(alloc, given, lines, &self.hosts, &self.candidates, line)?;
+        if next.is_empty() {
+            return Ok(false);
+        }
+        self.hosts.follow(line)?;
+        self.candidates = next;
+        Ok(true)
+    }
+
+    /// So by what a note tells: no line where it tells no whole note.
+    fn follow_if(
+        &mut self,
+        alloc: Global,
+        lines: u64,
+        given: &GivenImage,
+        line: &Option<Line>,
+    ) -> Result<bool, OutOfMemory>
+        requires few { line_bytes * lines ≤ device_limit }
+        requires kept { IsKept self.old }
+        requires ready { IsReadyIf line.now }
+        ensures kept { IfOk result (λ goes. goes ≡ true → IsKept self.new) }
+        ensures goes { (start : Image) (records : List Recorded) (r : Recorded) → length start ≡ lines → IsJudged start given.now records self.old
+            → IsReadAs self.old.hosts.seen.items r line.now → IfOk result (λ goes. goes ≡ true → GoesOn start given.now records r self.new) }
+        ensures stops { (start : Image) (records : List Recorded) (r : Recorded) → length start ≡ lines → IsJudged start given.now records self.old
+            → IsReadAs self.old.hosts.seen.items r line.now → IfOk result (λ goes. goes ≡ false → Stops start records r) }
+        ensures stays { IfOk result (λ goes. goes ≡ false → self.new ≡ self.old) }
+    {
+        match line {
+            Some(line) => self.follow(alloc, lines, given, line),
+            None => Ok(false),
+        }
+    }
+
+    /// Goes on by a note as it was read: says whether some history that is told is still explained.
+    pub fn read(
+        &mut self,
+        alloc: Global,
+        lines: u64,
+        given: &GivenImage,
+        next: Record,
+    ) -> Result<bool, OutOfMemory>
+        requires few { line_bytes * lines ≤ device_limit }
+        requires kept { IsKept self.old }
+        requires filled { HasToldFillIn next.told.note }
+        ensures kept { IfOk result (λ goes. goes ≡ true → IsKept self.new) }
+        ensures goes { (start : Image) (records : List Recorded) → length start ≡ lines → IsJudged start given.now records self.old
+            → IfOk result (λ goes. goes ≡ true → GoesOn start given.now records (record_seen next) self.new) }
+        ensures stops { (start : Image) (records : List Recorded) → length start ≡ lines → IsJudged start given.now records self.old
+            → IfOk result (λ goes. goes ≡ false → Stops start records (record_seen next)) }
+    {
+        let line = resolve(&self.hosts.seen, next.told, next.entries, next.report);
+        self.follow_if(alloc, lines, given, &line)
+    }
+
+    /// What is known behind the last note.
+    pub fn known(&self, lines: u64) -> Known
+        requires kept { IsKept self.now }
+        ensures lines { result.lines ≡ lines }
+        ensures is { (start : Image) (given : AnyGiven) (records : List Recorded) → IsJudged start given records self.now → IsKnown start records result }
+    {
+        Known {
+            lines,
+            settled: settled_in(&self.candidates),
+            pending: pending_in(&self.candidates),
+            states: self.candidates.len() as u64,
+        }
+    }
+}
