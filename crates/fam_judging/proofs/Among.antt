@@ -1,10 +1,10 @@
 -- Loops over candidates and hosts put states among others.
-use Rattle.std.proofs.Common.{◌≡◌, ◌<◌, ◌⊎◌, inl, inr, ℕ, zero, suc, ◌+◌, List, [], ◌∷◌, ◌++◌, map, Some, refl, sym, ◌∙◌, subst, arith}
+use Rattle.std.proofs.Common.{◌≡◌, ◌<◌, ◌⊎◌, inl, inr, ℕ, ◌+◌, List, map, Some, refl, sym, ◌∙◌, subst, arith}
 use Rattle.std.specs.List.{slice_get}
 use Rattle.std.proofs.lemmas.Option.{same_Some}
 use Rattle.fam_base.specs.Image.{Image}
 use Rattle.fam_journal.specs.Notes.{Note}
-use Rattle.fam_judge.specs.Possible.{Elsewhere, MayLead, Possible, StepsTo, Wrote, written}
+use Rattle.fam_judge.specs.Possible.{Elsewhere, MayLead, Possible, Wrote, written}
 use Rattle.fam_judging.specs.declared.candidate.Candidate.{Candidate}
 use Rattle.fam_judging.specs.Among.{LeadsBehind, LeadsBehindAll, LedBehind, PutAmong, StepsAmong}
 use Rattle.fam_judging.proofs.Into.{below_stays, less_or_same, puts_puts}

@@ -1,6 +1,5 @@
 -- What is left of entries that are named and acknowledged.
 use Rattle.std.proofs.Common.{◌≡◌, ℕ, Some, None, refl, ap, ◌∙◌}
-use Rattle.std.specs.Prelude.{Option}
 use Rattle.fam_base.specs.declared.entry.Entry.{Entry}
 use Rattle.fam_history.specs.declared.command.ToldCommand.{ToldCommand}
 use Rattle.fam_journal.specs.Past.{State, acknowledges}

@@ -1,9 +1,9 @@
-use Rattle.std.proofs.Common.{◌≡◌, ◌++◌, ◌∷◌, [], List, length, sym, ap, subst, ◌∙◌, append_assoc, append-nil, arith}
+use Rattle.std.proofs.Common.{◌≡◌, ◌∷◌, [], List, length, sym, ap, subst, ◌∙◌, append_assoc, append-nil, arith}
 use Rattle.std.specs.Vec.Iter.{into_iter_items}
 use Rattle.fam_judging.specs.declared.candidate.Candidate.{Candidate}
 use Rattle.fam_judging.specs.After.{possible_in}
 use Rattle.fam_judging.specs.Below.{AddsAll}
-use Rattle.fam_judging.proofs.Adding.{all_first, all_next, nothing_left}
+use Rattle.fam_judging.proofs.Adding.{all_next, nothing_left}
 use Rattle.fam_judging.proofs.below.put_all_below.Goals as goal
 
 pub news-preserved : goal.news-preserved

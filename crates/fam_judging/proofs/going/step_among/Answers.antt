@@ -1,5 +1,5 @@
 use Rattle.std.proofs.Common.{List, subst}
-use Rattle.fam_judge.specs.Possible.{Possible, StepsTo}
+use Rattle.fam_judge.specs.Possible.{StepsTo}
 use Rattle.fam_lines.specs.declared.host.SeenHost.{SeenHost}
 use Rattle.fam_lines.specs.Lines.{note_of_line}
 use Rattle.fam_judging.specs.declared.candidate.Candidate.{Candidate}
