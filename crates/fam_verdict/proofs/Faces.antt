@@ -21,6 +21,7 @@ task_of : Bool → Option TaskShape
 task_of runs = if runs then Some (record { cmd = Fsck; stage = Begun }) else None
 
 runs_so : (runs : Bool) → is_some (task_of runs) ≡ runs
+unfolding task_of
 runs_so true = refl
 runs_so false = refl
 
@@ -29,6 +30,7 @@ pub shapes_of : List SeenHost → List HostShape
 shapes_of hosts = map (λ (s : SeenHost). record { name = s.name; uuid = s.uuid; task = task_of s.runs; keeps = s.keeps }) hosts
 
 pub faces_so : (hosts : List SeenHost) → faces (shapes_of hosts) ≡ faces_of hosts
+unfolding shapes_of
 faces_so [] = refl
 faces_so (s ∷ hosts) =
     ap₂ (λ (b : Bool) (fs : List Face). (let f : Face = record { name = s.name; uuid = s.uuid; runs = b; keeps = s.keeps } in f) ∷ fs) (runs_so s.runs) (faces_so hosts)

@@ -1,7 +1,8 @@
 -- What the judge knows, one record more.
 use Prim.Native.Nat.{zero, suc}
-use Rattle.std.proofs.Common.{◌≡◌, ◌<◌, ◌≤◌, ℕ, Bool, List, [], ◌∷◌, ◌++◌, Option, Some, None, length, map, refl, sym, ap, ap₂, ◌∙◌, subst, arith}
-use Rattle.std.specs.Prelude.{IsTrue, option_map, slice_get}
+use Rattle.std.proofs.Common.{◌≡◌, ◌<◌, ◌≤◌, ℕ, true, false, List, [], ◌∷◌, ◌++◌, Option, Some, None, length, map, refl, sym, ap, ap₂, ◌∙◌, subst, arith}
+use Rattle.std.specs.Prelude.{◌==◌, Result, Ok, Err, if◌then◌else◌, is_err, is_ok, option_map, slice_get}
+use Rattle.std.proofs.lemmas.Bool.Decides.{nat_tests}
 use Rattle.std.proofs.lemmas.Option.{same_Some, slice_get-map}
 use Rattle.fam_base.specs.Image.{Image}
 use Rattle.fam_history.specs.declared.command.ToldCommand.{ToldCommand}
@@ -52,7 +53,7 @@ seen_states : (start : Image) (given : GivenImage) (seen : List SeenHost) (cmds 
     → AllFine (IsFine start given seen) cs → (z : Possible) → IsOf (map (possible_in start seen cmds) cs) z → faces (shapes_in z) ≡ faces_of seen
 seen_states start given seen cmds cs are fine z is =
     let o = of_candidates (possible_in start seen cmds) cs z is in
-    ap (λ (y : Possible). faces (shapes_in y)) o.2.2.1 ∙ fine_faces start given seen cmds o.1 are (fine o.0 o.1 o.2.2.0)
+    ap (λ (y : Possible). faces (shapes_in y)) o.3 ∙ fine_faces start given seen cmds o.1 are (fine o.0 o.1 o.2)
 
 -- The first record.
 
@@ -147,3 +148,21 @@ kept_next lines j new l kept may begins same_seen same_cmds some = record {
     commands_fit : HostsFit new.hosts
     commands_fit = subst (λ (s : List SeenHost). AreCommanded s new.hosts.commands.items) (sym same_seen)
         (subst (λ (o : List (Option ToldCommand)). AreCommanded (seen_after j.hosts.seen.items l) o) (sym same_cmds) (commanded_after j.hosts.seen.items j.hosts.commands.items l kept.fit))
+
+-- Counts of candidates.
+
+some_count : (n : ℕ) → (suc n == 0) ≡ false
+some_count n = grind (arith, nat_tests)
+
+pub none_of : (cs : List Candidate) → (length cs == 0) ≡ true → cs ≡ []
+none_of [] e = refl
+none_of (c ∷ cs) e = let f = some_count (length cs) in absurd cc
+
+pub some_of : (cs : List Candidate) → (length cs == 0) ≡ false → 0 < length cs
+some_of [] e = absurd cc
+some_of (c ∷ cs) e = omega arith
+
+-- what a call that hasn't failed leaves
+pub not_failed : {T E A : Type 0} (r : Result T E) (x y : A) → is_err r ≡ false → (if is_ok r then x else y) ≡ x
+not_failed (Ok v) x y is = refl
+not_failed (Err e) x y is = absurd cc

@@ -25,7 +25,7 @@ pub record IsIllegalAt (start : Image) (records : List Recorded) (number : ℕ) 
 pub record IsLegalWith (start : Image) (text : List ℕ) (known : Known) : Type 0 where
   pub whole : (history_in text).bad ≡ None
   pub legal : IsLegal start (history_in text).records
-  pub known : IsKnown start (history_in text).records known
+  pub behind : IsKnown start (history_in text).records known
   pub lines : known.lines ≡ length (text_lines text)
 
 -- a line of this number is none of a note, from this column on, and what the notes before it tell is explained
