@@ -67,13 +67,14 @@ told_alone r is none = record {
 
 -- Checks.
 
--- where a first path is named just where some path differs, all of a check is told
+-- a first path that is named just where some path differs is told
 first_same : (b : Bool) (first : Option (List ℕ)) → is_some first ≡ not b → first_told b first ≡ first
 first_same true None names = refl
 first_same true (Some path) names = absurd cc
 first_same false None names = absurd cc
 first_same false (Some path) names = refl
 
+-- so all of such a check is
 pub named_told : (counts : Checked) → NamesFirst counts → checked_told counts ≡ counts
 named_told counts names = ap (λ (o : Option (List ℕ)). record counts { first = o }) (first_same (none_differs counts.missing counts.extra counts.changed) counts.first names)
 

@@ -153,10 +153,7 @@ fn follow_seen(seen: &mut Vec<SeenHost>, line: &Line) -> Result<(), OutOfMemory>
 }
 
 /// Their last commands.
-fn follow_commands(
-    commands: &mut Vec<Option<ToldCommand>>,
-    line: &Line,
-) -> Result<(), OutOfMemory>
+fn follow_commands(commands: &mut Vec<Option<ToldCommand>>, line: &Line) -> Result<(), OutOfMemory>
     ensures { OnOk result (commands.new.items ≡ commands_after commands.old.items line.now) }
 {
     match line {
