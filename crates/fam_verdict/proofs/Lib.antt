@@ -1,3 +1,4 @@
+pub mod Zeros
 pub mod Fills
 pub mod Commands
 pub mod Names

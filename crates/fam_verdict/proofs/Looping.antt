@@ -1,9 +1,12 @@
 -- How far a loop over notes has come.
 use Rattle.std.proofs.Common.{◌≡◌, ◌<◌, ◌++◌, ℕ, Bool, List, [], ◌∷◌, Option, Some, None, length, refl, sym, ap, ◌∙◌, subst, arith}
-use Rattle.std.specs.Prelude.{map, slice_get}
+use Rattle.std.specs.Prelude.{Ok, Err, map, slice_get}
 use Rattle.std.proofs.lemmas.List.{append_assoc, append-nil}
 use Rattle.fam_base.specs.Image.{Image}
-use Rattle.fam_records.specs.Histories.{History, with_record}
+use Rattle.fam_grammar.specs.declared.fault.LineFault.{LineFault}
+use Rattle.fam_grammar.specs.declared.fault.LineFault.TheVariants.{BadLine}
+use Rattle.fam_records.specs.declared.record.Record.{Record}
+use Rattle.fam_records.specs.Histories.{BeginsHistory, History, bad_history, no_history, record_seen, with_record}
 use Rattle.fam_records.specs.Records.{Recorded}
 use Rattle.fam_judging.specs.declared.candidate.Candidate.{Candidate}
 use Rattle.fam_judging.specs.declared.candidate.Settled.{Settled}
@@ -72,3 +75,14 @@ judged_legal start given records j kept judged = by j.candidates.items refl kept
     by (c ∷ cs) is some =
         judging_some start records j.hosts.seen.items _ judged.judging (possible_of start j.hosts c)
         (0, ap (λ (l : List Candidate). slice_get (map (possible_of start j.hosts) l) 0) is)
+
+-- What was read.
+
+pub begins_some : (a b : History) (o : Option Record) (next : Record) → o ≡ Some next → BeginsHistory a b (Ok o) → a ≡ with_record (record_seen next) b
+begins_some a b o next is begins = subst (λ (x : Option Record). BeginsHistory a b (Ok x)) is begins
+
+pub begins_none : (a b : History) (o : Option Record) → o ≡ None → BeginsHistory a b (Ok o) → a ≡ no_history
+begins_none a b o is begins = subst (λ (x : Option Record). BeginsHistory a b (Ok x)) is begins
+
+pub begins_bad : (a b : History) (fault : LineFault) (number column : ℕ) → fault ≡ BadLine number column → BeginsHistory a b (Err fault) → a ≡ bad_history number column
+begins_bad a b fault number column is begins = subst (λ (f : LineFault). BeginsHistory a b (Err f)) is begins
