@@ -1,0 +1,85 @@
+//! What the first line of an answer tells.
+
+ghost use Rattle.std.specs.Prelude.{◌≡◌, ◌↔◌, IfOk, IfSome, IsTrue};
+ghost use Rattle.fam_history.specs.ToldAnswers.{answer_told};
+ghost use Rattle.fam_judge.specs.Untold.{untold_cmd};
+ghost use Rattle.fam_lines.specs.Lines.{answer_of};
+ghost use Rattle.fam_settled.specs.Told.{IsNoCheck, bare_cmd};
+
+use fam_base::{Cmd, OutOfMemory, SharedBytes};
+use fam_history::{ToldAnswer, ToldCommand};
+use fam_lines::HostAnswer;
+use std::alloc::Global;
+
+/// The same bytes, beside the others.
+fn copy_bytes(alloc: Global, bytes: &SharedBytes) -> Result<SharedBytes, OutOfMemory>
+    ensures { IfOk result (λ copy. copy ≡ bytes.now) }
+{
+    let mut copy = Vec::new(alloc);
+    match copy.extend_from_slice(bytes.as_slice()) {
+        Ok(()) => SharedBytes::new(alloc, copy),
+        Err(_) => Err(OutOfMemory),
+    }
+}
+
+/// What is told of bytes that were read.
+fn told_bytes(alloc: Global, m: u64, bytes: &SharedBytes) -> Result<Option<ToldAnswer>, OutOfMemory>
+    ensures { IfOk result (λ found. IfSome found (λ told. told ≡ Rattle.fam_history.specs.declared.answer.ToldAnswer.TheVariants.Bytes m bytes.now)) }
+{
+    let bytes = copy_bytes(alloc, bytes)?;
+    Ok(Some(ToldAnswer::Bytes(m, bytes)))
+}
+
+/// What is told of an answer that shows something of a file.
+pub(crate) fn told_in(alloc: Global, answer: &HostAnswer) -> Result<Option<ToldAnswer>, OutOfMemory>
+    ensures { IfOk result (λ found. IfSome found (λ told. told ≡ answer_told (answer_of answer.now))) }
+{
+    match answer {
+        HostAnswer::Same(m) => Ok(Some(ToldAnswer::Same(*m))),
+        HostAnswer::Differs {
+            entries,
+            offset,
+            found,
+            wanted,
+        } => Ok(Some(ToldAnswer::Differs {
+            entries: *entries,
+            offset: *offset,
+            found: *found,
+            wanted: *wanted,
+        })),
+        HostAnswer::Length {
+            entries,
+            size,
+            wanted,
+        } => Ok(Some(ToldAnswer::Length {
+            entries: *entries,
+            size: *size,
+            wanted: *wanted,
+        })),
+        HostAnswer::Bytes(m, bytes) => told_bytes(alloc, *m, bytes),
+        HostAnswer::NotFound(m) => Ok(Some(ToldAnswer::NotFound(*m))),
+        HostAnswer::IsDirectory(m) => Ok(Some(ToldAnswer::IsDirectory(*m))),
+        _ => Ok(None),
+    }
+}
+
+/// Whether a command isn't a check.
+fn is_other(cmd: &Cmd) -> bool
+    ensures { IsTrue result ↔ IsNoCheck (untold_cmd cmd.now) }
+{
+    match cmd {
+        Cmd::Check { .. } => false,
+        _ => true,
+    }
+}
+
+/// So it is of one that is told.
+pub(crate) fn is_no_check(cmd: &ToldCommand) -> bool
+    ensures { IsTrue result ↔ IsNoCheck (bare_cmd cmd.now) }
+{
+    match cmd {
+        ToldCommand::Plain(cmd) => is_other(cmd),
+        ToldCommand::Check { .. } => false,
+        _ => true,
+    }
+}
