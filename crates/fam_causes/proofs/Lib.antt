@@ -1,1 +1,2 @@
-pub mod Bounds
+pub mod Loops
+pub mod Firsts

@@ -3,6 +3,7 @@
 ghost use Rattle.std.specs.Prelude.{◌≡◌, ◌≢◌, ◌↔◌, ◌<◌, ℕ, IfSome, IsTrue, Some, length, slice_get};
 ghost use Rattle.fam_journal.specs.Past as past;
 ghost use Rattle.fam_judging.specs.declared.candidate.Candidate.{Candidate as AnyCandidate};
+ghost use Rattle.fam_judging.specs.Candidates.{past_damage};
 ghost use Rattle.fam_judging.specs.ReplyKinds.{damage_in};
 ghost use Rattle.fam_causes.specs.Differing.{damage_of, told_of_damage};
 
@@ -84,7 +85,7 @@ pub(crate) fn is_other_damage(
 
 /// What is told of the damage of an image.
 fn told_damage(damage: Damage) -> Option<ToldAnswer>
-    ensures { result ≡ told_of_damage (Some (Rattle.fam_judging.specs.Candidates.past_damage damage)) }
+    ensures { result ≡ told_of_damage (Some (past_damage damage)) }
 {
     match damage {
         Damage::FewLines(_) => None,

@@ -1,6 +1,6 @@
 //! What a question may be answered in place of an answer that doesn't fit.
 
-ghost use Rattle.std.specs.Prelude.{◌≡◌, ◌≤◌, ℕ, Bool, IfOk, IfSome, List, Some, [], length, take};
+ghost use Rattle.std.specs.Prelude.{◌≡◌, ◌≤◌, ℕ, Bool, IfOk, IfSome, IsTrue, List, Some, [], length, take};
 ghost use Rattle.fam_history.specs.declared.answer.ToldAnswer.{ToldAnswer};
 ghost use Rattle.fam_history.specs.ToldAnswers.{answer_told};
 ghost use Rattle.fam_lines.specs.declared.line.Line.TheVariants as line;

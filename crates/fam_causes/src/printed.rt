@@ -1,22 +1,23 @@
 //! The text of a cause. `specs/CauseTexts.antt` has its form.
 
-ghost use Rattle.std.specs.Prelude.{◌≡◌, IfOk};
+ghost use Rattle.std.specs.Prelude.{◌≡◌, ◌++◌, IfOk, codes, string_bytes};
 ghost use Rattle.fam_history.specs.declared.answer.ToldAnswer.TheVariants as told;
 ghost use Rattle.fam_history.specs.ToldAnswers.{told_answer_text};
 ghost use Rattle.fam_notes.specs.Notes.{answer_view};
 ghost use Rattle.fam_outcomes.specs.Texts as text;
+ghost use Rattle.fam_script.specs.Reports.{checked_prefix};
 ghost use Rattle.fam_causes.specs.declared.kinds.Cause.TheVariants as cause;
 ghost use Rattle.fam_causes.specs.CauseTexts.{cause_lines, entry_or_end, wanted_line};
 
 use crate::kinds::Cause;
-use fam_base::{Boxed, ByteText, Entry, LineNo, OutOfMemory, SharedBytes, put_bytes};
+use fam_base::{ByteText, Entry, LineNo, OutOfMemory, SharedBytes, put_bytes};
 use fam_format::{LogFault, SuperFault};
 use fam_history::ToldAnswer;
 use fam_rules::{Checked, Refused};
-use fam_script::{answer_text, line, line_of, line_with};
+use fam_script::{answer_text, line, line_of, line_with, line_with_last_name};
 use fam_tasks::Answer;
 use fam_tree::print_entry;
-use std::alloc::Global;
+use std::alloc::{AllocError, Global};
 
 /// The text of an answer.
 fn printed(alloc: Global, answer: Answer) -> Result<Vec<u8>, OutOfMemory>
@@ -96,12 +97,27 @@ fn bytes_line(alloc: Global, m: u64, given: &SharedBytes) -> Result<Vec<u8>, Out
     printed(alloc, Answer::Bytes { m, bytes })
 }
 
+/// How a tree differs, in front of the first path.
+fn counts_text(alloc: Global, m: u64, checked: &Checked) -> Result<String, AllocError>
+    ensures { IfOk result (λ s. string_bytes s ≡ checked_prefix m checked.now) }
+{
+    let missing = checked.missing;
+    let extra = checked.extra;
+    let changed = checked.changed;
+    format!(in alloc; "checked {m} missing {missing} extra {extra} changed {changed} first")
+}
+
 /// The line of how a tree differs.
 fn checked_line(alloc: Global, m: u64, checked: &Checked) -> Result<Vec<u8>, OutOfMemory>
     ensures { IfOk result (λ bytes. bytes.items ≡ text.line (told_answer_text (told.Checked m checked.now))) }
 {
-    let checked = Boxed::new(alloc, *checked)?;
-    printed(alloc, Answer::Checked { m, checked })
+    let Ok(prefix) = counts_text(alloc, m, checked) else {
+        return Err(OutOfMemory);
+    };
+    match &checked.first {
+        None => line_with(alloc, prefix.as_str(), b" -"),
+        Some(path) => line_with_last_name(alloc, prefix.as_str(), path.bytes()),
+    }
 }
 
 /// The first line of a report.
@@ -210,6 +226,29 @@ fn other_lines(alloc: Global, wanted: &Option<ToldAnswer>) -> Result<Vec<u8>, Ou
     Ok(bytes)
 }
 
+/// Too few entries are shown.
+fn few_text(alloc: Global, shown: u64, floor: u64, mark: u64) -> Result<String, AllocError>
+    ensures { IfOk result (λ s. string_bytes s
+        ≡ codes "shown" ++ text.number shown ++ codes " of at least" ++ text.number floor ++ codes " settled at line" ++ text.number mark) }
+{
+    format!(in alloc; "shown {shown} of at least {floor} settled at line {mark}")
+}
+
+/// Too many are shown.
+fn many_text(alloc: Global, shown: u64, most: u64) -> Result<String, AllocError>
+    ensures { IfOk result (λ s. string_bytes s ≡ codes "shown" ++ text.number shown ++ codes " of at most" ++ text.number most) }
+{
+    format!(in alloc; "shown {shown} of at most {most}")
+}
+
+/// Another count is found.
+fn found_text(alloc: Global, found: u64, first: u64, second: u64) -> Result<String, AllocError>
+    ensures { IfOk result (λ s. string_bytes s
+        ≡ codes "found" ++ text.number found ++ codes " of" ++ text.number first ++ codes " or" ++ text.number second) }
+{
+    format!(in alloc; "found {found} of {first} or {second}")
+}
+
 /// The text of a cause, with its line feed and the lines behind it.
 pub fn cause_text(alloc: Global, cause: &Cause) -> Result<Vec<u8>, OutOfMemory>
     ensures { IfOk result (λ text. text.items ≡ cause_lines cause.now) }
@@ -220,13 +259,10 @@ pub fn cause_text(alloc: Global, cause: &Cause) -> Result<Vec<u8>, OutOfMemory>
         Cause::StillRunning(name) => line_with(alloc, "still running ", name.bytes()),
         Cause::NotRunning => line(alloc, "not running"),
         Cause::NoAnswer => line(alloc, "no answer of this command"),
-        Cause::ShownFew { shown, floor, mark } => line_of(
-            alloc,
-            format!(in alloc; "shown {shown} of at least {floor} settled at line {mark}"),
-        ),
-        Cause::ShownMany { shown, most } => {
-            line_of(alloc, format!(in alloc; "shown {shown} of at most {most}"))
+        Cause::ShownFew { shown, floor, mark } => {
+            line_of(alloc, few_text(alloc, *shown, *floor, *mark))
         }
+        Cause::ShownMany { shown, most } => line_of(alloc, many_text(alloc, *shown, *most)),
         Cause::OtherTree { found, wanted } => tree_lines(alloc, found, wanted),
         Cause::OtherAnswer(wanted) => other_lines(alloc, wanted),
         Cause::NotAcknowledged(seq) => line_of(alloc, format!(in alloc; "not acknowledged {seq}")),
@@ -235,7 +271,7 @@ pub fn cause_text(alloc: Global, cause: &Cause) -> Result<Vec<u8>, OutOfMemory>
             found,
             first,
             second,
-        } => line_of(alloc, format!(in alloc; "found {found} of {first} or {second}")),
+        } => line_of(alloc, found_text(alloc, *found, *first, *second)),
         Cause::OtherDamage => line(alloc, "other damage"),
     }
 }

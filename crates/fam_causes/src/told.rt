@@ -1,6 +1,7 @@
 //! What the first line of an answer tells.
 
 ghost use Rattle.std.specs.Prelude.{◌≡◌, ◌↔◌, IfOk, IfSome, IsTrue};
+ghost use Rattle.fam_history.specs.declared.answer.ToldAnswer.TheVariants as told;
 ghost use Rattle.fam_history.specs.ToldAnswers.{answer_told};
 ghost use Rattle.fam_judge.specs.Untold.{untold_cmd};
 ghost use Rattle.fam_lines.specs.Lines.{answer_of};
@@ -24,7 +25,7 @@ fn copy_bytes(alloc: Global, bytes: &SharedBytes) -> Result<SharedBytes, OutOfMe
 
 /// What is told of bytes that were read.
 fn told_bytes(alloc: Global, m: u64, bytes: &SharedBytes) -> Result<Option<ToldAnswer>, OutOfMemory>
-    ensures { IfOk result (λ found. IfSome found (λ told. told ≡ Rattle.fam_history.specs.declared.answer.ToldAnswer.TheVariants.Bytes m bytes.now)) }
+    ensures { IfOk result (λ found. IfSome found (λ it. it ≡ told.Bytes m bytes.now)) }
 {
     let bytes = copy_bytes(alloc, bytes)?;
     Ok(Some(ToldAnswer::Bytes(m, bytes)))

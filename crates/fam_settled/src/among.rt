@@ -52,7 +52,7 @@ impl Log {
     }
 
     /// What stands at a path, by the first `m` entries.
-    pub fn file_among(&self, m: u64, path: &Path) -> Option<Filed>
+    pub(crate) fn file_among(&self, m: u64, path: &Path) -> Option<Filed>
         requires { m ≤ length (settled_and_pending self.now) }
         ensures { filed result ≡ file_at (take m (settled_and_pending self.now)) path.now }
     {
@@ -81,7 +81,7 @@ impl Log {
     }
 
     /// A plan of the first `m` entries.
-    pub fn first(&self, alloc: Global, m: u64) -> Result<Plan, OutOfMemory>
+    pub(crate) fn first(&self, alloc: Global, m: u64) -> Result<Plan, OutOfMemory>
         requires { m ≤ length (settled_and_pending self.now) }
         ensures params { IfOk result (λ plan. plan.params ≡ self.now.params) }
         ensures entries { IfOk result (λ plan. plan.entries ≡ entries_of (take m (settled_and_pending self.now))) }

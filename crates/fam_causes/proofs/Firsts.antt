@@ -2,8 +2,8 @@
 use Rattle.std.proofs.Common.{◌≡◌, ◌+◌, ◌<◌, ◌≤◌, ℕ, min, max, List, length, Option, Some, None, refl, sym, ap, subst, ◌∙◌, inl, inr, arith}
 use Rattle.std.specs.Prelude.{⊤, slice_get}
 use Rattle.std.proofs.lemmas.Bool.{cases_lt}
-use Rattle.std.proofs.lemmas.Option.{same_Some}
 use Rattle.fam_judging.specs.declared.candidate.Candidate.{Candidate}
+use Rattle.fam_causes.proofs.Loops.{first_more}
 use Rattle.fam_causes.specs.Bounds.{IsFrom, IsLeastFloor, IsMost, IsUpTo, LeastOfFirst, MayShow, MostOfFirst, NoneShows, floor_at, greater, lesser, most_in}
 
 -- a lesser number is no greater either
@@ -14,19 +14,6 @@ from_less a b (Some n) le h = omega (arith, le, h)
 up_to_more : (a b : ℕ) (o : Option ℕ) → a ≤ b → IsUpTo a o → IsUpTo b o
 up_to_more a b None le h = h
 up_to_more a b (Some n) le h = omega (arith, le, h)
-
--- a fact of the first i candidates and of the next one is one of the first i + 1
-pub first_more : (P : Candidate → Type 0) (cs : List Candidate) (i : ℕ) (d : Candidate) → slice_get cs i ≡ Some d → P d
-    → ((k : ℕ) (c : Candidate) → k < i → slice_get cs k ≡ Some c → P c)
-    → (k : ℕ) (c : Candidate) → k < i + 1 → slice_get cs k ≡ Some c → P c
-first_more P cs i d is here before k c below at =
-    elim (cases_lt k i) [
-      | inl less ↦ before k c less at
-      | inr from ↦
-          let same : k ≡ i = omega (arith, below, from) in
-          let one : slice_get cs i ≡ Some c = ap (slice_get cs) (sym same) ∙ at in
-          subst P (same_Some d c (sym is ∙ one)) here
-    ]
 
 -- the least floor with one candidate more
 pub least_more : (h : ℕ) (cs : List Candidate) (i : ℕ) (d : Candidate) (floor : ℕ) (least : Option ℕ) → slice_get cs i ≡ Some d → floor_at h d ≡ Some floor
