@@ -72,22 +72,23 @@ played files (cmd.Read path offset count) m tree fits =
 played files (cmd.Check listing) m tree fits = let e = fits.1 in absurd cc
 played files cmd.Fsck m tree fits = absurd fits
 
-checks : (files : List File) (c : Cmd) (m : ℕ) (counts : Checked) → AskFits files c (reply.Checks m counts) → NamesFirst counts
-checks files cmd.Logplay m counts fits = absurd cc
-checks files cmd.Mount m counts fits = absurd cc
-checks files (cmd.Mkdir path attr) m counts fits = absurd fits
-checks files (cmd.Creat path size attr stripe fill) m counts fits = absurd fits
-checks files (cmd.Cp path attr stripe bytes) m counts fits = absurd fits
-checks files (cmd.Verify path against) m counts fits =
+-- of a check that fits a first path is named just where some path differs
+pub counts_named : (files : List File) (c : Cmd) (m : ℕ) (counts : Checked) → AskFits files c (reply.Checks m counts) → NamesFirst counts
+counts_named files cmd.Logplay m counts fits = absurd cc
+counts_named files cmd.Mount m counts fits = absurd cc
+counts_named files (cmd.Mkdir path attr) m counts fits = absurd fits
+counts_named files (cmd.Creat path size attr stripe fill) m counts fits = absurd fits
+counts_named files (cmd.Cp path attr stripe bytes) m counts fits = absurd fits
+counts_named files (cmd.Verify path against) m counts fits =
     by_file (length files) (file_at files path) (reply.Checks m counts) _ (NamesFirst counts) (λ e. absurd cc) (λ e. absurd cc) (λ bytes none. absurd none) fits
-checks files (cmd.Read path offset count) m counts fits =
+counts_named files (cmd.Read path offset count) m counts fits =
     by_file (length files) (file_at files path) (reply.Checks m counts) _ (NamesFirst counts) (λ e. absurd cc) (λ e. absurd cc) (λ bytes none. let e = none.1 in absurd cc) fits
-checks files (cmd.Check listing) m counts fits =
+counts_named files (cmd.Check listing) m counts fits =
     let e = fits.1 in
     let same : fits.0 ≡ counts = cc in
     let is : counts ≡ checked (replay (entries_of files)) fits.2.listing = sym same ∙ fits.2.is in
     subst NamesFirst (sym is) (checked_named (replay (entries_of files)) fits.2.listing)
-checks files cmd.Fsck m counts fits = absurd fits
+counts_named files cmd.Fsck m counts fits = absurd fits
 
 whole_question : (m : ℕ) (r : Reply) (host : HostPast) (state : State) (Q : Type 0) → ((files : List File) (c : Cmd) → AskFits files c r → Q) → QuestionFits m r host state → Q
 whole_question m r host (Sound p history pending) Q each fits = each _ fits.cmd fits.fits
@@ -96,7 +97,7 @@ whole_question m r host (Bad origin damage gate) Q each fits = absurd fits
 whole_answer : (a : Answer) (host : HostPast) (state : State) → AnswerFits a host state → IsEntireAnswer a
 whole_answer (note.MediaFault at) host state fits = tt
 whole_answer (note.Replied (reply.Played m tree)) host state fits = whole_question m (reply.Played m tree) host state (IsTreeOfEntries tree) (λ files c. played files c m tree) fits
-whole_answer (note.Replied (reply.Checks m counts)) host state fits = whole_question m (reply.Checks m counts) host state (NamesFirst counts) (λ files c. checks files c m counts) fits
+whole_answer (note.Replied (reply.Checks m counts)) host state fits = whole_question m (reply.Checks m counts) host state (NamesFirst counts) (λ files c. counts_named files c m counts) fits
 whole_answer (note.Replied r) host state fits = tt
 
 -- Notes.

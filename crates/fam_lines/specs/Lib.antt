@@ -3,3 +3,4 @@ pub mod Hosts
 pub mod Lines
 pub mod Named
 pub mod Resolved
+pub mod Rising

@@ -11,6 +11,7 @@ ghost use Rattle.fam_lines.specs.Hosts.{seen_names};
 ghost use Rattle.fam_lines.specs.Lines.{note_of_line};
 ghost use Rattle.fam_lines.specs.Named.{IsName, NamesHosts, NamesOtherSeen, NamesOthers};
 ghost use Rattle.fam_lines.specs.Resolved.{resolved};
+ghost use Rattle.fam_lines.specs.Rising.{ListsRising};
 
 use crate::host::{SeenHost, number_in};
 use crate::line::Line;
@@ -99,7 +100,7 @@ fn line_of(
 /// The line with numbers in place of names, and with what no text tells, behind hosts that are declared: by what its first
 /// line tells, and by the entries or the report that follow it. None comes where no note can be it (`only`): its host or another
 /// one isn't declared, further lines are missing or are of no answer, entries are in no order, a report isn't as its first line
-/// says, or a first path is named though none differs.
+/// says, or a first path is named though none differs. So the entries of a listing come in order (`rises`).
 pub fn resolve(
     hosts: &[SeenHost],
     told: ToldLine,
@@ -110,6 +111,7 @@ pub fn resolve(
     ensures tells { IfSome result (λ line. IsNoteOf (seen_names hosts.now) told (further entries.items report) (note_of_line line)) }
     ensures whole { IfSome result (λ line. IsEntireNote hosts.now (note_of_line line)) }
     ensures untold { IfSome result (λ line. untold_note (note_of_line line) ≡ note_of_line line) }
+    ensures rises { IfSome result ListsRising }
 
     // Any note that stands and fits is whole.
     ensures only { AreDistinctNames (seen_names hosts.now) → (note : Note) → IsEntireNote hosts.now note

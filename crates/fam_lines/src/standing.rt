@@ -88,10 +88,11 @@ fn may_umount(hosts: &[SeenHost], at: usize) -> bool
 }
 
 /// Whether a line that no running command gives may stand next, on a media of so many lines behind lines that tell so much of
-/// the hosts. Of a line that a running command gives it says `false`.
+/// the hosts (`is`). Of a line that a running command gives it says `false` (`own`).
 pub fn stands(lines: u64, hosts: &[SeenHost], line: &Line) -> bool
-    ensures { (shapes : List HostShape) → faces shapes ≡ faces_of hosts.now → is_own (note_of_line line.now) ≡ false
+    ensures is { (shapes : List HostShape) → faces shapes ≡ faces_of hosts.now → is_own (note_of_line line.now) ≡ false
         → IsTrue result ↔ MayStand lines shapes (note_of_line line.now) }
+    ensures own { is_own (note_of_line line.now) ≡ true → result ≡ false }
 {
     match line {
         Line::Host(name, uuid) => may_declare(hosts, name, uuid),

@@ -4,6 +4,8 @@ pub mod Fills
 pub mod Sources
 pub mod Finding
 pub mod Replies
+pub mod BehindPaths
+pub mod ToldChecks
 pub mod Counts
 pub mod OwnEntries
 pub mod Appends

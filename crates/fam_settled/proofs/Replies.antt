@@ -124,6 +124,12 @@ module _ (files : List File) where
       let t = reply_in c is.given other no_check is.fits in
       (subst (PlainTold (length files) files c) is.told t.0, sym is.lines ∙ t.1)
 
+  -- no lines follow the first one, but of a listing
+  pub fit_alone : (c : Cmd) (answer : ToldAnswer) (listed : List Entry) → (c ≡ Logplay → ⊥) → IsToldFit files c answer listed → listed ≡ []
+  fit_alone (Check listing) answer listed other is = sym is.lines ∙ ap listed_of is.fits.1
+  fit_alone Logplay answer listed other is = absurd (other refl)
+  fit_alone c answer listed other is = (plain_in c answer listed other tt is).1
+
 -- A listing, and what fits.
 pub listing_told : (files : List File) (m : ℕ) (c : Cmd) (answer : ToldAnswer) (listed : List Entry) → m ≡ length files → c ≡ Logplay
     → IsPlayed m files answer listed ↔ IsToldFit files c answer listed

@@ -3,4 +3,5 @@ pub mod Settled
 pub mod Logs
 pub mod Told
 pub mod Fits
+pub mod Checking
 pub mod Reported

@@ -51,8 +51,8 @@ impl Log {
         }
     }
 
-    /// What stands at a path, by the first `m` entries.
-    pub(crate) fn file_among(&self, m: u64, path: &Path) -> Option<Filed>
+    /// What stands at a path, by the first `m` entries, of which the pending one may be the last.
+    pub fn file_among(&self, m: u64, path: &Path) -> Option<Filed>
         requires { m ≤ length (settled_and_pending self.now) }
         ensures { filed result ≡ file_at (take m (settled_and_pending self.now)) path.now }
     {
@@ -80,8 +80,8 @@ impl Log {
         }
     }
 
-    /// A plan of the first `m` entries.
-    pub(crate) fn first(&self, alloc: Global, m: u64) -> Result<Plan, OutOfMemory>
+    /// A plan of the first `m` entries, of which the pending one may be the last.
+    pub fn first(&self, alloc: Global, m: u64) -> Result<Plan, OutOfMemory>
         requires { m ≤ length (settled_and_pending self.now) }
         ensures params { IfOk result (λ plan. plan.params ≡ self.now.params) }
         ensures entries { IfOk result (λ plan. plan.entries ≡ entries_of (take m (settled_and_pending self.now))) }

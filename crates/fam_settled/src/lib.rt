@@ -9,6 +9,7 @@ mod against;
 mod agree;
 mod among;
 mod bytes;
+mod checks;
 mod contents;
 mod laws;
 mod listed;

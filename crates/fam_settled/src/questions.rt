@@ -7,9 +7,10 @@ ghost use Rattle.fam_rules.specs.Asks.{file_at};
 ghost use Rattle.fam_judge.specs.Untold.{untold_cmd};
 ghost use Rattle.fam_settled.specs.Fits.{FileTold, IsPlayed, PlainTold, ReadTold, VerifiedTold, content_in};
 ghost use Rattle.fam_settled.specs.Settled.{settled_and_pending};
-ghost use Rattle.fam_settled.specs.Told.{IsNoCheck, IsToldFit, bare_cmd};
+ghost use Rattle.fam_settled.specs.Told.{IsToldFit, bare_cmd};
 
 use crate::against::Against;
+use crate::checks::listing_count;
 use crate::listed::lists;
 use crate::log::Log;
 use crate::verified::{against_of, read_fits, verified_fits};
@@ -150,7 +151,7 @@ impl Log {
     }
 
     /// Whether a question about the first `m` entries may be answered so: with this first line, and these entries in the lines
-    /// behind it. Of a check nothing is said. Only a listing takes memory.
+    /// behind it. Only a listing and a check take memory.
     pub fn question_fits(
         &self,
         alloc: Global,
@@ -160,7 +161,6 @@ impl Log {
         listed: &[Entry],
     ) -> Result<bool, OutOfMemory>
         requires few { m ≤ length (settled_and_pending self.now) }
-        requires no_check { IsNoCheck (bare_cmd asked.now) }
         ensures { IfOk result (λ b. IsTrue b ↔ IsToldFit (take m (settled_and_pending self.now)) (bare_cmd asked.now) answer.now listed.now) }
     {
         if is_logplay(asked) {
@@ -169,6 +169,9 @@ impl Log {
         if !listed.is_empty() {
             return Ok(false);
         }
-        Ok(self.told_fits(m, asked, answer))
+        match listing_count(asked) {
+            Some(count) => self.check_fits(alloc, m, count, answer),
+            None => Ok(self.told_fits(m, asked, answer)),
+        }
     }
 }

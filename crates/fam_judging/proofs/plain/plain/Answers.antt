@@ -20,7 +20,7 @@ returns-then-not-stands-clause-goes c start given long has =
     let x = possible_of start hosts old in
     let seen = faces_seen hosts.seen.items hosts.commands.items old.tracks.items c.requires.hosts c.requires.candidate ∙ ap (λ (s : List SeenHost). faces_of s) (sym c.deref.ensures.value) in
     plain_goes start x _ (note_of_line c.args.line.now) false c.requires.plain
-    (subst (λ (n : ℕ). IsTrue false ↔ MayStand n (shapes_in x) (note_of_line c.args.line.now)) (sym long) (c.if-not-stands.ensures (shapes_in x) seen c.requires.plain))
+    (subst (λ (n : ℕ). IsTrue false ↔ MayStand n (shapes_in x) (note_of_line c.args.line.now)) (sym long) (c.if-not-stands.ensures.is (shapes_in x) seen c.requires.plain))
     (λ h. absurd (true≢false (sym h)))
 
 pub settle-requires-clause-made : goal.settle-requires-clause-made
@@ -29,7 +29,7 @@ settle-requires-clause-made c =
     let old = c.args.candidate.now in
     let shapes = map shape_in (progress_list hosts.seen.items hosts.commands.items old.tracks.items) in
     let seen = faces_seen hosts.seen.items hosts.commands.items old.tracks.items c.requires.hosts c.requires.candidate ∙ ap (λ (s : List SeenHost). faces_of s) (sym c.deref.ensures.value) in
-    line_sound c.args.lines shapes c.args.line.now ((c.if-not-stands.ensures shapes seen c.requires.plain).0 refl) c.master_is.ensures c.requires.few
+    line_sound c.args.lines shapes c.args.line.now ((c.if-not-stands.ensures.is shapes seen c.requires.plain).0 refl) c.master_is.ensures c.requires.few
 
 pub returns-in_err-settle-clause-given : goal.returns-in_err-settle-clause-given
 returns-in_err-settle-clause-given c start given has = c.settle.ensures.given start given has
@@ -50,7 +50,7 @@ returns-clause-goes c start given long has =
     (c.in_ok-settle.ensures.settled start (past_in start x) refl)
     (c.in_ok-keep.ensures ∙ ap (λ (n : ℕ). tracks_after n old.tracks.items c.args.line.now) (c.settled_count-count.ensures start given has)) in
     plain_goes start x _ (note_of_line c.args.line.now) true c.requires.plain
-    (subst (λ (n : ℕ). IsTrue true ↔ MayStand n (shapes_in x) (note_of_line c.args.line.now)) (sym long) (c.if-not-stands.ensures (shapes_in x) seen c.requires.plain))
+    (subst (λ (n : ℕ). IsTrue true ↔ MayStand n (shapes_in x) (note_of_line c.args.line.now)) (sym long) (c.if-not-stands.ensures.is (shapes_in x) seen c.requires.plain))
     (λ h. next)
 
 pub returns-clause-candidate : goal.returns-clause-candidate
