@@ -1,10 +1,11 @@
 -- Floors and counts of the first candidates, one more at a time.
 use Rattle.std.proofs.Common.{◌≡◌, ◌+◌, ◌<◌, ◌≤◌, ℕ, min, max, List, length, Option, Some, None, refl, sym, ap, subst, ◌∙◌, inl, inr, arith}
+use Rattle.std.specs.Option.{IfSome}
 use Rattle.std.specs.Prelude.{⊤, slice_get}
 use Rattle.std.proofs.lemmas.Bool.{cases_lt}
 use Rattle.fam_judging.specs.declared.candidate.Candidate.{Candidate}
 use Rattle.fam_causes.proofs.Loops.{first_more}
-use Rattle.fam_causes.specs.Bounds.{IsFrom, IsLeastFloor, IsMost, IsUpTo, LeastOfFirst, MayShow, MostOfFirst, NoneShows, floor_at, greater, lesser, most_in}
+use Rattle.fam_causes.specs.Bounds.{IsFrom, IsLeastFloor, IsMost, IsUpTo, LeastOfFirst, MostOfFirst, floor_at, greater, lesser, most_in}
 
 -- a lesser number is no greater either
 from_less : (a b : ℕ) (o : Option ℕ) → a ≤ b → IsFrom b o → IsFrom a o
@@ -53,8 +54,9 @@ least_more h cs i d floor (Some m) is at before =
     ]
 
 -- the least floor of all
-pub least_all : (h : ℕ) (cs : List Candidate) (i n floor : ℕ) → i ≡ n → IsLeastFloor h cs i floor → IsLeastFloor h cs n floor
-least_all h cs i n floor same = subst (λ (j : ℕ). IsLeastFloor h cs j floor) same
+pub least_all : (h : ℕ) (cs : List Candidate) (i n : ℕ) (least : Option ℕ) → i ≡ n → LeastOfFirst h cs i least → IfSome least (IsLeastFloor h cs n)
+least_all h cs i n None same is = tt
+least_all h cs i n (Some floor) same is = subst (λ (j : ℕ). IsLeastFloor h cs j floor) same is
 
 -- the most entries with one candidate more
 pub most_more : (cs : List Candidate) (i : ℕ) (d : Candidate) (most : Option ℕ) → slice_get cs i ≡ Some d
@@ -106,5 +108,6 @@ most_more cs i d most is before = by most (most_in d.settled) refl before
         ]
 
 -- the most entries of all
-pub most_all : (cs : List Candidate) (i n most : ℕ) → i ≡ n → IsMost cs i most → IsMost cs n most
-most_all cs i n most same = subst (λ (j : ℕ). IsMost cs j most) same
+pub most_all : (cs : List Candidate) (i n : ℕ) (most : Option ℕ) → i ≡ n → MostOfFirst cs i most → IfSome most (IsMost cs n)
+most_all cs i n None same is = tt
+most_all cs i n (Some most) same is = subst (λ (j : ℕ). IsMost cs j most) same is

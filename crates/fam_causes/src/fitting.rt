@@ -1,12 +1,12 @@
 //! What a question may be answered in place of an answer that doesn't fit.
 
-ghost use Rattle.std.specs.Prelude.{◌≡◌, ◌≤◌, ℕ, Bool, IfOk, IfSome, IsTrue, List, Some, [], length, take};
+ghost use Rattle.std.specs.Prelude.{◌≡◌, ◌↔◌, ◌≤◌, ℕ, Bool, IfOk, IfSome, IsTrue, List, Some, [], length, take};
 ghost use Rattle.fam_history.specs.declared.answer.ToldAnswer.{ToldAnswer};
 ghost use Rattle.fam_history.specs.ToldAnswers.{answer_told};
 ghost use Rattle.fam_lines.specs.declared.line.Line.TheVariants as line;
 ghost use Rattle.fam_lines.specs.Lines.{answer_of};
 ghost use Rattle.fam_settled.specs.Settled.{settled_and_pending};
-ghost use Rattle.fam_settled.specs.Told.{IsNoCheck, IsToldFit, bare_cmd};
+ghost use Rattle.fam_settled.specs.Told.{IsToldFit, bare_cmd};
 ghost use Rattle.fam_judging.specs.Going.{running};
 ghost use Rattle.fam_judging.specs.declared.given.GivenImage.{GivenImage};
 ghost use Rattle.fam_causes.specs.Asked.{asked};
@@ -16,7 +16,7 @@ ghost use Rattle.fam_causes.specs.Causes.{IsCause};
 use crate::answers::likely_answer;
 use crate::bounds::first_to_show;
 use crate::kinds::Cause;
-use crate::told::{is_no_check, told_in};
+use crate::told::told_in;
 use fam_base::OutOfMemory;
 use fam_history::{ToldAnswer, ToldCommand};
 use fam_judging::{Candidate, Hosts};
@@ -26,8 +26,7 @@ use std::alloc::Global;
 
 /// Whether the first `m` entries of a log may be answered so.
 fn fits(alloc: Global, log: &Log, m: u64, cmd: &ToldCommand, told: &ToldAnswer) -> Result<bool, OutOfMemory>
-    requires few { m ≤ length (settled_and_pending log.now) }
-    requires other { IsNoCheck (bare_cmd cmd.now) }
+    requires { m ≤ length (settled_and_pending log.now) }
     ensures { IfOk result (λ b. IsTrue b ↔ IsToldFit (take m (settled_and_pending log.now)) (bare_cmd cmd.now) told.now []) }
 {
     log.question_fits(alloc, m, cmd, told, &[])
@@ -35,8 +34,7 @@ fn fits(alloc: Global, log: &Log, m: u64, cmd: &ToldCommand, told: &ToldAnswer) 
 
 /// An answer that fits the question about the first `m` entries of a log.
 fn fitting(alloc: Global, log: &Log, m: u64, cmd: &ToldCommand) -> Result<Option<ToldAnswer>, OutOfMemory>
-    requires few { m ≤ length (settled_and_pending log.now) }
-    requires other { IsNoCheck (bare_cmd cmd.now) }
+    requires { m ≤ length (settled_and_pending log.now) }
     ensures { IfOk result (λ found. IfSome found (λ told. IsToldFit (take m (settled_and_pending log.now)) (bare_cmd cmd.now) told [])) }
 {
     let Some(told) = likely_answer(alloc, log, m, cmd)? else {
@@ -51,8 +49,7 @@ fn fitting(alloc: Global, log: &Log, m: u64, cmd: &ToldCommand) -> Result<Option
 
 /// Whether what is told of an answer is known, and doesn't fit.
 fn is_unfit(alloc: Global, log: &Log, m: u64, cmd: &ToldCommand, answer: &HostAnswer) -> Result<bool, OutOfMemory>
-    requires few { m ≤ length (settled_and_pending log.now) }
-    requires other { IsNoCheck (bare_cmd cmd.now) }
+    requires { m ≤ length (settled_and_pending log.now) }
     ensures { IfOk result (λ b. IsTrue b → IsToldFit (take m (settled_and_pending log.now)) (bare_cmd cmd.now) (answer_told (answer_of answer.now)) [] → ⊥) }
 {
     let Some(told) = told_in(alloc, answer)? else {
@@ -78,9 +75,6 @@ pub(crate) fn shown_cause(
         (IsCause (asked given hosts.now candidates.now.items marks name answers (Some (line.Answered at answer.now))))) }
 {
     let _ = hosts;
-    if !is_no_check(cmd) {
-        return Ok(None);
-    }
     let Some(log) = first_to_show(candidates, at, m) else {
         return Ok(None);
     };

@@ -1,14 +1,12 @@
 //! What the first line of an answer tells.
 
-ghost use Rattle.std.specs.Prelude.{◌≡◌, ◌↔◌, IfOk, IfSome, IsTrue};
+ghost use Rattle.std.specs.Prelude.{◌≡◌, IfOk, IfSome};
 ghost use Rattle.fam_history.specs.declared.answer.ToldAnswer.TheVariants as told;
 ghost use Rattle.fam_history.specs.ToldAnswers.{answer_told};
-ghost use Rattle.fam_judge.specs.Untold.{untold_cmd};
 ghost use Rattle.fam_lines.specs.Lines.{answer_of};
-ghost use Rattle.fam_settled.specs.Told.{IsNoCheck, bare_cmd};
 
-use fam_base::{Cmd, OutOfMemory, SharedBytes};
-use fam_history::{ToldAnswer, ToldCommand};
+use fam_base::{OutOfMemory, SharedBytes};
+use fam_history::ToldAnswer;
 use fam_lines::HostAnswer;
 use std::alloc::Global;
 
@@ -61,26 +59,5 @@ pub(crate) fn told_in(alloc: Global, answer: &HostAnswer) -> Result<Option<ToldA
         HostAnswer::NotFound(m) => Ok(Some(ToldAnswer::NotFound(*m))),
         HostAnswer::IsDirectory(m) => Ok(Some(ToldAnswer::IsDirectory(*m))),
         _ => Ok(None),
-    }
-}
-
-/// Whether a command isn't a check.
-fn is_other(cmd: &Cmd) -> bool
-    ensures { IsTrue result ↔ IsNoCheck (untold_cmd cmd.now) }
-{
-    match cmd {
-        Cmd::Check { .. } => false,
-        _ => true,
-    }
-}
-
-/// So it is of one that is told.
-pub(crate) fn is_no_check(cmd: &ToldCommand) -> bool
-    ensures { IsTrue result ↔ IsNoCheck (bare_cmd cmd.now) }
-{
-    match cmd {
-        ToldCommand::Plain(cmd) => is_other(cmd),
-        ToldCommand::Check { .. } => false,
-        _ => true,
     }
 }

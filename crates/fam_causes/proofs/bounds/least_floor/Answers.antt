@@ -1,4 +1,4 @@
-use Rattle.std.proofs.Common.{ℕ, length, refl, sym, ap, subst, ◌∙◌, arith}
+use Rattle.std.proofs.Common.{ℕ, ◌+◌, length, refl, sym, ap, subst, ◌∙◌, arith}
 use Rattle.std.specs.Option.{IfSome}
 use Rattle.std.proofs.lemmas.Option.{slice_get_read}
 use Rattle.fam_causes.specs.Bounds.{IsLeastFloor}
@@ -14,4 +14,5 @@ candidates-preserved c =
     (least_more c.args.at cs c.candidates.i d c.in_ok-floor.floor c.candidates.least is (sym c.floor_at.ensures ∙ c.in_ok-floor.was tt) c.candidates.invariant)
 
 pub returns : goal.returns
-returns c = least_all c.args.at c.args.candidates.now.items c.candidates.i _ c.candidates.least (omega (arith, c.candidates-test.false, c.candidates.auto.i-end, c.len-i-end.ensures)) c.candidates.invariant
+returns c = least_all c.args.at c.args.candidates.now.items c.candidates.i (length c.args.candidates.now.items) c.candidates.least
+    (omega (arith, c.candidates-test.false, c.candidates.auto.i-end, c.len-i-end.ensures)) c.candidates.invariant
