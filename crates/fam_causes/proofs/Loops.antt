@@ -1,6 +1,7 @@
 -- What loops over candidates keep.
-use Rattle.std.proofs.Common.{◌≡◌, ◌+◌, ◌<◌, ◌≤◌, ℕ, List, length, Option, Some, None, refl, sym, ap, subst, ◌∙◌, inl, inr, arith}
-use Rattle.std.specs.Prelude.{slice_get}
+use Rattle.std.proofs.Common.{◌≡◌, ◌+◌, ◌<◌, ◌≤◌, ℕ, List, [], ◌∷◌, length, Option, Some, None, refl, sym, ap, subst, ◌∙◌, inl, inr, arith}
+use Rattle.std.specs.Option.{IfSome, MatchOption}
+use Rattle.std.specs.Prelude.{◌==◌, false, get_or, is_some, slice_get}
 use Rattle.std.proofs.lemmas.Bool.{cases_lt}
 use Rattle.std.proofs.lemmas.Option.{same_Some}
 use Rattle.fam_judging.specs.declared.candidate.Candidate.{Candidate}
@@ -18,6 +19,27 @@ first_more P cs i d is here before k c below at =
           subst P (same_Some d c (sym is ∙ one)) here
     ]
 
--- of none at first
-pub first_none : (P : Candidate → Type 0) (cs : List Candidate) (k : ℕ) (c : Candidate) → k < 0 → slice_get cs k ≡ Some c → P c
-first_none P cs k c below at = absurd (omega (arith, below))
+-- the first member, where there is one
+pub first_read : {A : Type 0} (xs : List A) (d : A) → (length xs == 0) ≡ false → d ≡ get_or xs 0 d → slice_get xs 0 ≡ Some d
+first_read [] d none is = absurd cc
+first_read (x ∷ xs) d some is = ap Some (sym is)
+
+-- what is found, and what follows of it
+pub found_then : {X : Type 0} (r : Option X) {N : Type 0} {P Q : X → Type 0} → MatchOption r N P → ((x : X) → P x → Q x) → IfSome r Q
+found_then None is more = tt
+found_then (Some x) is more = more x is
+
+-- where nothing is found
+pub none_then : {X : Type 0} (r : Option X) {N : Type 0} {P : X → Type 0} → is_some r ≡ false → MatchOption r N P → N
+none_then None none is = is
+none_then (Some x) none is = absurd cc
+
+-- what follows of a value that is found
+pub some_is : {X : Type 0} (r : Option X) {Q : X → Type 0} → ((x : X) → r ≡ Some x → Q x) → IfSome r Q
+some_is None more = tt
+some_is (Some x) more = more x refl
+
+-- what is known of it, and what follows
+pub some_then : {X : Type 0} (r : Option X) {P Q : X → Type 0} → IfSome r P → ((x : X) → P x → Q x) → IfSome r Q
+some_then None is more = tt
+some_then (Some x) is more = more x is

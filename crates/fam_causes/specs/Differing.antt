@@ -92,17 +92,21 @@ abbrev pub wrote_in : Option Track → Option Wrote
 wrote_in None = None
 wrote_in (Some t) = t.wrote
 
--- in the first candidate nothing pends, host h's command has named nothing, and the entries decide so
+-- in a candidate nothing pends, host h's command has named nothing, and the entries decide so of it, where it is the host of this UUID
+pub record DecidesIn (me : List ℕ) (h : ℕ) (cmd : ToldCommand) (wanted : ToldAnswer) (one : Candidate) : Type 0 where
+  pub unnamed : wrote_in (slice_get one.tracks.items h) ≡ None
+  pub log : Log
+  pub settled_is : one.settled ≡ settled.Log log
+  pub none : log.pending ≡ None
+  pub decided : told_decision (length log.entries) (decide log.params me (entries_of (settled_files log)) (bare_cmd cmd)) ≡ Some wanted
+
+-- so it is in the first candidate
 pub record DecidesSo (seen : List SeenHost) (cs : List Candidate) (h : ℕ) (cmd : ToldCommand) (wanted : ToldAnswer) : Type 0 where
   pub host : SeenHost
   pub host_is : slice_get seen h ≡ Some host
   pub one : Candidate
   pub first : slice_get cs 0 ≡ Some one
-  pub unnamed : wrote_in (slice_get one.tracks.items h) ≡ None
-  pub log : Log
-  pub settled_is : one.settled ≡ settled.Log log
-  pub none : log.pending ≡ None
-  pub decided : told_decision (length log.entries) (decide log.params host.uuid (entries_of (settled_files log)) (bare_cmd cmd)) ≡ Some wanted
+  pub decides : DecidesIn host.uuid h cmd wanted one
 
 -- so they do, and the answer is another one
 pub record IsOtherDecided (x : Asked) (wanted : ToldAnswer) : Type 0 where

@@ -3,7 +3,7 @@
 ghost use Rattle.std.specs.Prelude.{◌≡◌, ◌≢◌, ◌<◌, IfSome, IsTrue, length, slice_get};
 ghost use Rattle.fam_history.specs.ToldAnswers.{answer_told};
 ghost use Rattle.fam_lines.specs.Lines.{answer_of};
-ghost use Rattle.fam_causes.specs.Differing.{DecidesSo, told_decision, wrote_in};
+ghost use Rattle.fam_causes.specs.Differing.{DecidesIn, DecidesSo, told_decision, wrote_in};
 
 use fam_base::Entry;
 use fam_history::{ToldAnswer, ToldCommand};
@@ -36,7 +36,9 @@ fn wrote_at(candidate: &Candidate, at: usize) -> Option<Wrote>
 }
 
 /// What a command is answered where a host found what is settled and nothing pends.
-fn decided_in(candidate: &Candidate, at: usize, cmd: &ToldCommand, me: Uuid) -> Option<ToldAnswer> {
+fn decided_in(candidate: &Candidate, at: usize, cmd: &ToldCommand, me: Uuid) -> Option<ToldAnswer>
+    ensures { IfSome result (λ wanted. DecidesIn me at cmd.now wanted candidate.now) }
+{
     if wrote_at(candidate, at).is_some() {
         return None;
     }

@@ -9,7 +9,7 @@ candidates-preserved c =
     let cs = c.args.candidates.now.items in
     let d = c.index.result.now in
     let is = slice_get_read cs (length cs) c.candidates.i d refl (omega (arith, c.candidates-test.true, c.len-i-end.ensures)) c.index.ensures in
-    subst (MostOfFirst cs (c.candidates.i + 1)) (sym (c.greater.ensures ∙ ap (greater c.candidates.most) c.most_in.ensures))
+    subst (MostOfFirst cs (c.candidates.i + 1)) (sym (c.greater-most.ensures ∙ ap (greater c.candidates.most) c.most_in.ensures))
     (most_more cs c.candidates.i d c.candidates.most is c.candidates.invariant)
 
 pub returns : goal.returns
