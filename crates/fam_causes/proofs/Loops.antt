@@ -25,14 +25,14 @@ first_read [] d none is = absurd cc
 first_read (x ∷ xs) d some is = ap Some (sym is)
 
 -- what is found, and what follows of it
-pub found_then : {X : Type 0} (r : Option X) {N : Type 0} {P Q : X → Type 0} → MatchOption r N P → ((x : X) → P x → Q x) → IfSome r Q
-found_then None is more = tt
-found_then (Some x) is more = more x is
+pub found_then : {X : Type 0} (r : Option X) (N : Type 0) {P Q : X → Type 0} → MatchOption r N P → ((x : X) → P x → Q x) → IfSome r Q
+found_then None N is more = tt
+found_then (Some x) N is more = more x is
 
 -- where nothing is found
-pub none_then : {X : Type 0} (r : Option X) {N : Type 0} {P : X → Type 0} → is_some r ≡ false → MatchOption r N P → N
-none_then None none is = is
-none_then (Some x) none is = absurd cc
+pub none_then : {X : Type 0} (r : Option X) {N : Type 0} (P : X → Type 0) → is_some r ≡ false → MatchOption r N P → N
+none_then None P none is = is
+none_then (Some x) P none is = absurd cc
 
 -- what follows of a value that is found
 pub some_is : {X : Type 0} (r : Option X) {Q : X → Type 0} → ((x : X) → r ≡ Some x → Q x) → IfSome r Q

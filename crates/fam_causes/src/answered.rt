@@ -121,6 +121,27 @@ pub(crate) fn other(found: Option<Cause>) -> Cause
     }
 }
 
+/// Why an answer of so many entries can't stand, by what it shows of them.
+fn content_cause(
+    alloc: Global,
+    hosts: &Hosts,
+    candidates: &Vec<Candidate>,
+    at: usize,
+    cmd: &ToldCommand,
+    answer: &HostAnswer,
+    m: u64,
+) -> Result<Option<Cause>, OutOfMemory>
+    requires runs { running hosts.now.seen.items hosts.now.commands.items at ≡ Some cmd.now }
+    requires count { shown_count answer.now ≡ Some m }
+    ensures { (given : GivenImage) (marks : List ℕ) (name : List ℕ) (answers : Bool) → IfOk result (λ found. IfSome found
+        (IsCause (asked given hosts.now candidates.now.items marks name answers (Some (line.Answered at answer.now))))) }
+{
+    match answer {
+        HostAnswer::Played(m, entries) => tree_cause(alloc, candidates, at, *m, entries),
+        _ => shown_cause(alloc, hosts, candidates, at, cmd, answer, m),
+    }
+}
+
 /// Why an answer of so many entries can't stand.
 fn showing_cause(
     alloc: Global,
@@ -141,10 +162,7 @@ fn showing_cause(
     if let Some(cause) = count_cause(given, candidates, marks, at, answer, m) {
         return Ok(cause);
     }
-    let found = match answer {
-        HostAnswer::Played(m, entries) => tree_cause(alloc, candidates, at, *m, entries)?,
-        _ => shown_cause(alloc, hosts, candidates, at, cmd, answer, m)?,
-    };
+    let found = content_cause(alloc, hosts, candidates, at, cmd, answer, m)?;
     Ok(other(found))
 }
 

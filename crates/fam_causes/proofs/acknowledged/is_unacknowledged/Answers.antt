@@ -13,6 +13,6 @@ candidates-preserved c =
     first_more (λ x. IsAcknowledgedIn c.args.seen.now c.args.cmd.now c.args.at c.args.seq x → ⊥) cs c.candidates.i d is (λ p. untrue (c.if-is_acknowledged_in.ensures.1 p)) c.candidates.invariant
 
 pub returns : goal.returns
-returns c yes k x below at =
+returns c holds k x below at =
     let less : k < c.candidates.i = omega (arith, below, c.candidates-test.false, c.len-i-end.ensures) in
     c.candidates.invariant k x less at

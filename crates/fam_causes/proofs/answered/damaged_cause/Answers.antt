@@ -4,7 +4,7 @@ use Rattle.fam_causes.proofs.answered.damaged_cause.Goals as goal
 
 pub returns-in-Some : goal.returns-in-Some
 returns-in-Some c hosts marks name answers =
-    let found = c.in-Some.ensures tt in
+    let found = c.in-Some.ensures in
     other_damaged (record {
       host = c.args.at;
       m = c.args.m;

@@ -9,7 +9,7 @@ returns-then-is_some c =
     let cs = c.args.candidates.now.items in
     let d = c.index.result.now in
     let is = slice_get_read cs (length cs) c.candidates.i d refl (omega (arith, c.candidates-test.true, c.len-i-end.ensures)) c.index.ensures in
-    found_then c.may_show-shows.result c.may_show-shows.ensures (λ log shows. record {
+    found_then c.may_show-shows.result _ c.may_show-shows.ensures (λ log shows. record {
       place = c.candidates.i;
       one = d;
       is = is;
@@ -23,5 +23,5 @@ candidates-preserved c =
     let cs = c.args.candidates.now.items in
     let d = c.index.result.now in
     let is = slice_get_read cs (length cs) c.candidates.i d refl (omega (arith, c.candidates-test.true, c.len-i-end.ensures)) c.index.ensures in
-    first_more (λ x. MayShow c.args.at c.args.m x → ⊥) cs c.candidates.i d is (none_then c.may_show-shows.result (sym (c.if-is_some.ensures tt)) c.may_show-shows.ensures)
+    first_more (λ x. MayShow c.args.at c.args.m x → ⊥) cs c.candidates.i d is (none_then c.may_show-shows.result _ (sym c.if-is_some.ensures) c.may_show-shows.ensures)
     c.candidates.invariant

@@ -11,7 +11,7 @@ candidates-preserved c =
     let d = c.index.result.now in
     let is = slice_get_read cs (length cs) c.candidates.i d refl (omega (arith, c.candidates-test.true, c.len-i-end.ensures)) c.index.ensures in
     subst (λ (n : ℕ). IsLeastFloor c.args.at cs (c.candidates.i + 1) n) (sym c.lesser.ensures)
-    (least_more c.args.at cs c.candidates.i d c.in_ok-floor.floor c.candidates.least is (sym c.floor_at.ensures ∙ (c.in_ok-floor.was tt)) c.candidates.invariant)
+    (least_more c.args.at cs c.candidates.i d c.in_ok-floor.floor c.candidates.least is (sym c.floor_at.ensures ∙ c.in_ok-floor.was) c.candidates.invariant)
 
 pub returns : goal.returns
 returns c = least_all c.args.at c.args.candidates.now.items c.candidates.i (length c.args.candidates.now.items) c.candidates.least

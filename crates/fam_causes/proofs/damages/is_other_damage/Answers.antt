@@ -14,6 +14,6 @@ candidates-preserved c damage tells =
     (c.candidates.invariant damage tells)
 
 pub returns : goal.returns
-returns c damage tells yes k x below at =
+returns c damage tells holds k x below at =
     let less : k < c.candidates.i = omega (arith, below, c.candidates-test.false, c.len-i-end.ensures) in
     c.candidates.invariant damage tells k x less at
