@@ -2,7 +2,7 @@
 use Rattle.std.proofs.Common.{◌≡◌, ◌+◌, ◌<◌, ◌≤◌, ℕ, List, [], ◌∷◌, length, Option, Some, None, refl, sym, ap, subst, ◌∙◌, inl, inr, arith}
 use Rattle.std.specs.Option.{IfSome, MatchOption}
 use Rattle.std.specs.Prelude.{◌==◌, false, get_or, is_some, slice_get}
-use Rattle.std.proofs.lemmas.Bool.{cases_lt}
+use Rattle.std.proofs.lemmas.Bool.{cases_lt, true≢false}
 use Rattle.std.proofs.lemmas.Option.{same_Some}
 use Rattle.fam_judging.specs.declared.candidate.Candidate.{Candidate}
 
@@ -20,9 +20,9 @@ first_more P cs i d is here before k c below at =
     ]
 
 -- the first member, where there is one
-pub first_read : {A : Type 0} (xs : List A) (d : A) → (length xs == 0) ≡ false → d ≡ get_or xs 0 d → slice_get xs 0 ≡ Some d
-first_read [] d none is = absurd cc
-first_read (x ∷ xs) d some is = ap Some (sym is)
+pub first_read : {A : Type 0} (xs : List A) (d : A) (n : ℕ) → n ≡ length xs → (n == 0) ≡ false → d ≡ get_or xs 0 d → slice_get xs 0 ≡ Some d
+first_read [] d n count some is = absurd (true≢false (sym (ap (λ k. k == 0) count) ∙ some))
+first_read (x ∷ xs) d n count some is = ap Some (sym is)
 
 -- what is found, and what follows of it
 pub found_then : {X : Type 0} (r : Option X) (N : Type 0) {P Q : X → Type 0} → MatchOption r N P → ((x : X) → P x → Q x) → IfSome r Q

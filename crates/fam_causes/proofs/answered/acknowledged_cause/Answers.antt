@@ -9,7 +9,7 @@ returns-then-is_unacknowledged c given marks name answers =
     record {
       host = c.args.at;
       cmd = c.args.cmd.now;
-      answers = record { line_is = refl; runs = c.requires };
+      answers = record { line_is = refl; runs = c.requires.runs };
       seen = host;
       seen_is = slice_get_read seen (length seen) c.args.at host refl (omega (arith, c.if-at-len.false, c.len.ensures)) c.index.ensures;
       none = c.if-is_unacknowledged.ensures refl;

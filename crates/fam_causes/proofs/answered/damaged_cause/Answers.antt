@@ -8,7 +8,7 @@ returns-in-Some c hosts marks name answers =
     other_damaged (record {
       host = c.args.at;
       m = c.args.m;
-      shows = record { answer = c.args.answer.now; line_is = refl; count = c.requires };
+      shows = record { answer = c.args.answer.now; line_is = refl; count = c.requires.count };
       one = found.0;
       first = found.1;
       damaged = found.2;

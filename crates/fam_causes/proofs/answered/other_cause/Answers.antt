@@ -15,5 +15,5 @@ returns-in-Appended c marks name answers =
     (IsCause (asked c.args.given.now c.args.hosts.now c.args.candidates.now.items marks name answers (Some (line.Answered c.args.at a)))))
     (sym c.in-Appended.is) (c.acknowledged_cause.ensures c.args.given.now marks name answers)
 
-pub returns-in_default : goal.returns-in_default
-returns-in_default c marks name answers = c.damage_cause.ensures c.args.hosts.now marks name answers
+pub returns : goal.returns
+returns c marks name answers = c.damage_cause.ensures c.args.hosts.now marks name answers

@@ -1,4 +1,4 @@
-use Rattle.std.proofs.Common.{length, refl, sym, arith}
+use Rattle.std.proofs.Common.{vec_len, length, refl, sym, arith}
 use Rattle.std.proofs.lemmas.Option.{slice_get_read}
 use Rattle.fam_causes.proofs.Loops.{first_read, some_then}
 use Rattle.fam_causes.proofs.decided.decided.Goals as goal
@@ -12,6 +12,6 @@ returns c =
       host = host;
       host_is = slice_get_read seen (length seen) c.args.at host refl (omega (arith, c.if-at-len.false, c.len.ensures)) c.index-2.ensures;
       one = one;
-      first = first_read c.args.candidates.now.items one (sym c.if-is_empty.ensures) c.index.ensures;
+      first = first_read c.args.candidates.now.items one (vec_len c.args.candidates.now) (omega arith) (sym c.if-is_empty.ensures) c.index.ensures;
       decides = is;
     })
