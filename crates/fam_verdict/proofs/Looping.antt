@@ -3,6 +3,7 @@ use Rattle.std.proofs.Common.{◌≡◌, ◌<◌, ◌++◌, ℕ, Bool, List, [],
 use Rattle.std.specs.Prelude.{Ok, Err, map, slice_get}
 use Rattle.std.proofs.lemmas.List.{append_assoc, append-nil}
 use Rattle.fam_base.specs.Image.{Image}
+use Rattle.fam_causes.specs.declared.kinds.Cause.{Cause}
 use Rattle.fam_grammar.specs.declared.fault.LineFault.{LineFault}
 use Rattle.fam_grammar.specs.declared.fault.LineFault.TheVariants.{BadLine}
 use Rattle.fam_records.specs.declared.record.Record.{Record}
@@ -18,7 +19,7 @@ use Rattle.fam_judging.proofs.Texts.{judging_some}
 use Rattle.fam_journal.specs.Past.{first_state}
 use Rattle.fam_verdict.specs.declared.judged.Judged.{Judged}
 use Rattle.fam_verdict.specs.Judged.{IsJudged, IsKept}
-use Rattle.fam_verdict.specs.Verdicts.{IsIllegalAt}
+use Rattle.fam_verdict.specs.Verdicts.{IsBecause, IsIllegalAt}
 
 -- the states judge these records, on each image of so many lines that is as is said
 abbrev pub JudgedOf : ℕ → GivenImage → Settled → Judged → List Recorded → Type 0
@@ -51,8 +52,8 @@ module _ (whole left behind : History) (r : Recorded) (is : left ≡ with_record
 
   -- the history ends at it
   pub illegal_at : (start : Image) (P : List Recorded → Type 0) (far : SoFar whole left P) → IsLegal start far.before → (IsLegal start (far.before ++ r ∷ []) → ⊥)
-      → IsIllegalAt start whole.records r.line
-  illegal_at start P far legal illegal = record {
+      → (cause : Cause) → IsBecause start far.before r cause → IsIllegalAt start whole.records r.line cause
+  illegal_at start P far legal illegal cause because = record {
     before = far.before;
     first = r;
     behind = behind.records;
@@ -60,6 +61,7 @@ module _ (whole left behind : History) (r : Recorded) (is : left ≡ with_record
     number_is = refl;
     legal = legal;
     illegal = illegal;
+    because = because;
   }
 
 -- no note is left: all records are read

@@ -1,8 +1,10 @@
 -- What the judge holds behind some notes of a history: hosts and the states in which they may be.
-use Rattle.std.specs.Prelude.{ℕ, ⊤, ◌≡◌, ◌++◌, ◌<◌, ◌≤◌, List, [], ◌∷◌, length, map, Option, Some, None}
+use Rattle.std.specs.Prelude.{ℕ, Bool, true, false, ⊤, ◌≡◌, ◌++◌, ◌<◌, ◌≤◌, List, [], ◌∷◌, length, map, Option, Some, None}
 use Rattle.fam_base.specs.Image.{Image}
 use Rattle.fam_journal.specs.Calls.{host_limit}
 use Rattle.fam_journal.specs.Notes.{Note}
+use Rattle.fam_history.specs.declared.note.LineNote.{LineNote}
+use Rattle.fam_history.specs.declared.note.LineNote.TheVariants as told
 use Rattle.fam_history.specs.ToldNotes.{AreDistinctNames}
 use Rattle.fam_judge.specs.Alike.{told_note}
 use Rattle.fam_judge.specs.Untold.{untold_note}
@@ -56,6 +58,21 @@ IsReadyIf (Some line) = IsReady line
 abbrev pub IsReadAs : List SeenHost → Recorded → Option Line → Type 0
 IsReadAs hosts r None = (n : Note) → IsEntireNote hosts n → RecordTells (seen_names hosts) r n → ⊥
 IsReadAs hosts r (Some line) = IsLineOf hosts r line
+
+-- a line that tells an answer
+abbrev pub tells_answer : LineNote → Bool
+tells_answer (told.Host uuid) = false
+tells_answer (told.Made p) = false
+tells_answer (told.Cut k) = false
+tells_answer (told.Start cmd) = false
+tells_answer told.Mark = false
+tells_answer (told.Found n) = false
+tells_answer (told.Writes seq entry) = false
+tells_answer (told.Answered answer) = true
+tells_answer told.Stop = false
+tells_answer told.Halt = false
+tells_answer told.Umount = false
+tells_answer (told.Refused why) = false
 
 -- the judge goes on by one record more: to what is known behind it
 abbrev pub GoesOn : Image → GivenImage → List Recorded → Recorded → Judged → Type 0

@@ -39,8 +39,8 @@ pub fn judge(
         match records.next_record(alloc) {
             Ok(Some(next)) => {
                 let line = next.line;
-                if !judged.read(alloc, lines, given, next)? {
-                    return Ok(Verdict::Illegal(line));
+                if let Some(cause) = judged.read(alloc, lines, given, next)? {
+                    return Ok(Verdict::Illegal { line, cause });
                 }
             }
             Ok(None) => return Ok(Verdict::Legal(judged.known(line_count(history)))),

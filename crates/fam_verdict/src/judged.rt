@@ -1,24 +1,27 @@
 //! The states in which hosts may be behind some notes of a history, and how they go on by one more.
 
-ghost use Rattle.std.specs.Prelude.{◌≡◌, ◌*◌, ◌≤◌, ⊤, IfOk, List, [], length, true, false};
+ghost use Rattle.std.specs.Prelude.{◌≡◌, ◌*◌, ◌≤◌, IfOk, IfSome, List, [], None, length, true, false};
 ghost use Rattle.fam_base.specs.Image.{Image};
 ghost use Rattle.fam_format.specs.Layout.{device_limit};
 ghost use Rattle.fam_journal.specs.Past.{first_state};
 ghost use Rattle.fam_judging.specs.Candidates.{settled_state};
 ghost use Rattle.fam_judging.specs.declared.given.GivenImage.{GivenImage as AnyGiven};
 ghost use Rattle.fam_judging.specs.Going.{HasGiven};
-ghost use Rattle.fam_judging.specs.Told.{AreToldCommands};
 ghost use Rattle.fam_records.specs.Histories.{record_seen};
 ghost use Rattle.fam_records.specs.Records.{Recorded};
 ghost use Rattle.fam_rules.specs.Place.{line_bytes};
 ghost use Rattle.fam_verdict.specs.Fills.{HasToldFillIn};
-ghost use Rattle.fam_verdict.specs.Judged.{GoesOn, IsJudged, IsKept, IsLineOf, IsReadAs, IsReady, IsReadyIf, Stops};
+ghost use Rattle.fam_verdict.specs.Judged.{GoesOn, IsJudged, IsKept, IsLineOf, IsReadAs, IsReady, IsReadyIf, Stops, tells_answer};
 ghost use Rattle.fam_verdict.specs.Known.{IsKnown};
+ghost use Rattle.fam_verdict.specs.Verdicts.{IsBecause};
 
 use crate::begins::may_begin;
+use crate::marks::mark;
 use crate::known::{pending_in, settled_in};
 use crate::verdict::Known;
 use fam_base::OutOfMemory;
+use fam_causes::{Cause, cause};
+use fam_history::LineNote;
 use fam_judging::{Candidate, GivenImage, Hosts, Settled, go_on};
 use fam_lines::{Line, resolve};
 use fam_records::Record;
@@ -29,6 +32,18 @@ use std::alloc::Global;
 pub(crate) struct Judged {
     pub hosts: Hosts,
     pub candidates: Vec<Candidate>,
+    /// For each host the number of the line with its last mark, or with its last start where no mark is told.
+    pub marks: Vec<u64>,
+}
+
+/// Whether a line tells an answer.
+fn tells_answer(told: &LineNote) -> bool
+    ensures { result ≡ tells_answer told.now }
+{
+    match told {
+        LineNote::Answered(_) => true,
+        _ => false,
+    }
 }
 
 impl Judged {
@@ -50,7 +65,11 @@ impl Judged {
             seen: Vec::new(alloc),
             commands: Vec::new(alloc),
         };
-        Ok(Judged { hosts, candidates })
+        Ok(Judged {
+            hosts,
+            candidates,
+            marks: Vec::new(alloc),
+        })
     }
 
     /// Goes on by a line: says whether some state is left. Where none is, hosts and states stay as they were.
@@ -107,25 +126,35 @@ impl Judged {
         }
     }
 
-    /// Goes on by a note as it was read: says whether some history that is told is still explained.
+    /// Goes on by a note as it was read: says why no history that is told is explained any more, where none is.
     pub fn read(
         &mut self,
         alloc: Global,
         lines: u64,
         given: &GivenImage,
         next: Record,
-    ) -> Result<bool, OutOfMemory>
+    ) -> Result<Option<Cause>, OutOfMemory>
         requires few { line_bytes * lines ≤ device_limit }
         requires kept { IsKept self.old }
         requires filled { HasToldFillIn next.told.note }
-        ensures kept { IfOk result (λ goes. goes ≡ true → IsKept self.new) }
+        ensures kept { IfOk result (λ why. why ≡ None → IsKept self.new) }
         ensures goes { (start : Image) (records : List Recorded) → length start ≡ lines → IsJudged start given.now records self.old
-            → IfOk result (λ goes. goes ≡ true → GoesOn start given.now records (record_seen next) self.new) }
+            → IfOk result (λ why. why ≡ None → GoesOn start given.now records (record_seen next) self.new) }
         ensures stops { (start : Image) (records : List Recorded) → length start ≡ lines → IsJudged start given.now records self.old
-            → IfOk result (λ goes. goes ≡ false → Stops start records (record_seen next)) }
+            → IfOk result (λ why. IfSome why (λ cause. Stops start records (record_seen next) × IsBecause start records (record_seen next) cause)) }
     {
+        let name = next.told.name;
+        let answers = tells_answer(&next.told.note);
+        let number = next.line;
         let line = resolve(&self.hosts.seen, next.told, next.entries, next.report);
-        self.follow_if(alloc, lines, given, &line)
+        if self.follow_if(alloc, lines, given, &line)? {
+            mark(&mut self.marks, &line, number)?;
+            return Ok(None);
+        }
+        let why = cause(
+            alloc, given, &self.hosts, &self.candidates, &self.marks, &name, answers, &line,
+        )?;
+        Ok(Some(why))
     }
 
     /// What is known behind the last note.

@@ -10,6 +10,7 @@ mod histories;
 mod judged;
 mod known;
 mod laws;
+mod marks;
 mod verdict;
 
 pub use histories::{judge, judge_on_blank};

@@ -1,5 +1,7 @@
 //! Verdicts. `specs/Verdicts.antt` has what each says of a history.
 
+use fam_causes::Cause;
+
 /// What is known of a legal history.
 #[derive(Clone, Copy)]
 pub struct Known {
@@ -18,8 +20,8 @@ pub struct Known {
 pub enum Verdict {
     /// Hosts that keep the promise could have had it.
     Legal(Known),
-    /// They could not have had its lines up to the note whose first line this is, counted from 1.
-    Illegal(u64),
+    /// They could not have had its lines up to the note whose first line this is, counted from 1; and why.
+    Illegal { line: u64, cause: Cause },
     /// This line is none of a note, from this column on, counted from 1.
     BadLine { line: u64, column: u64 },
 }
