@@ -9,3 +9,4 @@ pub mod Beginnings
 pub mod Resolved
 pub mod Looping
 pub mod Knowing
+pub mod Printed

@@ -19,9 +19,9 @@ use crate::begins::may_begin;
 use crate::marks::mark;
 use crate::known::{pending_in, settled_in};
 use crate::verdict::Known;
-use fam_base::OutOfMemory;
+use fam_base::{HostName, OutOfMemory};
 use fam_causes::{Cause, cause};
-use fam_history::LineNote;
+use fam_history::{LineNote, ToldLine};
 use fam_judging::{Candidate, GivenImage, Hosts, Settled, go_on};
 use fam_lines::{Line, resolve};
 use fam_records::Record;
@@ -44,6 +44,14 @@ fn tells_answer(told: &LineNote) -> bool
         LineNote::Answered(_) => true,
         _ => false,
     }
+}
+
+/// Of which host a line is, and whether it tells an answer.
+fn head(told: &ToldLine) -> (HostName, bool)
+    ensures name { result.0 ≡ told.now.name }
+    ensures answers { result.1 ≡ tells_answer told.now.note }
+{
+    (told.name, tells_answer(&told.note))
 }
 
 impl Judged {
@@ -126,6 +134,44 @@ impl Judged {
         }
     }
 
+    /// So, and says why no state is left, where none is. The line is the one of this number, and it is of the host of this name.
+    fn go(
+        &mut self,
+        alloc: Global,
+        lines: u64,
+        given: &GivenImage,
+        name: HostName,
+        answers: bool,
+        number: u64,
+        line: &Option<Line>,
+    ) -> Result<Option<Cause>, OutOfMemory>
+        requires few { line_bytes * lines ≤ device_limit }
+        requires kept { IsKept self.old }
+        requires ready { IsReadyIf line.now }
+        ensures kept { IfOk result (λ why. why ≡ None → IsKept self.new) }
+        ensures goes { (start : Image) (records : List Recorded) (r : Recorded) → length start ≡ lines → IsJudged start given.now records self.old
+            → IsReadAs self.old.hosts.seen.items r line.now → IfOk result (λ why. why ≡ None → GoesOn start given.now records r self.new) }
+        ensures stops { (start : Image) (records : List Recorded) (r : Recorded) → length start ≡ lines → IsJudged start given.now records self.old
+            → IsReadAs self.old.hosts.seen.items r line.now → name ≡ r.told.name → answers ≡ tells_answer r.told.note
+            → IfOk result (λ why. IfSome why (λ cause. Stops start records r × IsBecause start records r cause)) }
+    {
+        if self.follow_if(alloc, lines, given, line)? {
+            mark(&mut self.marks, line, number)?;
+            return Ok(None);
+        }
+        let why = cause(
+            alloc,
+            given,
+            &self.hosts,
+            &self.candidates,
+            &self.marks,
+            &name,
+            answers,
+            line,
+        )?;
+        Ok(Some(why))
+    }
+
     /// Goes on by a note as it was read: says why no history that is told is explained any more, where none is.
     pub fn read(
         &mut self,
@@ -143,18 +189,10 @@ impl Judged {
         ensures stops { (start : Image) (records : List Recorded) → length start ≡ lines → IsJudged start given.now records self.old
             → IfOk result (λ why. IfSome why (λ cause. Stops start records (record_seen next) × IsBecause start records (record_seen next) cause)) }
     {
-        let name = next.told.name;
-        let answers = tells_answer(&next.told.note);
+        let (name, answers) = head(&next.told);
         let number = next.line;
         let line = resolve(&self.hosts.seen, next.told, next.entries, next.report);
-        if self.follow_if(alloc, lines, given, &line)? {
-            mark(&mut self.marks, &line, number)?;
-            return Ok(None);
-        }
-        let why = cause(
-            alloc, given, &self.hosts, &self.candidates, &self.marks, &name, answers, &line,
-        )?;
-        Ok(Some(why))
+        self.go(alloc, lines, given, name, answers, number, &line)
     }
 
     /// What is known behind the last note.

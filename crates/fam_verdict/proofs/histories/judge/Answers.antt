@@ -1,4 +1,8 @@
-use Rattle.std.proofs.Common.{◌≡◌, List, [], length, ap, ◌∙◌}
+use Rattle.std.proofs.Common.{◌≡◌, List, [], Option, Some, None, length, ap, subst, ◌∙◌}
+use Rattle.std.specs.Prelude.{IfSome}
+use Rattle.fam_causes.specs.declared.kinds.Cause.{Cause}
+use Rattle.fam_verdict.specs.Judged.{Stops}
+use Rattle.fam_verdict.specs.Verdicts.{IsBecause}
 use Rattle.fam_records.specs.Histories.{History, history_in, history_left, lines_left, record_seen}
 use Rattle.fam_records.specs.Records.{Recorded}
 use Rattle.fam_verdict.proofs.Fills.{first_filled}
@@ -18,23 +22,27 @@ pub read-requires-clause-filled : goal.read-requires-clause-filled
 read-requires-clause-filled c =
     first_filled (lines_left c.notes.records) (record_seen c.in-Ok-Some.next) (history_left (lines_left c.next_record.new.self)) (begins_some (history_left (lines_left c.notes.records)) (history_left (lines_left c.next_record.new.self)) c.in-Ok-Some.field-0 c.in-Ok-Some.next c.in-Ok-Some.field-0-is c.in-Ok-Some.ensures.value)
 
-pub returns-then-not-branch : goal.returns-then-not-branch
-returns-then-not-branch c start long has state =
+pub returns-in-Some : goal.returns-in-Some
+returns-in-Some c start long has state =
     let far = c.notes.invariant.far in
     let judged = far.holds start long has state in
+    let r = record_seen c.in-Ok-Some.next in
+    let stopped : Stops start far.before r × IsBecause start far.before r c.in-Some.cause =
+    subst (λ (why : Option Cause). IfSome why (λ cause. Stops start far.before r × IsBecause start far.before r cause)) c.in-Some.is
+    (c.in_ok-cause-in-Ok-Some.ensures.stops start far.before long judged) in
     illegal_at (history_in c.args.history.now) (history_left (lines_left c.notes.records)) (history_left (lines_left c.next_record.new.self)) (record_seen c.in-Ok-Some.next)
     (begins_some (history_left (lines_left c.notes.records)) (history_left (lines_left c.next_record.new.self)) c.in-Ok-Some.field-0 c.in-Ok-Some.next c.in-Ok-Some.field-0-is c.in-Ok-Some.ensures.value) start (JudgedOf c.args.lines c.args.given.now c.args.settled c.notes.judged) far
     (judged_legal start c.args.given.now far.before c.notes.judged c.notes.invariant.kept judged)
-    (c.in_ok-read-in-Ok-Some.ensures.stops start far.before long judged c.if-not-branch.true)
+    stopped.0 c.in-Some.cause stopped.1
 
 pub notes-preserved : goal.notes-preserved
 notes-preserved c = record {
-  kept = c.in_ok-read-in-Ok-Some.ensures.kept c.if-not-branch.false;
+  kept = c.in_ok-cause-in-Ok-Some.ensures.kept c.in_default.is;
   room = c.next_record.ensures.room;
   far = far_next (history_in c.args.history.now) (history_left (lines_left c.notes.records)) (history_left (lines_left c.next_record.new.self)) (record_seen c.in-Ok-Some.next)
       (begins_some (history_left (lines_left c.notes.records)) (history_left (lines_left c.next_record.new.self)) c.in-Ok-Some.field-0 c.in-Ok-Some.next c.in-Ok-Some.field-0-is c.in-Ok-Some.ensures.value) (JudgedOf c.args.lines c.args.given.now c.args.settled c.notes.judged)
       (JudgedOf c.args.lines c.args.given.now c.args.settled c.read.new.self) c.notes.invariant.far
-      (λ start long has state. c.in_ok-read-in-Ok-Some.ensures.goes start c.notes.invariant.far.before long (c.notes.invariant.far.holds start long has state) c.if-not-branch.false);
+      (λ start long has state. c.in_ok-cause-in-Ok-Some.ensures.goes start c.notes.invariant.far.before long (c.notes.invariant.far.holds start long has state) c.in_default.is);
 }
 
 pub returns-in-Ok-None : goal.returns-in-Ok-None

@@ -11,7 +11,7 @@ pub returns-clause-goes : goal.returns-clause-goes
 returns-clause-goes c start records long judged =
     let seen : c.deref.result.now ≡ c.args.self.now.hosts.seen.items = c.deref.ensures.value in
     let r = record_seen c.args.next in
-    c.follow_if.ensures.goes start records r long judged
+    c.go.ensures.goes start records r long judged
     (subst (λ (s : List SeenHost). IsReadAs s r c.resolve-line.result) seen (read_as c.deref.result.now r c.resolve-line.result
     (subst (λ (s : List SeenHost). AreDistinctNames (seen_names s)) (sym seen) c.requires.kept.distinct) c.resolve-line.ensures.tells c.resolve-line.ensures.untold c.resolve-line.ensures.only))
 
@@ -19,6 +19,7 @@ pub returns-clause-stops : goal.returns-clause-stops
 returns-clause-stops c start records long judged =
     let seen : c.deref.result.now ≡ c.args.self.now.hosts.seen.items = c.deref.ensures.value in
     let r = record_seen c.args.next in
-    c.follow_if.ensures.stops start records r long judged
+    c.go.ensures.stops start records r long judged
     (subst (λ (s : List SeenHost). IsReadAs s r c.resolve-line.result) seen (read_as c.deref.result.now r c.resolve-line.result
     (subst (λ (s : List SeenHost). AreDistinctNames (seen_names s)) (sym seen) c.requires.kept.distinct) c.resolve-line.ensures.tells c.resolve-line.ensures.untold c.resolve-line.ensures.only))
+    c.head-name.ensures.name c.head-name.ensures.answers
