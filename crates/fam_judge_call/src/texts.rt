@@ -1,10 +1,12 @@
 //! The texts of verdicts, and of histories that can't be read. `specs/Texts.antt` has them.
 
 ghost use Rattle.std.specs.Prelude.{◌≡◌, ◌++◌, IfOk, codes, string_bytes};
-ghost use Rattle.fam_outcomes.specs.Texts.{line as the_line};
+ghost use Rattle.fam_causes.specs.CauseTexts.{cause_lines};
+ghost use Rattle.fam_outcomes.specs.Texts.{line as the_line, number};
 ghost use Rattle.fam_judge_call.specs.Texts as spec;
 
-use fam_base::OutOfMemory;
+use fam_base::{OutOfMemory, put_bytes};
+use fam_causes::{Cause, cause_text};
 use fam_outcomes::Status;
 use fam_script::{line_of, line_with_last_name};
 use fam_sources::WholeFault;
@@ -48,13 +50,27 @@ fn known_line(alloc: Global, known: Known) -> Result<Vec<u8>, OutOfMemory>
     )
 }
 
+/// The number of an illegal line, and why it is one.
+fn illegal_text(alloc: Global, line: u64, cause: &Cause) -> Result<Vec<u8>, OutOfMemory>
+    ensures { IfOk result (λ bytes. bytes.items ≡ codes "illegal" ++ number line ++ codes " " ++ cause_lines cause.now) }
+{
+    let why = cause_text(alloc, cause)?;
+    let Ok(front) = format!(in alloc; "illegal {line} ") else {
+        return Err(OutOfMemory);
+    };
+    let mut text = Vec::new(alloc);
+    put_bytes(front.as_bytes(), &mut text)?;
+    put_bytes(why.as_slice(), &mut text)?;
+    Ok(text)
+}
+
 /// A verdict.
 pub(crate) fn verdict_text(alloc: Global, verdict: &Verdict) -> Result<Vec<u8>, OutOfMemory>
     ensures { IfOk result (λ bytes. bytes.items ≡ spec.verdict_text verdict.now) }
 {
     match verdict {
         Verdict::Legal(known) => known_line(alloc, *known),
-        Verdict::Illegal(line) => line_of(alloc, format!(in alloc; "illegal {line}")),
+        Verdict::Illegal { line, cause } => illegal_text(alloc, *line, cause),
         Verdict::BadLine { line, column } => {
             line_of(alloc, format!(in alloc; "bad line {line} {column}"))
         }
@@ -67,7 +83,7 @@ pub(crate) fn verdict_status(verdict: &Verdict) -> Status
 {
     match verdict {
         Verdict::Legal(_) => Status::Done,
-        Verdict::Illegal(_) => Status::Refused,
+        Verdict::Illegal { .. } => Status::Refused,
         Verdict::BadLine { .. } => Status::BadScript,
     }
 }
@@ -81,7 +97,7 @@ pub(crate) fn unread_text(
     ensures { IfOk result (λ bytes. bytes.items ≡ spec.unread_text name.now fault) }
 {
     match fault {
-        WholeFault::NoFile => line_with_last_name(alloc, "no file ", name),
+        WholeFault::NoFile => line_with_last_name(alloc, "no file", name.as_bytes()),
         WholeFault::TooLong(size) => line_of(alloc, format!(in alloc; "history too long {size}")),
         WholeFault::Faulted => line_of(alloc, format!(in alloc; "source fault")),
         WholeFault::Short { size, got } => {

@@ -1,13 +1,13 @@
 -- Hosts that look so, and what a state's hosts look like.
-use Rattle.std.proofs.Common.{◌≡◌, ℕ, true, false, Bool, List, [], ◌∷◌, map, Option, Some, None, refl, ap, ap₂, sym, ◌∙◌}
+use Rattle.std.proofs.Common.{◌≡◌, true, false, Bool, List, [], ◌∷◌, map, Option, Some, None, refl, ap₂}
 use Rattle.std.specs.Prelude.{if◌then◌else◌, is_some}
 use Rattle.fam_base.specs.declared.cmd.Cmd.TheVariants.{Fsck}
 use Rattle.fam_base.specs.Image.{Image}
 use Rattle.fam_journal.specs.Shapes.{Begun, HostShape, TaskShape}
 use Rattle.fam_judge.specs.Possible.{shapes_in}
-use Rattle.fam_judge.specs.Standing.{Face, face, faces}
+use Rattle.fam_judge.specs.Standing.{Face, faces}
 use Rattle.fam_lines.specs.declared.host.SeenHost.{SeenHost}
-use Rattle.fam_lines.specs.Hosts.{face_of, faces_of}
+use Rattle.fam_lines.specs.Hosts.{faces_of}
 use Rattle.fam_history.specs.declared.command.ToldCommand.{ToldCommand}
 use Rattle.fam_judging.specs.declared.candidate.Candidate.{Candidate}
 use Rattle.fam_judging.specs.declared.given.GivenImage.{GivenImage}

@@ -1,5 +1,5 @@
 -- A command that a history begins has no bytes of a source: its grammar has none.
-use Rattle.std.proofs.Common.{◌≡◌, ℕ, Bool, true, false, cond, List, [], ◌∷◌, Option, Some, None, refl, ap, sym, subst, ◌∙◌, arith}
+use Rattle.std.proofs.Common.{◌≡◌, ℕ, Bool, true, false, cond, List, [], ◌∷◌, Option, Some, None, refl, ap, sym, subst, ◌∙◌}
 use Rattle.std.specs.Prelude.{⊤, codes, option_map}
 use Rattle.std.specs.Str.{bytes_eq}
 use Rattle.fam_base.specs.declared.cmd.Cmd.{Cmd}
@@ -8,7 +8,7 @@ use Rattle.fam_base.specs.declared.cmd.Content.TheVariants as content
 use Rattle.fam_grammar.specs.declared.keywords.CommandWord.{CommandWord}
 use Rattle.fam_grammar.specs.declared.keywords.CommandWord.TheVariants as command
 use Rattle.fam_grammar.specs.Keywords.{command_word}
-use Rattle.fam_grammar.specs.Lines.{attr_of, cp_takes, creat_takes, directory_mode, file_mode, fill_of, mkdir_takes}
+use Rattle.fam_grammar.specs.Lines.{cp_takes, creat_takes, fill_of, mkdir_takes}
 use Rattle.fam_grammar.specs.Numbers.{number_of_text, size_of_text}
 use Rattle.fam_grammar.specs.Options.{file_options, keyed, no_file_options}
 use Rattle.fam_grammar.specs.Reading.{Reading, Reads, Misfit, ends_with, fitting_word, then_reads, word_of}

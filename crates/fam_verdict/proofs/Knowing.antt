@@ -22,7 +22,7 @@ use Rattle.fam_judging.specs.declared.candidate.Settled.TheVariants as settled
 use Rattle.fam_judging.specs.declared.given.GivenImage.{GivenImage}
 use Rattle.fam_verdict.specs.Agreeing.{AllCountIn, AllPendIn}
 use Rattle.fam_verdict.specs.Judged.{IsJudged}
-use Rattle.fam_verdict.specs.Known.{AllCount, AllPend, IsKnown, count_in, pends_in, state_pends}
+use Rattle.fam_verdict.specs.Known.{IsKnown, count_in, pends_in, state_pends}
 use Rattle.fam_verdict.specs.declared.judged.Judged.{Judged}
 use Rattle.fam_verdict.specs.declared.verdict.Known.{Known}
 use Rattle.fam_verdict.proofs.Onward.{of_candidates}

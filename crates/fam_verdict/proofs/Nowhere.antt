@@ -1,12 +1,11 @@
 -- Where a line that begins something can't stand, it leads nowhere.
-use Rattle.std.proofs.Common.{◌≡◌, ℕ, Bool, List, [], Option, Some, None, length, map, refl, sym, ap, ◌∙◌, subst}
-use Rattle.std.specs.Prelude.{is_some, option_map, slice_get}
+use Rattle.std.proofs.Common.{◌≡◌, ℕ, Bool, List, [], Option, Some, None, length, map, refl, ap, ◌∙◌, subst}
+use Rattle.std.specs.Prelude.{is_some, option_map}
 use Rattle.fam_base.specs.Image.{Image}
 use Rattle.fam_journal.specs.Members.{changed_at}
-use Rattle.fam_journal.specs.Notes.{Note, Found, Writes}
 use Rattle.fam_journal.specs.Shapes.{CommandStage, HostShape, Met, Named, TaskShape, with_stage}
 use Rattle.fam_judge.specs.Covering.{IsOf, LeadsStates}
-use Rattle.fam_judge.specs.Possible.{MeetsEntries, Possible, Progress, StepsTo, Wrote, after_note, left_out_met, shapes_in, shown_met}
+use Rattle.fam_judge.specs.Possible.{MeetsEntries, Possible, Progress, StepsTo, Wrote, left_out_met, shapes_in, shown_met}
 use Rattle.fam_judge.specs.Standing.{Face, MayDeclare, MayStart, face, faces}
 use Rattle.fam_judge.proofs.Folding.{shape_in}
 use Rattle.fam_judge.proofs.Members.{changed_same, map_changed}

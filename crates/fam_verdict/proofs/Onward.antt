@@ -24,13 +24,11 @@ use Rattle.fam_judging.specs.Among.{AllFine}
 use Rattle.fam_judging.specs.Candidates.{AreCommanded, HostsFit, possible_of, settled_state}
 use Rattle.fam_judging.specs.Going.{HasGiven}
 use Rattle.fam_judging.specs.Pushing.{IsFine}
-use Rattle.fam_judging.specs.Texts.{IsJudging, IsLegal, RecordTells}
+use Rattle.fam_judging.specs.Texts.{IsJudging, RecordTells}
 use Rattle.fam_judging.specs.declared.candidate.Candidate.{Candidate}
-use Rattle.fam_judging.specs.declared.candidate.Settled.{Settled}
 use Rattle.fam_judging.specs.declared.given.GivenImage.{GivenImage}
-use Rattle.fam_judging.specs.declared.hosts.Hosts.{Hosts}
 use Rattle.fam_judging.proofs.Keeping.{BeginsTold, commanded_after, told_after}
-use Rattle.fam_judging.proofs.Texts.{judging_first, judging_line, judging_none, judging_some, judging_unresolved}
+use Rattle.fam_judging.proofs.Texts.{judging_first, judging_line, judging_none, judging_unresolved}
 use Rattle.fam_verdict.specs.declared.judged.Judged.{Judged}
 use Rattle.fam_verdict.specs.Begins.{MayBegin}
 use Rattle.fam_verdict.specs.Judged.{GoesOn, IsJudged, IsKept, IsLineOf, Stops}

@@ -1,11 +1,11 @@
 -- The text of a journal that is explained is legal, whatever verdict says so.
-use Rattle.std.proofs.Common.{◌≡◌, ℕ, ◌+◌, List, [], ◌∷◌, ◌++◌, Option, Some, None, refl, ap, sym, subst, ◌∙◌, append_assoc}
+use Rattle.std.proofs.Common.{◌≡◌, ℕ, ◌+◌, List, [], ◌∷◌, ◌++◌, Some, None, refl, ap, sym, subst, ◌∙◌, append_assoc}
 use Rattle.fam_base.specs.Image.{Image}
-use Rattle.fam_journal.specs.Notes.{Answer, Replied, MediaFault, Note, Host, Made, Cut, Start, Mark, Found, Writes, Answered, Stop, Halt, Umount, Refused}
+use Rattle.fam_journal.specs.Notes.{Replied, MediaFault, Note, Host, Made, Cut, Start, Mark, Found, Writes, Answered, Stop, Halt, Umount, Refused}
 use Rattle.fam_judge.specs.Explained.{IsExplained}
 use Rattle.fam_judge.proofs.Explaining.{first_explained}
 use Rattle.fam_judging.specs.Texts.{IsLegal, RecordsTell, names_after_note}
-use Rattle.fam_lines.specs.Behind.{Further, behind_note, behind_reply, further}
+use Rattle.fam_lines.specs.Behind.{behind_note, behind_reply, further}
 use Rattle.fam_outcomes.specs.Texts.{names_after, render}
 use Rattle.fam_records.specs.Histories.{History, history_in}
 use Rattle.fam_records.specs.Records.{Recorded}
@@ -101,7 +101,7 @@ module _ (start : Image) (journal : List Note) (are : AreTellingRecords [] journ
       let split : (history_in (render journal)).records ≡ (at.before ++ at.first ∷ []) ++ at.behind = at.whole ∙ sym (append_assoc at.before (at.first ∷ []) at.behind) in
       let part = cut [] (at.before ++ at.first ∷ []) at.behind journal (subst (λ (records : List Recorded). RecordsTell [] records journal) split all_tell) in
       let legal : IsLegal start (at.before ++ at.first ∷ []) =
-          (part.front, part.tells, first_explained start part.front part.back (subst (IsExplained start) (sym part.whole) is)) in
+      (part.front, part.tells, first_explained start part.front part.back (subst (IsExplained start) (sym part.whole) is)) in
       absurd (at.illegal legal)
 
   -- no line is bad

@@ -1,13 +1,11 @@
 -- What a record reads as.
-use Rattle.std.proofs.Common.{◌≡◌, ℕ, List, Option, Some, None, refl, sym, ap, ◌∙◌, subst}
+use Rattle.std.proofs.Common.{◌≡◌, List, Option, Some, None}
 use Rattle.std.specs.Prelude.{IfSome, MatchOption}
-use Rattle.fam_history.specs.declared.note.LineNote.{LineNote}
-use Rattle.fam_history.specs.declared.note.ToldLine.{ToldLine}
 use Rattle.fam_history.specs.ToldNotes.{AreDistinctNames}
 use Rattle.fam_journal.specs.Notes.{Note}
 use Rattle.fam_judge.specs.Alike.{told_note}
 use Rattle.fam_judge.specs.Untold.{untold_note}
-use Rattle.fam_lines.specs.Behind.{IsEntireAnswer, IsEntireNote, IsNoteOf}
+use Rattle.fam_lines.specs.Behind.{IsEntireAnswer, IsEntireNote}
 use Rattle.fam_lines.specs.declared.answer.HostAnswer.{HostAnswer}
 use Rattle.fam_lines.specs.declared.answer.HostAnswer.TheVariants as given
 use Rattle.fam_lines.specs.declared.host.SeenHost.{SeenHost}
@@ -19,8 +17,8 @@ use Rattle.fam_lines.specs.Rising.{ListsRising, RisesIn}
 use Rattle.fam_records.specs.Records.{Recorded}
 use Rattle.fam_judging.specs.StepLines.{IsStepAnswer, IsStepLine}
 use Rattle.fam_judging.specs.Texts.{RecordTells}
-use Rattle.fam_verdict.specs.Fills.{BeginsFilled, HasToldFillIn}
-use Rattle.fam_verdict.specs.Judged.{IsLineOf, IsReadAs, IsReady, IsReadyIf}
+use Rattle.fam_verdict.specs.Fills.{HasToldFillIn}
+use Rattle.fam_verdict.specs.Judged.{IsReadAs, IsReadyIf}
 use Rattle.fam_verdict.proofs.Fills.{begins_filled}
 
 -- a whole answer whose entries rise

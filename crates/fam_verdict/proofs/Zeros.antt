@@ -1,5 +1,5 @@
 -- What a blank image tells: it has no superblock.
-use Rattle.std.proofs.Common.{◌≡◌, ℕ, zero, suc, ◌*◌, Bool, true, false, cond, List, ◌++◌, length, Some, None, Err, refl, ap, ap₂, sym, ◌∙◌, arith}
+use Rattle.std.proofs.Common.{◌≡◌, ℕ, zero, suc, ◌*◌, Bool, true, false, cond, List, ◌++◌, length, Some, None, Err, refl, ap, sym, ◌∙◌}
 use Rattle.std.specs.Prelude.{nat_lt, replicate, slice_index}
 use Rattle.std.proofs.lemmas.List.{length-replicate}
 use Rattle.fam_base.specs.declared.entry.Params.{Params}
@@ -15,7 +15,6 @@ use Rattle.fam_journal.specs.Legal.{DamagedSuper, cleared_report}
 use Rattle.fam_journal.specs.Past as past
 use Rattle.fam_journal.specs.Past.{State, Bad, first_state, state_read}
 use Rattle.fam_judging.specs.Candidates.{IsGivenImage, past_damage}
-use Rattle.fam_judging.specs.declared.given.Damage.{Damage}
 use Rattle.fam_judging.specs.declared.given.Damage.TheVariants as damage
 use Rattle.fam_verdict.specs.Blank.{blank_damage, blank_image}
 
@@ -42,10 +41,7 @@ report_is : (lines : ℕ) → report_of (line_at (blank_image lines)) (line_byte
 unfolding report_of
 report_is lines = ap (report_super (line_at (blank_image lines))) (no_super lines (line_bytes * length (blank_image lines)))
 
--- the damage by whether there are fewer lines than a gate needs
-damage_by : Bool → ℕ → Damage
-damage_by few lines = cond few (damage.FewLines lines) (damage.NoSuperblock (super.NoSuper 0))
-
+-- the state by whether there are fewer lines than a gate needs
 state_by : (image : Image) (lines : ℕ) (few : Bool) → length image ≡ lines
     → state_read image (reading image) ≡ Bad (past.Given image) (past.NoSuperblock (super.NoSuper 0)) 0
     → cond few (Bad (past.Given image) (past.FewLines (length image)) 0) (state_read image (reading image))
@@ -59,7 +55,7 @@ state_is lines =
     let long : length image ≡ lines = length-replicate lines (replicate 8 0) in
     ap (λ (n : ℕ). cond (nat_lt n least_lines) (Bad (past.Given image) (past.FewLines (length image)) 0) (state_read image (reading image))) long
     ∙ state_by image lines (nat_lt lines least_lines) long
-      (ap (state_read image) (read_none lines) ∙ ap (λ (gate : ℕ). Bad (past.Given image) (past.NoSuperblock (super.NoSuper 0)) gate) (no_gate lines))
+    (ap (state_read image) (read_none lines) ∙ ap (λ (gate : ℕ). Bad (past.Given image) (past.NoSuperblock (super.NoSuper 0)) gate) (no_gate lines))
 
 no_params_by : (p : Params) (image : Image) (lines : ℕ) (few : Bool)
     → DamagedSuper p (past.Given image) (past_damage (cond few (damage.FewLines lines) (damage.NoSuperblock (super.NoSuper 0)))) → ⊥

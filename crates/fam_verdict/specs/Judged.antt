@@ -1,5 +1,5 @@
 -- What the judge holds behind some notes of a history: hosts and the states in which they may be.
-use Rattle.std.specs.Prelude.{ℕ, Bool, true, false, ⊤, ◌≡◌, ◌++◌, ◌<◌, ◌≤◌, List, [], ◌∷◌, length, map, Option, Some, None}
+use Rattle.std.specs.Prelude.{Bool, true, false, ⊤, ◌≡◌, ◌++◌, ◌<◌, ◌≤◌, List, [], ◌∷◌, length, map, Option, Some, None}
 use Rattle.fam_base.specs.Image.{Image}
 use Rattle.fam_journal.specs.Calls.{host_limit}
 use Rattle.fam_journal.specs.Notes.{Note}

@@ -1,5 +1,5 @@
 -- What is known of a legal history: how many entries are settled behind it, and whether one more pends, where all states agree.
-use Rattle.std.specs.Prelude.{ℕ, ◌≡◌, ◌↔◌, Bool, false, is_some, List, length, Option, Some, None}
+use Rattle.std.specs.Prelude.{ℕ, ◌≡◌, ◌↔◌, Bool, false, is_some, List, length, Some}
 use Rattle.fam_base.specs.Image.{Image}
 use Rattle.fam_journal.specs.Past.{State, Bad, Sound, settled_length}
 use Rattle.fam_judge.specs.Covering.{IsOf}

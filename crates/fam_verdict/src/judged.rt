@@ -16,8 +16,8 @@ ghost use Rattle.fam_verdict.specs.Known.{IsKnown};
 ghost use Rattle.fam_verdict.specs.Verdicts.{IsBecause};
 
 use crate::begins::may_begin;
-use crate::marks::mark;
 use crate::known::{pending_in, settled_in};
+use crate::marks::mark;
 use crate::verdict::Known;
 use fam_base::{HostName, OutOfMemory};
 use fam_causes::{Cause, cause};

@@ -1,8 +1,3 @@
-use Rattle.std.proofs.Common.{◌≡◌, ◌↔◌, List, refl}
-use Rattle.std.specs.Prelude.{IsTrue}
-use Rattle.fam_lines.specs.declared.line.Line.{Line}
-use Rattle.fam_lines.specs.declared.line.Line.TheVariants as line
-use Rattle.fam_verdict.specs.Begins.{MayBegin}
 use Rattle.fam_verdict.proofs.Beginnings.{begins_host, begins_start}
 use Rattle.fam_verdict.proofs.Faces.{faces_so, shapes_of}
 use Rattle.fam_verdict.proofs.begins.may_begin.Goals as goal

@@ -1,4 +1,4 @@
-use Rattle.std.proofs.Common.{◌≡◌, ℕ, suc, ◌+◌, ◌<◌, List, length, ap, subst, sym, ◌∙◌, arith, rules}
+use Rattle.std.proofs.Common.{◌≡◌, ℕ, suc, ◌<◌, List, length, ap, subst, sym, ◌∙◌, arith, rules}
 use Rattle.fam_tree.specs.Cuts.{back}
 use Rattle.fam_tree.specs.Lines.{line_feed}
 use Rattle.fam_tree.specs.Listings.{text_lines}

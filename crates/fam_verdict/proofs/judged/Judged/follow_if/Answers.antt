@@ -1,4 +1,4 @@
-use Rattle.std.proofs.Common.{◌≡◌, subst}
+use Rattle.std.proofs.Common.{subst}
 use Rattle.fam_verdict.specs.Judged.{IsReadAs}
 use Rattle.fam_verdict.proofs.Onward.{stops_unresolved}
 use Rattle.fam_verdict.proofs.judged.Judged.follow_if.Goals as goal

@@ -1,4 +1,4 @@
-use Rattle.std.proofs.Common.{◌≡◌, List, map, sym, subst}
+use Rattle.std.proofs.Common.{◌≡◌, map, sym, subst}
 use Rattle.fam_causes.specs.Asked.{asked}
 use Rattle.fam_judging.specs.Candidates.{possible_of}
 use Rattle.fam_judging.specs.Texts.{IsJudging}
@@ -25,8 +25,7 @@ cause-requires c = record {
 pub returns-clause-stops : goal.returns-clause-stops
 returns-clause-stops c start records r long judged read named answered =
     let same : c.follow_if.new.self ≡ c.args.self.now = c.in_ok-follow_if.ensures.stays c.if-branch.false in
-    let now = c.follow_if.new.self in
-    (
+    let now = c.follow_if.new.self in (
       c.in_ok-follow_if.ensures.stops start records r long judged read c.if-branch.false,
       record {
         asked = asked c.args.given.now now.hosts now.candidates.items c.deref.result.now c.args.name c.args.answers c.args.line.now;

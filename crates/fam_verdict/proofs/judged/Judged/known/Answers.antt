@@ -1,4 +1,4 @@
-use Rattle.std.proofs.Common.{◌≡◌, ◌∙◌}
+use Rattle.std.proofs.Common.{◌∙◌}
 use Rattle.fam_verdict.specs.declared.verdict.Known.{Known}
 use Rattle.fam_verdict.proofs.Knowing.{judged_known}
 use Rattle.fam_verdict.proofs.judged.Judged.known.Goals as goal

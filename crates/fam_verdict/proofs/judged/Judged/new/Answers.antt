@@ -1,4 +1,4 @@
-use Rattle.std.proofs.Common.{◌≡◌, ◌++◌, List, [], ◌∷◌, ap, sym, ◌∙◌}
+use Rattle.std.proofs.Common.{◌++◌, List, [], ◌∷◌, ap, sym, ◌∙◌}
 use Rattle.fam_verdict.specs.declared.judged.Judged.{Judged}
 use Rattle.fam_verdict.proofs.Onward.{judged_first, not_failed}
 use Rattle.fam_verdict.proofs.judged.Judged.new.Goals as goal
