@@ -1,0 +1,9 @@
+use Rattle.std.proofs.Common.{Some}
+use Rattle.fam_lines.specs.declared.line.Line.TheVariants as line
+use Rattle.fam_causes.specs.Asked.{asked}
+use Rattle.fam_causes.proofs.answered.replied_cause.Goals as goal
+
+pub returns-in-None : goal.returns-in-None
+returns-in-None c name answers =
+    c.other.ensures (asked c.args.given.now c.args.hosts.now c.args.candidates.now.items c.args.marks.now name answers (Some (line.Answered c.args.at c.args.answer.now)))
+    (c.other_cause.ensures c.args.marks.now name answers)

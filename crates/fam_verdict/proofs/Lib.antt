@@ -1,0 +1,12 @@
+pub mod Zeros
+pub mod Fills
+pub mod Commands
+pub mod Names
+pub mod Faces
+pub mod Nowhere
+pub mod Onward
+pub mod Beginnings
+pub mod Resolved
+pub mod Looping
+pub mod Knowing
+pub mod Printed

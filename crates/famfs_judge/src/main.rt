@@ -1,0 +1,46 @@
+//! The famfs-judge command: what it does is the call of fam_judge_call; here the real shelf and output are made and handed to it.
+#![tactic(auto)]
+
+use fam_base::OutOfMemory;
+use fam_files::{FileShelf, StdSink};
+use fam_judge_call::famfs_judge;
+use fam_outcomes::Status;
+use std::env;
+use std::io::ErrorKind;
+use std::process::ExitCode;
+
+/// The words after the program's name, and none where one of them isn't UTF-8.
+fn given(rt: &HostRuntime) -> Result<Vec<String>, OutOfMemory> {
+    let mut words = Vec::new(rt.alloc());
+    let args = match env::args(rt) {
+        Ok(args) => args,
+        Err(error) => {
+            return match error.kind() {
+                ErrorKind::OutOfMemory => Err(OutOfMemory),
+                _ => Ok(words),
+            };
+        }
+    };
+    for word in args.skip(1) {
+        if words.push(word).is_err() {
+            return Err(OutOfMemory);
+        }
+    }
+    Ok(words)
+}
+
+/// Does what the program's words say.
+fn ran(rt: &HostRuntime) -> Result<Status, OutOfMemory> {
+    let words = given(rt)?;
+    let mut shelf = FileShelf::new(rt);
+    let mut out = StdSink::new(rt.stdout());
+    Ok(famfs_judge(rt.alloc(), &words, &mut shelf, &mut out))
+}
+
+fn main(rt: HostRuntime) -> ExitCode {
+    let status = match ran(&rt) {
+        Ok(status) => status,
+        Err(OutOfMemory) => Status::OutOfMemory,
+    };
+    ExitCode::from(status.number())
+}
