@@ -598,21 +598,39 @@ def behind(states, note, lines):
     return merged(it for it in out if it is not None)
 
 
-def judged(text):
-    """The first words of what is to be said of a history, and the states behind its last line that is legal."""
+def read(text):
+    """The notes of a text before its first bad line, and that line's fault, if there is one."""
+    found = []
     try:
-        all_notes = list(recorded.notes(text))
+        for note in recorded.notes(text):
+            found.append(note)
     except recorded.Bad as bad:
-        return f"bad line {bad.line} {bad.column}", []
-    devices = [it.told[3] for it in all_notes if it.what == "made"]
+        return found, bad
+    return found, None
+
+
+def judged_notes(notes):
+    """The first line that isn't legal, if there is one, and the states behind the lines before it."""
+    devices = [it.told[3] for it in notes if it.what == "made"]
     lines = devices[0] // LINE if devices else MOST_LINES
     states = [Possible(State(NO_SUPER, None, (), None), ())]
-    for note in all_notes:
+    for note in notes:
         after = behind(states, note, lines)
         if not after:
-            return f"illegal {note.line}", states
+            return note.line, states
         states = after
-    return f"legal {recorded.line_count(text)}", states
+    return None, states
+
+
+def judged(text):
+    """What may be said of a history first, and the states behind its last line that is legal. Where a line is bad behind one
+    that isn't legal, either may be named."""
+    notes, bad = read(text)
+    line, states = judged_notes(notes)
+    may = [f"bad line {bad.line} {bad.column}"] if bad else []
+    if line is not None:
+        may.append(f"illegal {line}")
+    return may or [f"legal {recorded.line_count(text)} {figures(states)}"], states
 
 
 def figures(states):
