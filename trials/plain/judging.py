@@ -1,7 +1,8 @@
 """Which recorded histories are legal, by the definitions of docs/MODEL.md, "The journal" and "Recorded histories", computed
 plainly: all states in which hosts may be behind a line are kept, and each is tried with whatever notes were left out.
 
-The image is blank before the first line, and has as many lines as the first file system that is made says."""
+The image is blank before the first line, and has as many lines as the first file system that is made says, or else as many
+as an image may have."""
 from collections import namedtuple
 
 import recorded
@@ -612,7 +613,7 @@ def read(text):
 def judged_notes(notes):
     """The first line that isn't legal, if there is one, and the states behind the lines before it."""
     devices = [it.told[3] for it in notes if it.what == "made"]
-    lines = devices[0] // LINE if devices else MOST_LINES
+    lines = min(devices[0] // LINE, MOST_LINES) if devices else MOST_LINES
     states = [Possible(State(NO_SUPER, None, (), None), ())]
     for note in notes:
         after = behind(states, note, lines)
@@ -623,14 +624,14 @@ def judged_notes(notes):
 
 
 def judged(text):
-    """What may be said of a history first, and the states behind its last line that is legal. Where a line is bad behind one
-    that isn't legal, either may be named."""
+    """What is said of a history first, without why a line isn't legal; and the states behind the last line that is."""
     notes, bad = read(text)
     line, states = judged_notes(notes)
-    may = [f"bad line {bad.line} {bad.column}"] if bad else []
     if line is not None:
-        may.append(f"illegal {line}")
-    return may or [f"legal {recorded.line_count(text)} {figures(states)}"], states
+        return f"illegal {line}", states
+    if bad:
+        return f"bad line {bad.line} {bad.column}", states
+    return f"legal {recorded.line_count(text)} {figures(states)}", states
 
 
 def figures(states):
