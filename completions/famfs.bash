@@ -1,4 +1,4 @@
-# Completes the words of famfs, mkfs.famfs, famfs-describe, famfs-extract, famfs-list and famfs-tree in bash.
+# Completes the words of famfs, mkfs.famfs, famfs-judge, famfs-describe, famfs-extract, famfs-list and famfs-tree in bash.
 
 # the options of a command, each with its other name behind a comma
 _famfs_options() {
@@ -158,19 +158,20 @@ _famfs() {
 
 complete -F _famfs famfs mkfs.famfs
 
-# the options of a helper
+# the options of a helper, or of famfs-judge
 _famfs_helper_options() {
     case $1 in
+        famfs-judge) echo "--help --version" ;;
         famfs-describe | famfs-list) echo "--help --json" ;;
         famfs-extract) echo "--all --help" ;;
         famfs-tree) echo "--dry-run --help --system --verify" ;;
     esac
 }
 
-# what the words of a helper are, in order
+# what its words are, in order
 _famfs_helper_places() {
     case $1 in
-        famfs-describe | famfs-list) echo "file" ;;
+        famfs-describe | famfs-judge | famfs-list) echo "file" ;;
         famfs-extract) echo "file path file" ;;
         famfs-tree) echo "folder file path" ;;
     esac
@@ -211,4 +212,4 @@ _famfs_helper() {
     esac
 }
 
-complete -F _famfs_helper famfs-describe famfs-extract famfs-list famfs-tree
+complete -F _famfs_helper famfs-describe famfs-extract famfs-judge famfs-list famfs-tree
