@@ -6,6 +6,7 @@ use fam_files::{FileShelf, StdSink};
 use fam_judge_call::famfs_judge;
 use fam_outcomes::Status;
 use std::env;
+use std::fs::File;
 use std::io::ErrorKind;
 use std::process::ExitCode;
 
@@ -29,9 +30,24 @@ fn given(rt: &HostRuntime) -> Result<Vec<String>, OutOfMemory> {
     Ok(words)
 }
 
-/// Does what the program's words say.
+/// Takes the numbers of those standard streams that are closed, so that no history is opened under one of them. The files are to
+/// be held as long as a history is. None where one of them can't be opened: then nobody knows which number a history would get.
+fn streams(rt: &HostRuntime) -> Option<[File; 3]> {
+    Some([null(rt)?, null(rt)?, null(rt)?])
+}
+
+/// A file that gives nothing, and that can't be written.
+fn null(rt: &HostRuntime) -> Option<File> {
+    File::open(rt, "/dev/null").ok()
+}
+
+/// Does what the program's words say. Where the numbers of the standard streams can't be held, nothing is read, and the output
+/// counts as failed.
 fn ran(rt: &HostRuntime) -> Result<Status, OutOfMemory> {
     let words = given(rt)?;
+    let Some(_streams) = streams(rt) else {
+        return Ok(Status::SinkFault);
+    };
     let mut shelf = FileShelf::new(rt);
     let mut out = StdSink::new(rt.stdout());
     Ok(famfs_judge(rt.alloc(), &words, &mut shelf, &mut out))
