@@ -67,7 +67,14 @@ pub(crate) fn is_unacknowledged(
 }
 
 /// Whether a command may name an entry.
-fn may_name(log: &Log, seen: &SeenHost, cmd: &ToldCommand, track: &Track, seq: u64, entry: &Entry) -> bool
+fn may_name(
+    log: &Log,
+    seen: &SeenHost,
+    cmd: &ToldCommand,
+    track: &Track,
+    seq: u64,
+    entry: &Entry,
+) -> bool
     requires { bare_cmd cmd.now ≡ untold_of cmd.now }
     ensures { IsTrue result ↔ WritesAllowed seq entry.now (host_of seen.now cmd.now track.now) (settled_log_state log.now) }
 {

@@ -93,7 +93,12 @@ fn put_line(
 }
 
 /// The bytes of a content from an offset on and before the end.
-fn bytes_between(alloc: Global, content: &Content, offset: u64, end: u64) -> Result<Vec<u8>, OutOfMemory> {
+fn bytes_between(
+    alloc: Global,
+    content: &Content,
+    offset: u64,
+    end: u64,
+) -> Result<Vec<u8>, OutOfMemory> {
     let mut bytes = Vec::new(alloc);
     let mut stream = ContentStream::new(content);
     'lines: for j in 0..lines_of(end) {
@@ -104,7 +109,13 @@ fn bytes_between(alloc: Global, content: &Content, offset: u64, end: u64) -> Res
 }
 
 /// A read of at most so many bytes from an offset on.
-fn read(alloc: Global, m: u64, file: &Filed, offset: u64, count: u64) -> Result<Option<ToldAnswer>, OutOfMemory> {
+fn read(
+    alloc: Global,
+    m: u64,
+    file: &Filed,
+    offset: u64,
+    count: u64,
+) -> Result<Option<ToldAnswer>, OutOfMemory> {
     let Some(content) = content_of(file.bytes) else {
         return Ok(None);
     };
@@ -115,7 +126,12 @@ fn read(alloc: Global, m: u64, file: &Filed, offset: u64, count: u64) -> Result<
 }
 
 /// A question about a file.
-fn file_answer(alloc: Global, m: u64, file: &Filed, cmd: &ToldCommand) -> Result<Option<ToldAnswer>, OutOfMemory> {
+fn file_answer(
+    alloc: Global,
+    m: u64,
+    file: &Filed,
+    cmd: &ToldCommand,
+) -> Result<Option<ToldAnswer>, OutOfMemory> {
     match cmd {
         ToldCommand::Plain(Cmd::Verify { against, .. }) => Ok(Some(compared(m, file, against))),
         ToldCommand::Plain(Cmd::Read { offset, count, .. }) => {

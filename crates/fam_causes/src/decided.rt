@@ -52,7 +52,12 @@ fn decided_in(candidate: &Candidate, at: usize, cmd: &ToldCommand, me: Uuid) -> 
 }
 
 /// So in the first candidate.
-pub(crate) fn decided(hosts: &Hosts, candidates: &Vec<Candidate>, at: usize, cmd: &ToldCommand) -> Option<ToldAnswer>
+pub(crate) fn decided(
+    hosts: &Hosts,
+    candidates: &Vec<Candidate>,
+    at: usize,
+    cmd: &ToldCommand,
+) -> Option<ToldAnswer>
     ensures { IfSome result (λ wanted. DecidesSo hosts.now.seen.items candidates.now.items at cmd.now wanted) }
 {
     if candidates.is_empty() {

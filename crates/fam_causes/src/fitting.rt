@@ -25,7 +25,13 @@ use fam_settled::Log;
 use std::alloc::Global;
 
 /// Whether the first `m` entries of a log may be answered so.
-fn fits(alloc: Global, log: &Log, m: u64, cmd: &ToldCommand, told: &ToldAnswer) -> Result<bool, OutOfMemory>
+fn fits(
+    alloc: Global,
+    log: &Log,
+    m: u64,
+    cmd: &ToldCommand,
+    told: &ToldAnswer,
+) -> Result<bool, OutOfMemory>
     requires { m ≤ length (settled_and_pending log.now) }
     ensures { IfOk result (λ b. IsTrue b ↔ IsToldFit (take m (settled_and_pending log.now)) (bare_cmd cmd.now) told.now []) }
 {
@@ -33,7 +39,12 @@ fn fits(alloc: Global, log: &Log, m: u64, cmd: &ToldCommand, told: &ToldAnswer) 
 }
 
 /// An answer that fits the question about the first `m` entries of a log.
-fn fitting(alloc: Global, log: &Log, m: u64, cmd: &ToldCommand) -> Result<Option<ToldAnswer>, OutOfMemory>
+fn fitting(
+    alloc: Global,
+    log: &Log,
+    m: u64,
+    cmd: &ToldCommand,
+) -> Result<Option<ToldAnswer>, OutOfMemory>
     requires { m ≤ length (settled_and_pending log.now) }
     ensures { IfOk result (λ found. IfSome found (λ told. IsToldFit (take m (settled_and_pending log.now)) (bare_cmd cmd.now) told [])) }
 {
@@ -48,7 +59,13 @@ fn fitting(alloc: Global, log: &Log, m: u64, cmd: &ToldCommand) -> Result<Option
 }
 
 /// Whether what is told of an answer is known, and doesn't fit.
-fn is_unfit(alloc: Global, log: &Log, m: u64, cmd: &ToldCommand, answer: &HostAnswer) -> Result<bool, OutOfMemory>
+fn is_unfit(
+    alloc: Global,
+    log: &Log,
+    m: u64,
+    cmd: &ToldCommand,
+    answer: &HostAnswer,
+) -> Result<bool, OutOfMemory>
     requires { m ≤ length (settled_and_pending log.now) }
     ensures { IfOk result (λ b. IsTrue b → IsToldFit (take m (settled_and_pending log.now)) (bare_cmd cmd.now) (answer_told (answer_of answer.now)) [] → ⊥) }
 {

@@ -17,9 +17,16 @@ pub enum Cause {
     /// Its command is never answered so.
     NoAnswer,
     /// So few entries are shown. Before the command's mark, which stands in this line, no fewer than `floor` were settled.
-    ShownFew { shown: u64, floor: u64, mark: u64 },
+    ShownFew {
+        shown: u64,
+        floor: u64,
+        mark: u64,
+    },
     /// So many entries are shown, where there are no more than `most`.
-    ShownMany { shown: u64, most: u64 },
+    ShownMany {
+        shown: u64,
+        most: u64,
+    },
     /// The first entry of a listing that differs, and the one that was wanted; none where the listing ends.
     OtherTree {
         found: Option<Entry>,
@@ -32,7 +39,11 @@ pub enum Cause {
     /// The host's command names another entry.
     OtherEntry,
     /// So many entries are found, where `first` or `second` may be.
-    Found { found: u64, first: u64, second: u64 },
+    Found {
+        found: u64,
+        first: u64,
+        second: u64,
+    },
     /// The image isn't damaged so.
     OtherDamage,
 }

@@ -20,7 +20,6 @@ use crate::notes::found_other;
 use crate::refusals::{is_of_declared, refused_while};
 use fam_base::{Entry, HostName, OutOfMemory};
 use fam_history::ToldCommand;
-
 use fam_judging::{Candidate, GivenImage, Hosts};
 use fam_lines::Line;
 use std::alloc::Global;

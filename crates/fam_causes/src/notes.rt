@@ -21,7 +21,11 @@ fn findable(given: &GivenImage, settled: &Settled) -> Option<(u64, u64)>
 }
 
 /// So in the first candidate, where another count is found.
-pub(crate) fn found_other(given: &GivenImage, candidates: &Vec<Candidate>, n: u64) -> Option<(u64, u64)>
+pub(crate) fn found_other(
+    given: &GivenImage,
+    candidates: &Vec<Candidate>,
+    n: u64,
+) -> Option<(u64, u64)>
     ensures { IfSome result (λ p. (c : AnyCandidate) × (slice_get candidates.now.items 0 ≡ Some c)
         × ((m : ℕ) → MayFind given.now c.settled m ↔ ((m ≡ p.0) ⊎ (m ≡ p.1))) × (MayFind given.now c.settled n → ⊥)) }
 {

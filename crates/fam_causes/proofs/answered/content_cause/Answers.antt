@@ -10,5 +10,5 @@ use Rattle.fam_causes.proofs.answered.content_cause.Goals as goal
 pub returns-in-Played : goal.returns-in-Played
 returns-in-Played c given marks name answers =
     subst (λ (a : HostAnswer). IfOk c.tree_cause.result (λ found. IfSome found
-        (IsCause (asked given c.args.hosts.now c.args.candidates.now.items marks name answers (Some (line.Answered c.args.at a))))))
+    (IsCause (asked given c.args.hosts.now c.args.candidates.now.items marks name answers (Some (line.Answered c.args.at a))))))
     (sym c.in-Played.is) (c.tree_cause.ensures given c.args.hosts.now marks name answers)
