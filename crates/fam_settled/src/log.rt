@@ -58,11 +58,7 @@ fn add_beside(plan: &mut Plan, list: &mut Vec<Bytes>, added: Filed) -> Result<()
 }
 
 /// The same of bytes that another log may have too: their list is copied first.
-fn add_shared(
-    plan: &mut Plan,
-    shared: &mut Rc<Vec<Bytes>>,
-    added: Filed,
-) -> Result<(), OutOfMemory>
+fn add_shared(plan: &mut Plan, shared: &mut Rc<Vec<Bytes>>, added: Filed) -> Result<(), OutOfMemory>
     requires { MayBeAdded plan.old added.entry }
     ensures entries { OnOk result (plan.new.entries ≡ plan.old.entries ++ added.entry ∷ []) }
     ensures bytes { OnOk result (shared.new.value.items ≡ shared.old.value.items ++ added.bytes ∷ []) }
@@ -172,8 +168,8 @@ impl Log {
         Ok(())
     }
 
-    /// An entry of an image stands behind the others, with the bytes that its file has there. Bytes of which its file has more
-    /// are none of it, and zeros stand behind those of which it has fewer.
+    /// An entry of an image stands behind the others, with the bytes that its file has there: as many as its size says, the
+    /// others left out, and zeros behind where there are fewer.
     pub fn hold(&mut self, entry: &Entry, bytes: HeldBytes) -> Result<(), OutOfMemory>
         requires may { MayBeAdded (plan_of self.old) entry.now }
         requires none { self.old.pending ≡ None }

@@ -83,14 +83,7 @@ fn may_have_two(
 }
 
 /// Whether the two may first differ there.
-fn may_differ(
-    bytes: &Bytes,
-    source: &Bytes,
-    size: u64,
-    offset: u64,
-    found: u8,
-    wanted: u8,
-) -> bool
+fn may_differ(bytes: &Bytes, source: &Bytes, size: u64, offset: u64, found: u8, wanted: u8) -> bool
     requires { offset < size }
     ensures { IsTrue result ↔ MayDifferAt bytes.now source.now offset found wanted }
 {
