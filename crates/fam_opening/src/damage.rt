@@ -1,0 +1,1 @@
+//! What a damaged image tells, by the first fault of its reading.
