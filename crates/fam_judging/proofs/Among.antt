@@ -1,15 +1,13 @@
 -- Loops over candidates and hosts put states among others.
-use Rattle.std.proofs.Common.{◌≡◌, ◌<◌, ◌⊎◌, inl, inr, ℕ, zero, suc, ◌+◌, List, [], ◌∷◌, ◌++◌, map, Some, refl, sym, ◌∙◌, subst, arith}
+use Rattle.std.proofs.Common.{◌≡◌, ◌<◌, ◌⊎◌, inl, inr, ℕ, ◌+◌, List, map, Some, refl, sym, ◌∙◌, subst, arith}
 use Rattle.std.specs.List.{slice_get}
 use Rattle.std.proofs.lemmas.Option.{same_Some}
 use Rattle.fam_base.specs.Image.{Image}
 use Rattle.fam_journal.specs.Notes.{Note}
-use Rattle.fam_judge.specs.Possible.{Elsewhere, MayLead, Possible, StepsTo, Wrote, written}
+use Rattle.fam_judge.specs.Possible.{Elsewhere, MayLead, Possible, Wrote, written}
 use Rattle.fam_judging.specs.declared.candidate.Candidate.{Candidate}
-use Rattle.fam_judging.specs.Among.{LeadsBehind, LeadsBehindAll, LedBehind, PutAmong}
-use Rattle.fam_judging.specs.Pushing.{Pushes}
+use Rattle.fam_judging.specs.Among.{LeadsBehind, LeadsBehindAll, LedBehind, PutAmong, StepsAmong}
 use Rattle.fam_judging.proofs.Into.{below_stays, less_or_same, puts_puts}
-use Rattle.fam_judging.proofs.PushedInto.{pushes_all, pushes_into}
 
 -- nothing is put
 pub none_among : (P : Possible → Type 0) (Fine : Candidate → Type 0) (see : Candidate → Possible) (old new : List Candidate) → new ≡ old → PutAmong P Fine see old new
@@ -21,34 +19,22 @@ pub among_among : (P : Possible → Type 0) (Fine : Candidate → Type 0) (see :
     → PutAmong P Fine see old mid → PutAmong P Fine see mid new → PutAmong P Fine see old new
 among_among P Fine see old mid new a b = record { puts = puts_puts P (map see old) (map see mid) (map see new) a.puts b.puts; fine = λ all. b.fine (a.fine all) }
 
--- a candidate of a list with others behind is of the one or of the others
-place : (xs ys : List Candidate) (k : ℕ) (d : Candidate) → slice_get (xs ++ ys) k ≡ Some d → (slice_get xs k ≡ Some d) ⊎ ((j : ℕ) × (slice_get ys j ≡ Some d))
-place [] ys k d is = inr (k, is)
-place (c ∷ xs) ys zero d is = inl is
-place (c ∷ xs) ys (suc k) d is = place xs ys k d is
-
--- what is pushed is put among the others
-pub pushed_among : (P Q : Possible → Type 0) (Fine : Candidate → Type 0) (see : Candidate → Possible) (old new : List Candidate) → ((z : Possible) → P z → Q z)
-    → Pushes P Fine see old new → PutAmong Q Fine see old new
-pushed_among P Q Fine see old new weaker pushes = record {
-  puts = pushes_into see P Fine old new pushes Q weaker;
-  fine = λ all k d is. elim (place old pushes.news k d (subst (λ (l : List Candidate). slice_get l k ≡ Some d) pushes.is is)) [
-    | inl at ↦ all k d at
-    | inr at ↦ pushes.fine at.0 d at.1
-  ];
-}
-
 module _ (start : Image) (line : Note) (k : ℕ) (x w : Possible) (Fine : Candidate → Type 0) (see : Candidate → Possible) (old new : List Candidate) where
   -- where the line tells nothing of the entry nothing is put
   pub behind_none : ((wrote : Wrote start k x w) → Elsewhere k wrote.seq line) → new ≡ old → LeadsBehind start line k x w Fine see old new
   behind_none other same = record { among = none_among (MayLead start x line) Fine see old new same; all = λ z wrote not steps. absurd (not (other wrote)) }
 
   -- else the states are to which the line leads
-  pub behind_pushed : Wrote start k x w → Pushes (StepsTo start w line) Fine see old new → LeadsBehind start line k x w Fine see old new
-  behind_pushed wrote pushes = record {
-    among = pushed_among (StepsTo start w line) (MayLead start x line) Fine see old new
-        (λ z steps. record { first = w; before = written k wrote; steps = steps }) pushes;
-    all = λ z wrote not steps. pushes_all see (StepsTo start w line) Fine old new pushes z steps;
+  pub behind_steps : Wrote start k x w → StepsAmong start line w Fine see old new → LeadsBehind start line k x w Fine see old new
+  behind_steps wrote steps = record {
+    among = record {
+      puts = record {
+        kept = steps.into.puts.kept;
+        sound = λ z is. elim (steps.into.puts.sound z is) [ inl h ↦ inl h | inr h ↦ inr (record { first = w; before = written k wrote; steps = h }) ];
+      };
+      fine = steps.fine;
+    };
+    all = λ z other not there. steps.into.all z there;
   }
 
 module _ (start : Image) (line : Note) (k : ℕ) (x : Possible) (at : Candidate → Possible) (ws : List Candidate) (Fine : Candidate → Type 0) (see : Candidate → Possible) where

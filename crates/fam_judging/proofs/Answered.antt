@@ -26,7 +26,8 @@ use Rattle.fam_judging.specs.declared.lefts.Left.{Left}
 use Rattle.fam_judging.specs.declared.lefts.Lefts.{Lefts}
 use Rattle.fam_judging.specs.Lefts.{IsOfLefts, LeavesEndings, first, second}
 use Rattle.fam_judging.specs.Replies.{EndingState, possible_behind_answer, progress_at, progress_behind}
-use Rattle.fam_judging.specs.ReplyKinds.{SaysOfGiven, asker_of, ending_left, point_of}
+use Rattle.fam_judging.specs.Going.{HasGiven}
+use Rattle.fam_judging.specs.ReplyKinds.{asker_of, ending_left, point_of}
 use Rattle.fam_judging.proofs.ReplySteps.{IsNow, ends_step, step_ends}
 
 -- the host of a number
@@ -71,7 +72,7 @@ module _ (start : Image) (hosts : Hosts) (c : Candidate) (h : ℕ) (s : SeenHost
     others = λ q. refl;
   }
 
-  module _ (given : GivenImage) (is_of : SaysOfGiven start given c.settled) (r : Reply) (lefts : Lefts) (leaves : LeavesEndings given s cmd c.settled t r lefts) where
+  module _ (given : GivenImage) (is_of : HasGiven start given c.settled) (r : Reply) (lefts : Lefts) (leaves : LeavesEndings given s cmd c.settled t r lefts) where
     -- the state of a candidate that keeps what is left
     put_is : (l : Left) (d : Candidate) → KeepsLeft c h l d
         → possible_behind_answer (possible_of start hosts c) h (asker_of s cmd) r (ending_left start l.settled l.track) ≡ answered_possible start hosts h (Replied r) d

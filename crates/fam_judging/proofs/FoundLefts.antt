@@ -35,7 +35,8 @@ use Rattle.fam_judging.specs.declared.lefts.Lefts.{Lefts}
 use Rattle.fam_judging.specs.FoundLefts.{FoundLeft, PendingLeft, host_of}
 use Rattle.fam_judging.specs.Lefts.{IsOfLefts, LeavesEndings, first, only, second}
 use Rattle.fam_judging.specs.Replies.{Asker, EndingState, MayEnd, MeetsAtPoint, Point, found_at, told, untold}
-use Rattle.fam_judging.specs.ReplyKinds.{DeclinesEarly, DeclinesMet, IsDecidedCause, SaysOfGiven, asker_of, ending_left, params_in, point_of, same_ending, unmarked_ending}
+use Rattle.fam_judging.specs.Going.{HasGiven}
+use Rattle.fam_judging.specs.ReplyKinds.{DeclinesEarly, DeclinesMet, IsDecidedCause, asker_of, ending_left, params_in, point_of, same_ending, unmarked_ending}
 use Rattle.fam_judging.proofs.Leaves.{only_leaves, params_are}
 use Rattle.fam_judging.proofs.ReplyKinds.{declined, declines_met, decides_wish}
 
@@ -99,7 +100,7 @@ module _ (given : GivenImage) (seen : SeenHost) (cmd : ToldCommand) (t : Track) 
       by (Rattle.fam_rules.specs.declared.answers.Refused.TheVariants.LongPath limit) ruled is = ruled
       by why ruled is = is
 
-  module _ (s : Settled) (start : Image) (own : SaysOfGiven start given s) (e : EndingState) where
+  module _ (s : Settled) (start : Image) (own : HasGiven start given s) (e : EndingState) where
     who : Asker
     who = asker_of seen cmd
 

@@ -34,8 +34,9 @@ use Rattle.fam_judging.specs.declared.lefts.Left.{Left}
 use Rattle.fam_judging.specs.declared.lefts.Lefts.{Lefts}
 use Rattle.fam_judging.specs.Lefts.{IsOfLefts, LeavesEndings, first, only, second}
 use Rattle.fam_judging.specs.Replies.{EndingState, MayEnd}
+use Rattle.fam_judging.specs.Going.{HasGiven}
 use Rattle.fam_judging.specs.ReplyKinds.{AreParamsOf, DeclinesEarly, DeclinesMet, FailsGate, FailsHeader, FailsSlot, FailsSuper}
-use Rattle.fam_judging.specs.ReplyKinds.{IsDecidedCause, SaysOfGiven, asker_of, damage_in, damage_of_state, ending_left, params_in, point_of}
+use Rattle.fam_judging.specs.ReplyKinds.{IsDecidedCause, asker_of, damage_in, damage_of_state, ending_left, params_in, point_of}
 use Rattle.fam_judging.proofs.ReplyKinds.{bad_header, bad_slot, declined, declines_early, fails_gate, fails_header, fails_slot, fails_super, no_superblock}
 
 -- The superblock and the damage.
@@ -68,7 +69,7 @@ module _ (start : Image) where
 
   module _ (given : GivenImage) where
     -- the parameters of a candidate's state
-    pub params_are : (s : Settled) → SaysOfGiven start given s → AreParamsOf (params_in given s) (settled_state start s)
+    pub params_are : (s : Settled) → HasGiven start given s → AreParamsOf (params_in given s) (settled_state start s)
     params_are (settled.Log log) own = record { some = λ p e. ap Some (sym e); has = λ p e. sym (same_Some log.params p e); master = refl }
     params_are settled.Given own =
         subst (AreParamsOf given.params) (sym own.state)
@@ -76,7 +77,7 @@ module _ (start : Image) where
     params_are settled.Halted own = record { some = λ p e. absurd e; has = λ p e. absurd cc; master = refl }
 
     -- its damage
-    pub damage_is : (s : Settled) → SaysOfGiven start given s → damage_in given s ≡ damage_of_state (settled_state start s)
+    pub damage_is : (s : Settled) → HasGiven start given s → damage_in given s ≡ damage_of_state (settled_state start s)
     damage_is (settled.Log log) own = refl
     damage_is settled.Given own = sym (ap damage_of_state own.state)
     damage_is settled.Halted own = refl
@@ -109,7 +110,7 @@ ok_map (Err e) P Q is f = tt
 module _ (given : GivenImage) (seen : SeenHost) (cmd : ToldCommand) (s : Settled) (t : Track) where
   -- so it is one that a reply leaves
   pub only_leaves : (reply : Reply) (b : Bool) (next : Track) (P : Type 0) → (IsTrue b ↔ P)
-      → ((start : Image) → SaysOfGiven start given s → (e : EndingState) → MayEnd (asker_of seen cmd) (point_of start s t) reply e ↔ (P × (e ≡ ending_left start s next)))
+      → ((start : Image) → HasGiven start given s → (e : EndingState) → MayEnd (asker_of seen cmd) (point_of start s t) reply e ↔ (P × (e ≡ ending_left start s next)))
       → LeavesEndings given seen cmd s t reply (only b s next)
   only_leaves reply b next P is ends start own e =
       let left = only_left start b s next P is e in let end = ends start own e in (λ l. end.1 (left.0 l), λ k. left.1 (end.0 k))

@@ -7,19 +7,17 @@ use Rattle.fam_base.specs.Image.{Image}
 use Rattle.fam_history.specs.declared.command.ToldCommand.{ToldCommand}
 use Rattle.fam_journal.specs.Notes.{Note}
 use Rattle.fam_judge.specs.Covering.{LeadsStates}
-use Rattle.fam_judge.specs.Possible.{Possible, StepsTo, Wrote}
+use Rattle.fam_judge.specs.Possible.{Possible, Wrote}
 use Rattle.fam_lines.specs.declared.host.SeenHost.{SeenHost}
 use Rattle.fam_judging.specs.declared.candidate.Candidate.{Candidate}
 use Rattle.fam_judging.specs.declared.candidate.Settled.{Settled}
 use Rattle.fam_judging.specs.declared.candidate.Track.{Track}
 use Rattle.fam_judging.specs.declared.given.GivenImage.{GivenImage}
-use Rattle.fam_judging.specs.Among.{AllFine, LeadsAll, LeadsAmong, LeadsBehindAll, LedBehind, WritesAmong}
+use Rattle.fam_judging.specs.Among.{AllFine, LeadsAll, LeadsAmong, LeadsBehindAll, LedBehind, StepsAmong, WritesAmong}
 use Rattle.fam_judging.specs.Candidates.{progress_list}
 use Rattle.fam_judging.specs.Going.{HasGiven}
 use Rattle.fam_judging.specs.Pushing.{IsFine, Pushes}
-use Rattle.fam_judging.proofs.Among.{pushed_among}
 use Rattle.fam_judging.proofs.Into.{leads_first, leads_more, leads_next, leads_none}
-use Rattle.fam_judging.proofs.PushedInto.{pushes_all, pushes_into}
 
 -- a copy is fine
 pub copy_fine : (start : Image) (given : GivenImage) (seen : List SeenHost) (c d : Candidate) → d.settled ≡ c.settled → d.tracks.items ≡ c.tracks.items
@@ -55,14 +53,8 @@ module _ (start : Image) (line : Note) (x : Possible) (Fine : Candidate → Type
   }
 
   -- where the line leads from the state at once
-  pub among_first : (old new : List Candidate) → Pushes (StepsTo start x line) Fine see old new → LeadsAmong start line 0 x Fine see old new
-  among_first old new pushes = record {
-    into = leads_first start line x (map see old) (map see new) (record {
-      puts = pushes_into see (StepsTo start x line) Fine old new pushes (StepsTo start x line) (λ z steps. steps);
-      all = pushes_all see (StepsTo start x line) Fine old new pushes;
-    });
-    fine = (pushed_among (StepsTo start x line) (StepsTo start x line) Fine see old new (λ z steps. steps) pushes).fine;
-  }
+  pub among_first : (old new : List Candidate) → StepsAmong start line x Fine see old new → LeadsAmong start line 0 x Fine see old new
+  among_first old new steps = record { into = leads_first start line x (map see old) (map see new) steps.into; fine = steps.fine }
 
   -- where a host more may have named an entry before
   pub among_next : (n : ℕ) (old mid new : List Candidate) → LeadsAmong start line n x Fine see old mid → WritesAmong start line n x Fine see mid new

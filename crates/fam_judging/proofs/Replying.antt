@@ -13,7 +13,6 @@ use Rattle.fam_judge.specs.Possible.{Possible, StepsTo}
 use Rattle.fam_judge.proofs.Members.{changed_count}
 use Rattle.fam_judge.proofs.Places.{runs_at}
 use Rattle.fam_lines.specs.declared.answer.HostAnswer.{HostAnswer}
-use Rattle.fam_lines.specs.declared.answer.HostAnswer.TheVariants as given
 use Rattle.fam_lines.specs.declared.host.SeenHost.{SeenHost}
 use Rattle.fam_lines.specs.declared.line.Line.TheVariants as line
 use Rattle.fam_lines.specs.Lines.{answer_of, note_of_line}
@@ -32,12 +31,10 @@ use Rattle.fam_judging.specs.declared.lefts.Left.{Left}
 use Rattle.fam_judging.specs.declared.lefts.Lefts.{Lefts}
 use Rattle.fam_judging.specs.Going.{HasGiven, command_in, running, stage_in}
 use Rattle.fam_judging.specs.Lefts.{IsOfLefts, LeavesEndings, first, second}
-use Rattle.fam_judging.specs.NamedLefts.{TellsCommand}
 use Rattle.fam_judging.specs.Plain.{IsFault}
-use Rattle.fam_judging.specs.PlainAnswers.{IsPlainAnswer}
 use Rattle.fam_judging.specs.Pushing.{IsFine, Pushes}
 use Rattle.fam_judging.specs.Replies.{Asker, EndingState, MayEnd, MeetsAtPoint, Point, ReachesPoint, told, untold, unmarked, marked, stands, meets, names}
-use Rattle.fam_judging.specs.ReplyKinds.{SaysOfGiven, asker_of, ending_left, point_of}
+use Rattle.fam_judging.specs.ReplyKinds.{asker_of, ending_left, point_of}
 use Rattle.fam_judging.specs.Told.{AreToldCommands, IsToldCommand}
 use Rattle.fam_judging.proofs.Answered.{answered_runs, put_steps, steps_put}
 use Rattle.fam_judging.proofs.Goings.{goes_not, goes_there}
@@ -46,10 +43,6 @@ use Rattle.fam_judging.proofs.Pushes.{push_none, push_one}
 use Rattle.fam_judging.proofs.Writtens.{pushes_both}
 
 -- Commands.
-
--- a command of which all is told
-pub tells_told : (c : ToldCommand) → IsToldCommand c → TellsCommand c
-tells_told c is = record { told = sym is.same; fill = is.filled; sound = is.sound }
 
 -- the place of a running command
 commanded : (o : Option SeenHost) (p : Option (Option ToldCommand)) (cmd : ToldCommand) → command_in o p ≡ Some cmd → p ≡ Some (Some cmd)
@@ -61,10 +54,9 @@ commanded (Some s) (Some c) cmd is = by s.runs is
     by true is = ap Some is
     by false is = absurd cc
 
--- so it is of a running one
-pub tells_running : (hosts : Hosts) (h : ℕ) (cmd : ToldCommand) → AreToldCommands hosts → Some cmd ≡ running hosts.seen.items hosts.commands.items h → TellsCommand cmd
-tells_running hosts h cmd all is =
-    tells_told cmd (all h cmd (commanded (slice_get hosts.seen.items h) (slice_get hosts.commands.items h) cmd (sym is)))
+-- all is told of a running command
+pub tells_running : (hosts : Hosts) (h : ℕ) (cmd : ToldCommand) → AreToldCommands hosts → Some cmd ≡ running hosts.seen.items hosts.commands.items h → IsToldCommand cmd
+tells_running hosts h cmd all is = all h cmd (commanded (slice_get hosts.seen.items h) (slice_get hosts.commands.items h) cmd (sym is))
 
 -- Where a state comes from.
 
@@ -123,11 +115,6 @@ module _ (who : Asker) (at : Point) where
 
 -- What is said of the image that was handed in.
 
-says : (start : Image) (given : GivenImage) (s : Settled) → HasGiven start given s → SaysOfGiven start given s
-says start given (settled.Log log) has = tt
-says start given settled.Given has = has
-says start given settled.Halted has = tt
-
 -- what is left is the image that was handed in where it was before
 pub left_said : (start : Image) (given : GivenImage) (s : SeenHost) (cmd : ToldCommand) (old : Settled) (t : Track) (r : Reply) (lefts : Lefts) → LeavesEndings given s cmd old t r lefts
     → (l : Left) → (lefts.first ≡ Some l) ⊎ (lefts.second ≡ Some l) → HasGiven start given old → HasGiven start given l.settled
@@ -137,7 +124,7 @@ left_said start given s cmd old t r lefts leaves l there has = by old leaves has
     one_of e is (inl there) = first l there is
     one_of e is (inr there) = second l there is
 
-    same : (old : Settled) → LeavesEndings given s cmd old t r lefts → SaysOfGiven [] given old → origin_of (settled_state [] l.settled) ≡ origin_of (settled_state [] old)
+    same : (old : Settled) → LeavesEndings given s cmd old t r lefts → HasGiven [] given old → origin_of (settled_state [] l.settled) ≡ origin_of (settled_state [] old)
     same old leaves own =
         ends_origin (asker_of s cmd) (point_of [] old t) r (ending_left [] l.settled l.track) ((leaves [] own (ending_left [] l.settled l.track)).0 (one_of _ refl there))
 
@@ -237,7 +224,7 @@ module _ (start : Image) (given : GivenImage) (hosts : Hosts) (c : Candidate) (h
       push_one (Kept (Some l)) Fine see old put.d new put.added
       (goes_there (see put.d)
       (record {
-        steps = put_steps start hosts c h s cmd t host_runs is_seen o.told is_track given (says start given c.settled has) r lefts leaves l put.d (there l refl) put.behind;
+        steps = put_steps start hosts c h s cmd t host_runs is_seen o.told is_track given has r lefts leaves l put.d (there l refl) put.behind;
         l = l;
         there = refl;
         is = λ d keeps. alike l put.d d put.behind keeps;
@@ -252,7 +239,7 @@ module _ (start : Image) (given : GivenImage) (hosts : Hosts) (c : Candidate) (h
       (one_put lefts.first (λ l is. inl is) old put.mid put.first) (one_put lefts.second (λ l is. inr is) put.mid new put.second)
       (λ z k. k.steps) (λ z k. k.steps)
       (λ z steps.
-      let k = steps_put start hosts c h s cmd t host_runs is_seen o.told is_track given (says start given c.settled has) r lefts leaves z steps in
+      let k = steps_put start hosts c h s cmd t host_runs is_seen o.told is_track given has r lefts leaves z steps in
       elim k.there [
         | inl there ↦ inl (record { steps = steps; l = k.l; there = there; is = k.is })
         | inr there ↦ inr (record { steps = steps; l = k.l; there = there; is = k.is })
@@ -265,14 +252,9 @@ module _ (start : Image) (given : GivenImage) (hosts : Hosts) (c : Candidate) (h
       subst (λ (k : Answer). Pushes (StepsTo start x (Answered h k)) (IsFine start given (answered_seen h k hosts.seen.items)) (answered_possible start hosts h k) old new)
       (sym is) (all_put old new put)
 
--- Answers that show nothing.
+-- Replies.
 
 -- an answer other than a fault of the media is a reply
 pub no_fault : (a : Answer) → (IsFault a → ⊥) → (r : Reply) × (a ≡ Replied r)
 no_fault (Replied r) other = (r, refl)
 no_fault (MediaFault at) other = absurd (other tt)
-
--- such one is none
-pub plain_replies : (a : HostAnswer) → IsPlainAnswer a → IsFault (answer_of a) → ⊥
-plain_replies (given.MediaFault at) plain fault = plain
-plain_replies a plain fault = fault

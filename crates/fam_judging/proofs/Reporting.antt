@@ -27,7 +27,8 @@ use Rattle.fam_judging.specs.declared.lefts.Lefts.{Lefts}
 use Rattle.fam_judging.specs.FoundLefts.{host_of}
 use Rattle.fam_judging.specs.Lefts.{LeavesEndings, first, only}
 use Rattle.fam_judging.specs.Replies.{Asker, EndingState, MayEnd, Point, ending_at, told_at, unmarked}
-use Rattle.fam_judging.specs.ReplyKinds.{SaysOfGiven, MayMark, asker_of, ending_left, point_of}
+use Rattle.fam_judging.specs.Going.{HasGiven}
+use Rattle.fam_judging.specs.ReplyKinds.{MayMark, asker_of, ending_left, point_of}
 use Rattle.fam_judging.specs.Reporting.{DamagedReport, ReportPlace, ReportsBegun, ReportsMarked, reported_ending}
 use Rattle.fam_judging.specs.Showing.{IsShown}
 use Rattle.fam_judging.proofs.Appended.{no_left, one, the_left}
@@ -139,24 +140,24 @@ bad_counts (Some m) origin damage gate = refl
 
 module _ (start : Image) (given : GivenImage) where
   -- the report of a damaged image leaves it as it is
-  damaged_kept : (s : Settled) (report : Report) (o : Option ℕ) → SaysOfGiven start given s → DamagedReport given s report → shows_count o (settled_state start s) ≡ settled_state start s
+  damaged_kept : (s : Settled) (report : Report) (o : Option ℕ) → HasGiven start given s → DamagedReport given s report → shows_count o (settled_state start s) ≡ settled_state start s
   damaged_kept (settled.Log l) report o own is = absurd is
   damaged_kept settled.Given report o own is = ap (shows_count o) own.state ∙ bad_counts o _ _ _ ∙ sym own.state
   damaged_kept settled.Halted report o own is = bad_counts o _ _ _
 
-  damaged_allowed : (s : Settled) (report : Report) (host : HostPast) → SaysOfGiven start given s → DamagedReport given s report → ReportAllowed report host (settled_state start s)
+  damaged_allowed : (s : Settled) (report : Report) (host : HostPast) → HasGiven start given s → DamagedReport given s report → ReportAllowed report host (settled_state start s)
   damaged_allowed (settled.Log l) report host own is = absurd is
   damaged_allowed settled.Given report host own is = subst (ReportAllowed report host) (sym own.state) (is ∙ own.report)
   damaged_allowed settled.Halted report host own is = is
 
   -- one that stands right behind the start is such one
-  allowed_begun : (s : Settled) (report : Report) (host : HostPast) → host.floor ≡ None → SaysOfGiven start given s → ReportAllowed report host (settled_state start s) → DamagedReport given s report
+  allowed_begun : (s : Settled) (report : Report) (host : HostPast) → host.floor ≡ None → HasGiven start given s → ReportAllowed report host (settled_state start s) → DamagedReport given s report
   allowed_begun (settled.Log l) report host none own is = let no : None ≡ Some is.bounds.floor = sym none ∙ is.bounds.marked in absurd cc
   allowed_begun settled.Given report host none own is = let same : report ≡ damaged_report (past.Given start) = subst (ReportAllowed report host) own.state is in same ∙ sym own.report
   allowed_begun settled.Halted report host none own is = is
 
   -- where there is no log
-  allowed_damaged : (s : Settled) (d : past.Damage) (report : Report) (host : HostPast) → Rattle.fam_judging.specs.ReplyKinds.damage_in given s ≡ Some d → SaysOfGiven start given s
+  allowed_damaged : (s : Settled) (d : past.Damage) (report : Report) (host : HostPast) → Rattle.fam_judging.specs.ReplyKinds.damage_in given s ≡ Some d → HasGiven start given s
       → ReportAllowed report host (settled_state start s) → DamagedReport given s report
   allowed_damaged (settled.Log l) d report host is_bad own is = absurd cc
   allowed_damaged settled.Given d report host is_bad own is = let same : report ≡ damaged_report (past.Given start) = subst (ReportAllowed report host) own.state is in same ∙ sym own.report
@@ -176,12 +177,12 @@ module _ (given : GivenImage) (seen : SeenHost) (c : ToldCommand) (s : Settled) 
     }) (both.1 ∙ state start own both.0.2),
   ))
     where
-      state : (start : Image) → SaysOfGiven start given s → DamagedReport given s report → ending_left start s (record t { floor = None }) ≡ reported_ending report
+      state : (start : Image) → HasGiven start given s → DamagedReport given s report → ending_left start s (record t { floor = None }) ≡ reported_ending report
           (record (point_of start s t) { floor = None })
       state start own is = ap (λ (k : State). let e : EndingState = record { state = k; floor = None; wrote = option_map named_of t.wrote } in e) (sym (damaged_kept start given s report
           (reported_count report.log) own is))
 
-      out : (start : Image) → SaysOfGiven start given s → (e : EndingState)
+      out : (start : Image) → HasGiven start given s → (e : EndingState)
           → (ReportsBegun (asker_of seen c) (point_of start s t) report × (e ≡ reported_ending report (record (point_of start s t) { floor = None })))
           ⊎ (ReportsMarked (asker_of seen c) (point_of start s t) report × (e ≡ reported_ending report (point_of start s t)))
           → ((stage_shape t.stage ≡ Begun) × (untold_of c ≡ Fsck) × DamagedReport given s report) × (e ≡ ending_left start s (record t { floor = None }))
@@ -204,11 +205,11 @@ module _ (given : GivenImage) (seen : SeenHost) (c : ToldCommand) (s : Settled) 
     }) (both.1 ∙ state start own both.0.2),
   ))
     where
-      state : (start : Image) → SaysOfGiven start given s → DamagedReport given s report → ending_left start s t ≡ reported_ending report (point_of start s t)
+      state : (start : Image) → HasGiven start given s → DamagedReport given s report → ending_left start s t ≡ reported_ending report (point_of start s t)
       state start own is = ap (λ (k : State). let e : EndingState = record { state = k; floor = t.floor; wrote = option_map named_of t.wrote } in e) (sym (damaged_kept start given s report
           (reported_count report.log) own is))
 
-      out : (start : Image) → SaysOfGiven start given s → (e : EndingState)
+      out : (start : Image) → HasGiven start given s → (e : EndingState)
           → (ReportsBegun (asker_of seen c) (point_of start s t) report × (e ≡ reported_ending report (record (point_of start s t) { floor = None })))
           ⊎ (ReportsMarked (asker_of seen c) (point_of start s t) report × (e ≡ reported_ending report (point_of start s t)))
           → (MayMark (stage_shape t.stage) × (untold_of c ≡ Fsck) × DamagedReport given s report) × (e ≡ ending_left start s t)

@@ -34,7 +34,8 @@ use Rattle.fam_judging.specs.declared.lefts.Lefts.{Lefts}
 use Rattle.fam_judging.specs.FoundLefts.{host_of}
 use Rattle.fam_judging.specs.Lefts.{LeavesEndings, first}
 use Rattle.fam_judging.specs.Replies.{Asker, EndingState, MayEnd, Point, ending_at, told_at}
-use Rattle.fam_judging.specs.ReplyKinds.{SaysOfGiven, MayMark, asker_of, damage_in, damage_of_state, ending_left, point_of}
+use Rattle.fam_judging.specs.Going.{HasGiven}
+use Rattle.fam_judging.specs.ReplyKinds.{MayMark, asker_of, damage_in, damage_of_state, ending_left, point_of}
 use Rattle.fam_judging.specs.Showing.{IsShown, IsAnswerTold, ShowsAnswer, ShowsTold, shown_ending}
 use Rattle.fam_judging.proofs.ReplyPlaces.{comes_marked, marked_of}
 use Rattle.fam_judging.proofs.Appended.{no_left, one, the_left}
@@ -172,7 +173,7 @@ question_told log m seen c t answer listed r by told = (
 
 module _ (given : GivenImage) (seen : SeenHost) (c : ToldCommand) (t : Track) (m : ℕ) (r : Reply) (class : reply_class r ≡ Showing m) where
   -- where nothing is shown nothing is left
-  pub none_left : (s : Settled) → ((start : Image) → SaysOfGiven start given s → ShowsAnswer (asker_of seen c) (point_of start s t) m r → ⊥) → LeavesEndings given seen c s t r (one None)
+  pub none_left : (s : Settled) → ((start : Image) → HasGiven start given s → ShowsAnswer (asker_of seen c) (point_of start s t) m r → ⊥) → LeavesEndings given seen c s t r (one None)
   none_left s none start own e =
       (λ l. absurd (no_left start e l), λ ends. absurd (none start own (showing (asker_of seen c) (point_of start s t) e m r class ends).0))
 

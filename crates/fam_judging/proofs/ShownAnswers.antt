@@ -1,53 +1,36 @@
--- Answers that show something of the first entries and list nothing.
+-- Answers that show something of the first entries.
 use Rattle.std.specs.Prelude.{Vec}
 use Rattle.std.specs.Global.{Global}
-use Rattle.std.proofs.Common.{◌≡◌, ◌⊎◌, inl, inr, ℕ, true, List, [], length, take, Option, Some, None, refl, ap, ap₂, sym, ◌∙◌, subst}
+use Rattle.std.proofs.Common.{◌≡◌, ◌⊎◌, inl, inr, ℕ, Bool, true, false, List, [], length, Option, Some, None, refl, ap, ap₂, sym, ◌∙◌, subst}
+use Rattle.std.specs.Prelude.{is_some, not}
 use Rattle.std.proofs.lemmas.Option.{same_Some}
 use Rattle.fam_base.specs.declared.cmd.Cmd.{Cmd}
-use Rattle.fam_base.specs.declared.cmd.Cmd.TheVariants as cmd
 use Rattle.fam_base.specs.declared.entry.Entry.{Entry}
 use Rattle.fam_commands.specs.ReplyClasses.{Showing, reply_class}
 use Rattle.fam_format.specs.Tree.{Tree, replay}
+use Rattle.fam_history.specs.Answers.{none_differs}
 use Rattle.fam_history.specs.declared.answer.ToldAnswer.{ToldAnswer}
 use Rattle.fam_history.specs.declared.answer.ToldAnswer.TheVariants as told
-use Rattle.fam_history.specs.declared.command.ToldCommand.{ToldCommand}
-use Rattle.fam_history.specs.ToldAnswers.{answer_told, reply_told}
+use Rattle.fam_history.specs.ToldAnswers.{answer_told, checked_told, first_told, reply_told}
 use Rattle.fam_journal.specs.Notes.{Answer, MediaFault, Replied}
-use Rattle.fam_journal.specs.Past as past
-use Rattle.fam_journal.specs.Past.{State}
-use Rattle.fam_judge.specs.Fitting.{AskFits, QuestionFits}
+use Rattle.fam_judge.specs.Fitting.{AskFits}
+use Rattle.fam_lines.specs.Behind.{NamesFirst}
 use Rattle.fam_lines.specs.declared.answer.HostAnswer.{HostAnswer}
 use Rattle.fam_lines.specs.declared.answer.HostAnswer.TheVariants as given
-use Rattle.fam_lines.specs.declared.host.SeenHost.{SeenHost}
-use Rattle.fam_lines.specs.Lines.{answer_of, untold_of}
+use Rattle.fam_lines.specs.Lines.{answer_of}
 use Rattle.fam_lines.specs.Resolved.{rise_behind}
 use Rattle.fam_lines.proofs.Trees.{in_order, keyed_replay, replayed_values, values_replayed}
+use Rattle.fam_lines.proofs.Whole.{counts_named}
 use Rattle.fam_tree.specs.Keyed.{IsKeyed}
 use Rattle.fam_rules.specs.declared.answers.Checked.{Checked}
 use Rattle.fam_rules.specs.Asks.{File, entries_of}
 use Rattle.fam_rules.specs.Reply as reply
 use Rattle.fam_rules.specs.Reply.{Reply}
-use Rattle.fam_settled.specs.Told.{IsNoCheck, bare_cmd, listed_of}
-use Rattle.fam_judging.specs.Candidates.{settled_state}
-use Rattle.fam_judging.specs.declared.candidate.Settled.{Settled}
-use Rattle.fam_judging.specs.declared.candidate.Track.{Track}
-use Rattle.fam_judging.specs.declared.given.GivenImage.{GivenImage}
-use Rattle.fam_judging.specs.declared.lefts.Left.{Left}
-use Rattle.fam_judging.specs.declared.lefts.Lefts.{Lefts}
-use Rattle.fam_judging.specs.Lefts.{LeavesEndings}
-use Rattle.fam_judging.specs.NamedLefts.{TellsCommand}
-use Rattle.fam_judging.specs.Plain.{IsFault}
-use Rattle.fam_judging.specs.PlainAnswers.{IsPlayedAnswer, IsShownAnswer, entries_in}
-use Rattle.fam_judging.specs.Replies.{Point, told_at}
-use Rattle.fam_judging.specs.ReplyKinds.{asker_of, point_of}
+use Rattle.fam_settled.specs.Told.{listed_of}
+use Rattle.fam_judging.specs.PlainAnswers.{IsPlainAnswer, IsShownAnswer, entries_in}
 use Rattle.fam_judging.specs.Showing.{IsAnswerTold}
-use Rattle.fam_judging.proofs.Appended.{one}
-use Rattle.fam_judging.proofs.Showing.{ask_shape, none_left}
-
--- such an answer is no fault
-pub shown_replies : (a : HostAnswer) → IsShownAnswer a → IsFault (answer_of a) → ⊥
-shown_replies (given.MediaFault at) shown fault = shown
-shown_replies a shown fault = fault
+use Rattle.fam_judging.specs.StepLines.{IsStepAnswer}
+use Rattle.fam_judging.proofs.Showing.{ask_shape}
 
 -- the reply that alone is told so, where it shows something and lists nothing
 abbrev reply_from : ToldAnswer → Option Reply
@@ -82,28 +65,54 @@ told_alone r is none = record {
   ];
 }
 
+-- Checks.
+
+-- a first path that is named just where some path differs is told
+first_same : (b : Bool) (first : Option (List ℕ)) → is_some first ≡ not b → first_told b first ≡ first
+first_same true None names = refl
+first_same true (Some path) names = absurd cc
+first_same false None names = absurd cc
+first_same false (Some path) names = refl
+
+-- so all of such a check is
+pub named_told : (counts : Checked) → NamesFirst counts → checked_told counts ≡ counts
+named_told counts names = ap (λ (o : Option (List ℕ)). record counts { first = o }) (first_same (none_differs counts.missing counts.extra counts.changed) counts.first names)
+
+-- what is told of a check is told of no other reply
+counted_told : (m : ℕ) (counts : Checked) → NamesFirst counts → IsAnswerTold (told.Checked m (checked_told counts)) [] (reply.Checks m counts)
+counted_told m counts names = record { told = refl; lines = refl; alone = λ files c other fits same listed. by files c other fits same }
+  where
+    by : (files : List File) (c : Cmd) (other : Reply) → AskFits files c other → reply_told other ≡ told.Checked m (checked_told counts) → other ≡ reply.Checks m counts
+    by files c (reply.Checks n given) fits same =
+        let many : n ≡ m = cc in
+        let told_same : checked_told given ≡ checked_told counts = cc in
+        ap₂ (λ (k : ℕ) (x : Checked). reply.Checks k x) many (sym (named_told given (counts_named files c n given fits)) ∙ told_same ∙ named_told counts names)
+    by files c other fits same = absurd cc
+
+-- Answers.
+
 -- what such an answer is
 record IsShownReply (a : HostAnswer) (r : Reply) : Type 0 where
   told : IsAnswerTold (reply_told r) [] r
   class : reply_class r ≡ Showing (entries_in a)
-  other : (m : ℕ) (counts : Checked) → r ≡ reply.Checks m counts → ⊥
 
 -- by its kind
-shown_reply : (a : HostAnswer) → IsShownAnswer a → (r : Reply) × (answer_of a ≡ Replied r) × IsShownReply a r
-shown_reply (given.Mounted m) is = (reply.Mounted m, refl, record { told = told_alone (reply.Mounted m) refl refl; class = refl; other = λ k counts e. cc })
-shown_reply (given.Same m) is = (reply.Same m, refl, record { told = told_alone (reply.Same m) refl refl; class = refl; other = λ k counts e. cc })
-shown_reply (given.Differs m offset found wanted) is =
-    (reply.Differs m offset found wanted, refl, record { told = told_alone (reply.Differs m offset found wanted) refl refl; class = refl; other = λ k counts e. cc })
-shown_reply (given.Length m size wanted) is = (reply.Length m size wanted, refl, record { told = told_alone (reply.Length m size wanted) refl refl; class = refl; other = λ k counts e. cc })
-shown_reply (given.Bytes m bytes) is = (reply.Bytes m bytes, refl, record { told = told_alone (reply.Bytes m bytes) refl refl; class = refl; other = λ k counts e. cc })
-shown_reply (given.NotFound m) is = (reply.NotFound m, refl, record { told = told_alone (reply.NotFound m) refl refl; class = refl; other = λ k counts e. cc })
-shown_reply (given.IsDirectory m) is = (reply.IsDirectory m, refl, record { told = told_alone (reply.IsDirectory m) refl refl; class = refl; other = λ k counts e. cc })
-shown_reply a is = absurd is
+shown_reply : (a : HostAnswer) → IsShownAnswer a → IsStepAnswer a → (r : Reply) × (answer_of a ≡ Replied r) × IsShownReply a r
+shown_reply (given.Mounted m) is all = (reply.Mounted m, refl, record { told = told_alone (reply.Mounted m) refl refl; class = refl })
+shown_reply (given.Same m) is all = (reply.Same m, refl, record { told = told_alone (reply.Same m) refl refl; class = refl })
+shown_reply (given.Differs m offset found wanted) is all =
+    (reply.Differs m offset found wanted, refl, record { told = told_alone (reply.Differs m offset found wanted) refl refl; class = refl })
+shown_reply (given.Length m size wanted) is all = (reply.Length m size wanted, refl, record { told = told_alone (reply.Length m size wanted) refl refl; class = refl })
+shown_reply (given.Bytes m bytes) is all = (reply.Bytes m bytes, refl, record { told = told_alone (reply.Bytes m bytes) refl refl; class = refl })
+shown_reply (given.NotFound m) is all = (reply.NotFound m, refl, record { told = told_alone (reply.NotFound m) refl refl; class = refl })
+shown_reply (given.IsDirectory m) is all = (reply.IsDirectory m, refl, record { told = told_alone (reply.IsDirectory m) refl refl; class = refl })
+shown_reply (given.Checks m counts) is all = (reply.Checks m counts, refl, record { told = counted_told m counts all; class = refl })
+shown_reply a is all = absurd is
 
 -- so of its reply
-shown_is : (a : HostAnswer) → IsShownAnswer a → (r : Reply) → answer_of a ≡ Replied r → IsShownReply a r
-shown_is a is r same =
-    let one = shown_reply a is in
+shown_is : (a : HostAnswer) → IsShownAnswer a → IsStepAnswer a → (r : Reply) → answer_of a ≡ Replied r → IsShownReply a r
+shown_is a is all r same =
+    let one = shown_reply a is all in
     let e : one.0 ≡ r = same_Some one.0 r (ap reply_in (sym one.1 ∙ same)) in
     subst (IsShownReply a) e one.2
   where
@@ -112,48 +121,14 @@ shown_is a is r same =
     reply_in (MediaFault at) = None
 
 -- no other reply tells the same
-pub is_told : (a : HostAnswer) → IsShownAnswer a → (r : Reply) → answer_of a ≡ Replied r → (t : ToldAnswer) → t ≡ answer_told (answer_of a) → IsAnswerTold t [] r
-is_told a is r same t told = subst (λ (u : ToldAnswer). IsAnswerTold u [] r) (sym (told ∙ ap (λ (k : Answer). answer_told k) same)) (shown_is a is r same).told
+pub is_told : (a : HostAnswer) → IsShownAnswer a → IsStepAnswer a → (r : Reply) → answer_of a ≡ Replied r → (t : ToldAnswer) → t ≡ answer_told (answer_of a) → IsAnswerTold t [] r
+is_told a is all r same t told = subst (λ (u : ToldAnswer). IsAnswerTold u [] r) (sym (told ∙ ap (λ (k : Answer). answer_told k) same)) (shown_is a is all r same).told
 
 -- it is of so many entries
-pub is_of : (a : HostAnswer) → IsShownAnswer a → (r : Reply) → answer_of a ≡ Replied r → reply_class r ≡ Showing (entries_in a)
-is_of a is r same = (shown_is a is r same).class
-
--- Checks.
-
--- a check is answered with what it counted
-not_asked : (files : List File) (k : Cmd) (r : Reply) → (IsNoCheck k → ⊥) → ((m : ℕ) (counts : Checked) → r ≡ reply.Checks m counts → ⊥)
-    → AskFits files k r → ⊥
-not_asked files (cmd.Check listing) r check other fits = other (length files) fits.0 fits.1
-not_asked files k r check other fits = absurd (check tt)
-
--- so a reply that shows entries and isn't of a check leaves nothing of one
-no_check_leaves : (given : GivenImage) (seen : SeenHost) (c : ToldCommand) (s : Settled) (t : Track) (m : ℕ) (r : Reply) → TellsCommand c → (IsNoCheck (bare_cmd c) → ⊥)
-    → reply_class r ≡ Showing m → ((m : ℕ) (counts : Checked) → r ≡ reply.Checks m counts → ⊥) → (lefts : Lefts) → lefts.first ≡ None → lefts.second ≡ None
-    → LeavesEndings given seen c s t r lefts
-no_check_leaves given seen c s t m r tells check class other lefts at_first at_second =
-    let none : lefts ≡ one None = ap₂ (λ (a b : Option Left). let l : Lefts = record { first = a; second = b } in l) at_first at_second in
-    subst (LeavesEndings given seen c s t r) (sym none) (none_left given seen c t m r class s (λ start own shows. by (point_of start s t) (settled_state start s) shows.fits))
-  where
-    by : (at : Point) (s : State) → QuestionFits m r (told_at (asker_of seen c) at) s → ⊥
-    by at (past.Bad origin damage gate) fits = fits
-    by at (past.Sound p history pending) fits =
-        not_asked (take m (past.with_pending history pending)) fits.cmd r
-        (λ no. check (subst IsNoCheck (sym (same_Some (untold_of c) fits.cmd fits.told) ∙ tells.told) no)) other fits.fits
-
--- so does an answer that lists nothing
-pub check_leaves : (given : GivenImage) (seen : SeenHost) (c : ToldCommand) (s : Settled) (t : Track) (a : HostAnswer) (r : Reply) → TellsCommand c → (IsNoCheck (bare_cmd c) → ⊥)
-    → IsShownAnswer a → answer_of a ≡ Replied r → (lefts : Lefts) → lefts.first ≡ None → lefts.second ≡ None → LeavesEndings given seen c s t r lefts
-check_leaves given seen c s t a r tells check is same =
-    let shown = shown_is a is r same in
-    no_check_leaves given seen c s t (entries_in a) r tells check shown.class shown.other
+pub is_of : (a : HostAnswer) → IsShownAnswer a → IsStepAnswer a → (r : Reply) → answer_of a ≡ Replied r → reply_class r ≡ Showing (entries_in a)
+is_of a is all r same = (shown_is a is all r same).class
 
 -- Logs that are played.
-
--- such an answer is no fault
-pub played_replies : (a : HostAnswer) → IsPlayedAnswer a → IsFault (answer_of a) → ⊥
-played_replies (given.MediaFault at) played fault = played
-played_replies a played fault = fault
 
 -- the tree that a log's entries make is theirs alone
 pub played_told : (m : ℕ) (es : List Entry) → rise_behind None es ≡ true → IsAnswerTold (told.Played m) es (reply.Played m (replay es))
@@ -177,10 +152,17 @@ pub played_is : (a : HostAnswer) (m : ℕ) (entries : Vec Entry Global) (r : Rep
 played_is a m entries r is same =
     let e : Replied (reply.Played m (replay entries.items)) ≡ Replied r = sym (ap answer_of is) ∙ same in cc
 
--- it leaves nothing of a check
-pub check_played : (image : GivenImage) (seen : SeenHost) (c : ToldCommand) (s : Settled) (t : Track) (a : HostAnswer) (r : Reply) → TellsCommand c → (IsNoCheck (bare_cmd c) → ⊥)
-    → IsPlayedAnswer a → answer_of a ≡ Replied r → (lefts : Lefts) → lefts.first ≡ None → lefts.second ≡ None → LeavesEndings image seen c s t r lefts
-check_played image seen c s t (given.Played m entries) r tells check is same lefts at_first at_second =
-    subst (λ (q : Reply). LeavesEndings image seen c s t q lefts) (played_is (given.Played m entries) m entries r refl same)
-    (no_check_leaves image seen c s t m (reply.Played m (replay entries.items)) tells check refl (λ k counts e. cc) lefts at_first at_second)
-check_played image seen c s t a r tells check is same lefts at_first at_second = absurd is
+-- Faults.
+
+-- an answer of no other kind is a fault of the media
+pub rest_fault : (a : HostAnswer) → (IsPlainAnswer a → ⊥) → (IsShownAnswer a → ⊥) → ((m : ℕ) (entries : Vec Entry Global) → a ≡ given.Played m entries → ⊥)
+    → (r : Reply) → answer_of a ≡ Replied r → ⊥
+rest_fault (given.Appended seq) plain shown played r is = plain tt
+rest_fault (given.NotAppended why) plain shown played r is = plain tt
+rest_fault (given.Played m entries) plain shown played r is = played m entries refl
+rest_fault (given.Reports report) plain shown played r is = plain tt
+rest_fault (given.NoSuperblock fault) plain shown played r is = plain tt
+rest_fault (given.BadHeader fault) plain shown played r is = plain tt
+rest_fault (given.BadSlot seq why) plain shown played r is = plain tt
+rest_fault (given.MediaFault at) plain shown played r is = absurd cc
+rest_fault a plain shown played r is = shown tt

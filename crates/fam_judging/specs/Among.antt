@@ -5,7 +5,7 @@ use Rattle.fam_journal.specs.Notes.{Note}
 use Rattle.fam_judge.specs.Covering.{HasBelow, LeadsStates}
 use Rattle.fam_judge.specs.Possible.{Elsewhere, MayLead, Possible, StepsTo, Wrote}
 use Rattle.fam_judging.specs.declared.candidate.Candidate.{Candidate}
-use Rattle.fam_judging.specs.Into.{LeadsInto, PutsInto, WritesInto}
+use Rattle.fam_judging.specs.Into.{LeadsInto, PutsInto, StepsInto, WritesInto}
 
 -- all of these candidates are fine
 abbrev pub AllFine : (Candidate → Type 0) → List Candidate → Type 0
@@ -14,6 +14,11 @@ AllFine Fine cs = (k : ℕ) (d : Candidate) → slice_get cs k ≡ Some d → Fi
 -- states of which P holds are put among the others, and where those were fine so are all
 pub record PutAmong (P : Possible → Type 0) (Fine : Candidate → Type 0) (see : Candidate → Possible) (old new : List Candidate) : Type 0 where
   pub puts : PutsInto P (map see old) (map see new)
+  pub fine : AllFine Fine old → AllFine Fine new
+
+-- all states to which the line leads at once are put among the others, unless others allow no less; where those were fine so are all
+pub record StepsAmong (start : Image) (line : Note) (x : Possible) (Fine : Candidate → Type 0) (see : Candidate → Possible) (old new : List Candidate) : Type 0 where
+  pub into : StepsInto start line x (map see old) (map see new)
   pub fine : AllFine Fine old → AllFine Fine new
 
 -- the line leads from the state in which host k named an entry to some of these states, where it tells of the entry

@@ -1,12 +1,12 @@
--- Candidates that allow no less than others, and lists of states that one is put into.
-use Rattle.std.specs.Prelude.{ℕ, ⊤, ◌≡◌, ◌<◌, List, length, slice_get, Some, true}
+-- Candidates that allow no less than others, and candidates that are put behind those that allow more.
+use Rattle.std.specs.Prelude.{ℕ, ⊤, ◌≡◌, ◌<◌, ◌⊎◌, List, length, map, slice_get, Some, true}
 use Rattle.fam_judge.specs.Covering.{FloorUnder, HasBelow}
 use Rattle.fam_judge.specs.Possible.{Possible}
 use Rattle.fam_lines.specs.declared.host.SeenHost.{SeenHost}
+use Rattle.fam_judging.specs.declared.candidate.Candidate.{Candidate}
 use Rattle.fam_judging.specs.declared.candidate.Stage.{Stage}
 use Rattle.fam_judging.specs.declared.candidate.Stage.TheVariants as stage
 use Rattle.fam_judging.specs.declared.candidate.Track.{Track}
-use Rattle.fam_judging.specs.Into.{PutsInto}
 
 -- at this stage no more is asked of the first one than of the second one
 abbrev pub AsksNoMore : Stage → Track → Track → Type 0
@@ -30,7 +30,20 @@ pub record AreHostsBelow (seen : List SeenHost) (a b : List Track) : Type 0 wher
   pub long : length a ≡ length b
   pub each : (k : ℕ) → k < length a → IsHostBelow seen a b k
 
--- the state is put among the others, unless one of them allows no less
-pub record AddsState (x : Possible) (old new : List Possible) : Type 0 where
-  pub puts : PutsInto (λ z. z ≡ x) old new
-  pub below : HasBelow new x
+-- Candidates that are put behind others.
+
+-- one of these candidates
+abbrev pub IsIn : List Candidate → Candidate → Type 0
+IsIn cs d = (k : ℕ) × (slice_get cs k ≡ Some d)
+
+-- the candidate is put among the others, unless one of them allows no less
+pub record AddsOne (see : Candidate → Possible) (c : Candidate) (old new : List Candidate) : Type 0 where
+  pub kept : (d : Candidate) → IsIn old d → IsIn new d
+  pub from : (d : Candidate) → IsIn new d → IsIn old d ⊎ (d ≡ c)
+  pub below : HasBelow (map see new) (see c)
+
+-- so is each of these
+pub record AddsAll (see : Candidate → Possible) (news old new : List Candidate) : Type 0 where
+  pub kept : (d : Candidate) → IsIn old d → IsIn new d
+  pub from : (d : Candidate) → IsIn new d → IsIn old d ⊎ IsIn news d
+  pub below : (d : Candidate) → IsIn news d → HasBelow (map see new) (see d)

@@ -10,7 +10,8 @@ use Rattle.fam_judging.specs.declared.given.GivenImage.{GivenImage}
 use Rattle.fam_judging.specs.declared.lefts.Left.{Left}
 use Rattle.fam_judging.specs.declared.lefts.Lefts.{Lefts}
 use Rattle.fam_judging.specs.Replies.{EndingState, MayEnd}
-use Rattle.fam_judging.specs.ReplyKinds.{SaysOfGiven, asker_of, ending_left, point_of}
+use Rattle.fam_judging.specs.Going.{HasGiven}
+use Rattle.fam_judging.specs.ReplyKinds.{asker_of, ending_left, point_of}
 
 -- one alone, where it may stand
 abbrev pub only : Bool → Settled → Track → Lefts
@@ -25,4 +26,4 @@ pub data IsOfLefts (start : Image) (lefts : Lefts) (e : EndingState) : Type 0 wh
 -- they are all endings that a reply of a running command leaves, and no others
 abbrev pub LeavesEndings : GivenImage → SeenHost → ToldCommand → Settled → Track → Reply → Lefts → Type 0
 LeavesEndings given seen cmd settled track reply lefts =
-    (start : Image) → SaysOfGiven start given settled → (e : EndingState) → IsOfLefts start lefts e ↔ MayEnd (asker_of seen cmd) (point_of start settled track) reply e
+    (start : Image) → HasGiven start given settled → (e : EndingState) → IsOfLefts start lefts e ↔ MayEnd (asker_of seen cmd) (point_of start settled track) reply e

@@ -4,6 +4,7 @@ pub mod After
 pub mod Going
 pub mod Told
 pub mod Plain
+pub mod StepLines
 pub mod Into
 pub mod Pushing
 pub mod Among

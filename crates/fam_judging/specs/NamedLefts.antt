@@ -1,5 +1,5 @@
 -- What is left of a command whose entry is acknowledged.
-use Rattle.std.specs.Prelude.{ℕ, ◌≡◌, Option, Some, None, option_map, Result, Ok}
+use Rattle.std.specs.Prelude.{ℕ, ◌≡◌, Option, Some, None, option_map}
 use Rattle.fam_base.specs.declared.entry.Entry.{Entry}
 use Rattle.fam_base.specs.Image.{Image}
 use Rattle.fam_history.specs.declared.command.ToldCommand.{ToldCommand}
@@ -8,37 +8,16 @@ use Rattle.fam_journal.specs.Past.{State, acknowledges, filled_bytes, finds, pen
 use Rattle.fam_journal.specs.Shapes.{EntryShape}
 use Rattle.fam_lines.specs.declared.host.SeenHost.{SeenHost}
 use Rattle.fam_lines.specs.Lines.{untold_of}
-use Rattle.fam_rules.specs.declared.answers.Refused.{Refused as Cause}
-use Rattle.fam_rules.specs.Asks.{entries_of}
-use Rattle.fam_rules.specs.Decide.{Wish, decide, wish_of}
-use Rattle.fam_rules.specs.DecideLaws.{IsSoundWish}
-use Rattle.fam_settled.specs.Settled.{SettledLog as Log, settled_files, settled_log_state}
-use Rattle.fam_settled.specs.Told.{HasToldFill, bare_cmd}
+use Rattle.fam_settled.specs.Settled.{SettledLog as Log, settled_log_state}
 use Rattle.fam_judging.specs.declared.candidate.Track.{Track}
 use Rattle.fam_judging.specs.declared.lefts.Left.{Left}
 use Rattle.fam_judging.specs.FoundLefts.{host_of}
 use Rattle.fam_judging.specs.ReplyKinds.{ending_left}
 use Rattle.fam_judging.specs.Candidates.{named_of}
 
--- a command as a history tells it: nothing of a source stands in it, and what it wants to append is sound
-pub record TellsCommand (cmd : ToldCommand) : Type 0 where
-  pub told : untold_of cmd ≡ bare_cmd cmd
-  pub fill : HasToldFill cmd
-  pub sound : (w : Wish) → wish_of (bare_cmd cmd) ≡ Some w → IsSoundWish w
-
--- what the settled entries decide of it
-abbrev pub decision : Log → SeenHost → ToldCommand → Option (Result Entry Cause)
-decision log seen cmd = decide log.params seen.uuid (entries_of (settled_files log)) (untold_of cmd)
-
--- an entry of it is named and acknowledged
+-- an entry of a command is named and acknowledged
 abbrev pub acknowledged_state : ToldCommand → ℕ → Entry → State → State
 acknowledged_state cmd seq e state = acknowledges seq (pends (record { entry = e; bytes = filled_bytes (Some (untold_of cmd)) e.size }) state)
-
--- it names the decided entry, which is acknowledged, where one is decided
-abbrev pub NamesDecided : Log → Log → ℕ → SeenHost → ToldCommand → Option Entry → Type 0
-NamesDecided old new seq seen cmd None = (e : Entry) → decision old seen cmd ≡ Some (Ok e) → ⊥
-NamesDecided old new seq seen cmd (Some e) =
-    (decision old seen cmd ≡ Some (Ok e)) × EntryShape (untold_of cmd) e × (settled_log_state new ≡ acknowledged_state cmd seq e (settled_log_state old))
 
 -- where it found what is settled it names an entry of this number, or not
 abbrev pub NamedLeft : Log → ℕ → SeenHost → ToldCommand → Track → Option Left → Type 0

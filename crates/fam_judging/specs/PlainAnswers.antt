@@ -1,8 +1,7 @@
--- Answers but those to questions, ones to questions that list nothing, and listings of a tree.
-use Rattle.std.specs.Prelude.{ℕ, ⊤, ◌≡◌, None, true}
+-- Answers but those to questions, and ones to questions that list nothing.
+use Rattle.std.specs.Prelude.{ℕ, ⊤}
 use Rattle.fam_lines.specs.declared.answer.HostAnswer.{HostAnswer}
 use Rattle.fam_lines.specs.declared.answer.HostAnswer.TheVariants as given
-use Rattle.fam_lines.specs.Resolved.{rise_behind}
 
 -- an answer that appends, declines, reports or tells of damage
 abbrev pub IsPlainAnswer : HostAnswer → Type 0
@@ -23,7 +22,7 @@ IsPlainAnswer (given.BadHeader fault) = ⊤
 IsPlainAnswer (given.BadSlot seq why) = ⊤
 IsPlainAnswer (given.MediaFault at) = ⊥
 
--- an answer that shows something of the first entries, lists none of them and counts nothing
+-- an answer that shows something of the first entries and lists none of them
 abbrev pub IsShownAnswer : HostAnswer → Type 0
 IsShownAnswer (given.Appended seq) = ⊥
 IsShownAnswer (given.NotAppended why) = ⊥
@@ -35,7 +34,7 @@ IsShownAnswer (given.Length m size wanted) = ⊤
 IsShownAnswer (given.Bytes m bytes) = ⊤
 IsShownAnswer (given.NotFound m) = ⊤
 IsShownAnswer (given.IsDirectory m) = ⊤
-IsShownAnswer (given.Checks m checked) = ⊥
+IsShownAnswer (given.Checks m checked) = ⊤
 IsShownAnswer (given.Reports report) = ⊥
 IsShownAnswer (given.NoSuperblock fault) = ⊥
 IsShownAnswer (given.BadHeader fault) = ⊥
@@ -60,22 +59,3 @@ entries_in (given.NoSuperblock fault) = 0
 entries_in (given.BadHeader fault) = 0
 entries_in (given.BadSlot seq why) = 0
 entries_in (given.MediaFault at) = 0
-
--- an answer that lists a tree's entries, by rising paths
-abbrev pub IsPlayedAnswer : HostAnswer → Type 0
-IsPlayedAnswer (given.Appended seq) = ⊥
-IsPlayedAnswer (given.NotAppended why) = ⊥
-IsPlayedAnswer (given.Played m entries) = rise_behind None entries.items ≡ true
-IsPlayedAnswer (given.Mounted m) = ⊥
-IsPlayedAnswer (given.Same m) = ⊥
-IsPlayedAnswer (given.Differs m offset found wanted) = ⊥
-IsPlayedAnswer (given.Length m size wanted) = ⊥
-IsPlayedAnswer (given.Bytes m bytes) = ⊥
-IsPlayedAnswer (given.NotFound m) = ⊥
-IsPlayedAnswer (given.IsDirectory m) = ⊥
-IsPlayedAnswer (given.Checks m checked) = ⊥
-IsPlayedAnswer (given.Reports report) = ⊥
-IsPlayedAnswer (given.NoSuperblock fault) = ⊥
-IsPlayedAnswer (given.BadHeader fault) = ⊥
-IsPlayedAnswer (given.BadSlot seq why) = ⊥
-IsPlayedAnswer (given.MediaFault at) = ⊥

@@ -21,7 +21,7 @@ use Rattle.fam_rules.specs.declared.answers.Refused.{Refused as Cause}
 use Rattle.fam_rules.specs.declared.answers.Refused.TheVariants as cause
 use Rattle.fam_rules.specs.Decide.{Wish, wish_of}
 use Rattle.fam_rules.specs.DecideLaws.{IsTooLong}
-use Rattle.fam_judging.specs.Candidates.{IsGivenImage, past_damage, named_of, settled_state, stage_shape}
+use Rattle.fam_judging.specs.Candidates.{past_damage, named_of, settled_state, stage_shape}
 use Rattle.fam_judging.specs.Replies.{Asker, EndingState, MeetsAtPoint, NamesAt, Point, told_at}
 use Rattle.fam_judging.specs.declared.candidate.Settled.{Settled}
 use Rattle.fam_judging.specs.declared.candidate.Settled.TheVariants as settled
@@ -41,12 +41,6 @@ point_of start settled track = record { stage = stage_shape track.stage; state =
 -- what is left
 abbrev pub ending_left : Image → Settled → Track → EndingState
 ending_left start settled track = record { state = settled_state start settled; floor = track.floor; wrote = option_map named_of track.wrote }
-
--- a damaged image that was handed in is this one
-abbrev pub SaysOfGiven : Image → GivenImage → Settled → Type 0
-SaysOfGiven start given (settled.Log log) = ⊤
-SaysOfGiven start given settled.Given = IsGivenImage start given
-SaysOfGiven start given settled.Halted = ⊤
 
 -- The superblock and the damage.
 

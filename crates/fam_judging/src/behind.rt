@@ -1,6 +1,6 @@
 //! What a host's command may have named by now.
 
-ghost use Rattle.std.specs.Prelude.{◌≡◌, ◌+◌, ℕ, IfOk, OnOk, Some, is_some, length, true};
+ghost use Rattle.std.specs.Prelude.{◌≡◌, ◌+◌, ℕ, OnOk, Some, is_some, length, true};
 ghost use Rattle.fam_base.specs.Image.{Image};
 ghost use Rattle.fam_judge.specs.Possible.{Wrote};
 ghost use Rattle.fam_judging.specs.declared.given.GivenImage.{GivenImage};
@@ -9,50 +9,16 @@ ghost use Rattle.fam_judging.specs.Going.{HasGiven};
 ghost use Rattle.fam_judging.specs.Pushing.{IsFine, IsMore, Pushes, WrittenAt, first_count};
 ghost use Rattle.fam_judging.specs.Told.{AreToldCommands};
 
-use crate::candidate::{Candidate, Settled, Stage, Track};
+use crate::candidate::{Candidate, Settled, Stage};
+use crate::candidates::{copy, push};
 use crate::given::GivenImage;
 use crate::hosts::Hosts;
-use crate::lead::push;
 use crate::settled::settled_count;
 use crate::steps::wrote;
 use crate::tasks::stage_at;
 use fam_base::OutOfMemory;
 use fam_settled::Log;
 use std::alloc::Global;
-
-/// The same.
-fn copy_settled(alloc: Global, settled: &Settled) -> Result<Settled, OutOfMemory>
-    ensures { IfOk result (λ s. s ≡ settled.now) }
-{
-    match settled {
-        Settled::Log(log) => match log.copy(alloc) {
-            Ok(log) => Ok(Settled::Log(log)),
-            Err(_) => Err(OutOfMemory),
-        },
-        Settled::Given => Ok(Settled::Given),
-        Settled::Halted => Ok(Settled::Halted),
-    }
-}
-
-/// The same.
-fn copy_tracks(tracks: &Vec<Track>) -> Result<Vec<Track>, OutOfMemory>
-    ensures { IfOk result (λ ts. ts.items ≡ tracks.now.items) }
-{
-    match tracks.clone() {
-        Ok(copy) => Ok(copy),
-        Err(_) => Err(OutOfMemory),
-    }
-}
-
-/// The same. The two share most of what is settled.
-pub(crate) fn copy(alloc: Global, candidate: &Candidate) -> Result<Candidate, OutOfMemory>
-    ensures settled { IfOk result (λ d. d.settled ≡ candidate.now.settled) }
-    ensures tracks { IfOk result (λ d. d.tracks.items ≡ candidate.now.tracks.items) }
-{
-    let tracks = copy_tracks(&candidate.tracks)?;
-    let settled = copy_settled(alloc, &candidate.settled)?;
-    Ok(Candidate { settled, tracks })
-}
 
 /// Pushes the state in which a host's command, which has found `n` entries by now, has named an entry; none where it can't have.
 fn written_at(

@@ -1,14 +1,16 @@
 //! Candidates that allow no less than others.
 
-ghost use Rattle.std.specs.Prelude.{◌≡◌, IsTrue, OnOk, map};
+ghost use Rattle.std.specs.Prelude.{◌≡◌, IsTrue, List, OnOk, Option, map};
 ghost use Rattle.fam_base.specs.Image.{Image};
+ghost use Rattle.fam_history.specs.declared.command.ToldCommand.{ToldCommand};
 ghost use Rattle.fam_judge.specs.Covering.{FloorUnder, HasBelow, IsBelow};
 ghost use Rattle.fam_judging.specs.After.{possible_in};
-ghost use Rattle.fam_judging.specs.Below.{AddsState, AreHostsBelow, IsHostBelow, IsTrackBelow};
+ghost use Rattle.fam_judging.specs.Below.{AddsAll, AddsOne, AreHostsBelow, IsHostBelow, IsTrackBelow};
 
 use crate::candidate::{Candidate, Settled, Stage, Track, Wrote};
-use crate::hosts::Hosts;
+use crate::candidates::push;
 use fam_base::OutOfMemory;
+use fam_lines::SeenHost;
 
 /// Whether the same is settled.
 fn is_same_settled(a: &Settled, b: &Settled) -> bool
@@ -64,10 +66,10 @@ fn is_track_below(a: &Track, b: &Track) -> bool
 }
 
 /// So of a host, if it runs a command.
-fn is_host_below(hosts: &Hosts, a: &Candidate, b: &Candidate, at: usize) -> bool
-    ensures { IsTrue result → IsHostBelow hosts.now.seen.items a.now.tracks.items b.now.tracks.items at }
+fn is_host_below(seen: &Vec<SeenHost>, a: &Candidate, b: &Candidate, at: usize) -> bool
+    ensures { IsTrue result → IsHostBelow seen.now.items a.now.tracks.items b.now.tracks.items at }
 {
-    if at >= hosts.seen.len() || !hosts.seen[at].runs {
+    if at >= seen.len() || !seen[at].runs {
         return true;
     }
     if at >= a.tracks.len() || at >= b.tracks.len() {
@@ -77,37 +79,34 @@ fn is_host_below(hosts: &Hosts, a: &Candidate, b: &Candidate, at: usize) -> bool
 }
 
 /// So of all hosts.
-fn are_hosts_below(hosts: &Hosts, a: &Candidate, b: &Candidate) -> bool
-    ensures { IsTrue result → AreHostsBelow hosts.now.seen.items a.now.tracks.items b.now.tracks.items }
+fn are_hosts_below(seen: &Vec<SeenHost>, a: &Candidate, b: &Candidate) -> bool
+    ensures { IsTrue result → AreHostsBelow seen.now.items a.now.tracks.items b.now.tracks.items }
 {
     if a.tracks.len() != b.tracks.len() {
         return false;
     }
     'hosts: for at in 0..a.tracks.len() {
-        if !is_host_below(hosts, a, b, at) {
+        if !is_host_below(seen, a, b, at) {
             return false;
         }
     }
     true
 }
 
-/// Whether the first one allows no less than the second one.
-pub(crate) fn is_below(hosts: &Hosts, a: &Candidate, b: &Candidate) -> bool
-    ensures { (start : Image) → IsTrue result
-        → IsBelow (possible_in start hosts.now.seen.items hosts.now.commands.items a.now)
-        (possible_in start hosts.now.seen.items hosts.now.commands.items b.now) }
+/// Whether the first one allows no less than the second one, beside hosts of which this is seen.
+fn is_below(seen: &Vec<SeenHost>, a: &Candidate, b: &Candidate) -> bool
+    ensures { (start : Image) (cmds : List (Option ToldCommand)) → IsTrue result → IsBelow (possible_in start seen.now.items cmds a.now) (possible_in start seen.now.items cmds b.now) }
 {
-    is_same_settled(&a.settled, &b.settled) && are_hosts_below(hosts, a, b)
+    is_same_settled(&a.settled, &b.settled) && are_hosts_below(seen, a, b)
 }
 
 /// Whether one of these allows no less than it.
-fn has_below(hosts: &Hosts, candidate: &Candidate, others: &Vec<Candidate>) -> bool
-    ensures { (start : Image) → IsTrue result
-        → HasBelow (map (possible_in start hosts.now.seen.items hosts.now.commands.items) others.now.items)
-        (possible_in start hosts.now.seen.items hosts.now.commands.items candidate.now) }
+fn has_below(seen: &Vec<SeenHost>, candidate: &Candidate, others: &Vec<Candidate>) -> bool
+    ensures { (start : Image) (cmds : List (Option ToldCommand)) → IsTrue result
+        → HasBelow (map (possible_in start seen.now.items cmds) others.now.items) (possible_in start seen.now.items cmds candidate.now) }
 {
     'others: for at in 0..others.len() {
-        if is_below(hosts, &others[at], candidate) {
+        if is_below(seen, &others[at], candidate) {
             return true;
         }
     }
@@ -118,21 +117,30 @@ fn has_below(hosts: &Hosts, candidate: &Candidate, others: &Vec<Candidate>) -> b
 fn let_go(_candidate: Candidate) {}
 
 /// Puts a candidate behind the others, unless one of them allows no less.
-pub(crate) fn push(
-    hosts: &Hosts,
+fn put_below(
+    seen: &Vec<SeenHost>,
     candidate: Candidate,
     out: &mut Vec<Candidate>,
 ) -> Result<(), OutOfMemory>
-    ensures { (start : Image) → OnOk result (AddsState (possible_in start hosts.now.seen.items hosts.now.commands.items candidate)
-        (map (possible_in start hosts.now.seen.items hosts.now.commands.items) out.old.items)
-        (map (possible_in start hosts.now.seen.items hosts.now.commands.items) out.new.items)) }
+    ensures { (start : Image) (cmds : List (Option ToldCommand)) → OnOk result (AddsOne (possible_in start seen.now.items cmds) candidate out.old.items out.new.items) }
 {
-    if has_below(hosts, &candidate, out) {
+    if has_below(seen, &candidate, out) {
         let_go(candidate);
         return Ok(());
     }
-    if out.push(candidate).is_err() {
-        return Err(OutOfMemory);
+    push(out, candidate)
+}
+
+/// So each of these.
+pub(crate) fn put_all_below(
+    seen: &Vec<SeenHost>,
+    news: Vec<Candidate>,
+    out: &mut Vec<Candidate>,
+) -> Result<(), OutOfMemory>
+    ensures { (start : Image) (cmds : List (Option ToldCommand)) → OnOk result (AddsAll (possible_in start seen.now.items cmds) news.items out.old.items out.new.items) }
+{
+    'news: for candidate in news {
+        put_below(seen, candidate, out)?;
     }
     Ok(())
 }

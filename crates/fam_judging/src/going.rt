@@ -10,15 +10,17 @@ ghost use Rattle.fam_rules.specs.Place.{line_bytes};
 ghost use Rattle.fam_judging.specs.declared.candidate.Candidate.{Candidate as AnyCandidate};
 ghost use Rattle.fam_judging.specs.declared.hosts.Hosts.{Hosts};
 ghost use Rattle.fam_judging.specs.After.{possible_after, seen_after};
-ghost use Rattle.fam_judging.specs.Among.{AllFine, LeadsAmong, LeadsBehind, LeadsBehindAll, WritesAmong};
+ghost use Rattle.fam_judging.specs.Among.{AllFine, LeadsAmong, LeadsBehind, LeadsBehindAll, StepsAmong, WritesAmong};
 ghost use Rattle.fam_judging.specs.Candidates.{HostsFit, IsCandidate, possible_of};
 ghost use Rattle.fam_judging.specs.Going.{HasGiven};
-ghost use Rattle.fam_judging.specs.Plain.{TellsNoReply};
 ghost use Rattle.fam_judging.specs.Pushing.{IsFine};
+ghost use Rattle.fam_judging.specs.StepLines.{IsStepLine};
 ghost use Rattle.fam_judging.specs.Told.{AreToldCommands};
 
-use crate::behind::{copy, written};
+use crate::behind::written;
+use crate::below::put_all_below;
 use crate::candidate::Candidate;
+use crate::candidates::copy;
 use crate::elsewhere::is_elsewhere;
 use crate::given::GivenImage;
 use crate::hosts::Hosts;
@@ -42,7 +44,32 @@ fn tells_nothing(written: &Candidate, at: usize, line: &Line) -> bool
     }
 }
 
-/// Pushes the state to which the line leads from one in which host `at` has named an entry, where the line tells of it.
+/// Puts all states to which the line leads from the candidate behind others, unless others allow no less.
+fn step_among(
+    alloc: Global,
+    given: &GivenImage,
+    lines: u64,
+    hosts: &Hosts,
+    candidate: Candidate,
+    line: &Line,
+    out: &mut Vec<Candidate>,
+) -> Result<(), OutOfMemory>
+    requires few { line_bytes * lines ≤ device_limit }
+    requires hosts { HostsFit hosts.now }
+    requires told { AreToldCommands hosts.now }
+    requires candidate { IsCandidate hosts.now candidate }
+    requires line { IsStepLine line.now }
+    ensures { (start : Image) → length start ≡ lines → HasGiven start given.now candidate.settled
+        → OnOk result (StepsAmong start (note_of_line line.now) (possible_of start hosts.now candidate) (IsFine start given.now (seen_after hosts.now.seen.items line.now))
+        (possible_after start hosts.now line.now) out.old.items out.new.items) }
+{
+    let seen = hosts.seen_behind(line)?;
+    let mut news = Vec::new(alloc);
+    step(alloc, given, lines, hosts, candidate, line, &mut news)?;
+    put_all_below(&seen, news, out)
+}
+
+/// Puts the states to which the line leads from one in which host `at` has named an entry behind others, where the line tells of it.
 fn lead_behind(
     alloc: Global,
     given: &GivenImage,
@@ -56,7 +83,7 @@ fn lead_behind(
     requires few { line_bytes * lines ≤ device_limit }
     requires hosts { HostsFit hosts.now }
     requires told { AreToldCommands hosts.now }
-    requires fault { TellsNoReply line.now }
+    requires line { IsStepLine line.now }
     ensures { (start : Image) (x : Possible) → length start ≡ lines → IsFine start given.now hosts.now.seen.items written → Wrote start at x (possible_of start hosts.now written)
         → OnOk result (LeadsBehind start (note_of_line line.now) at x (possible_of start hosts.now written) (IsFine start given.now (seen_after hosts.now.seen.items line.now))
         (possible_after start hosts.now line.now) out.old.items out.new.items) }
@@ -67,7 +94,7 @@ fn lead_behind(
     if tells_nothing(&written, at, line) {
         return Ok(());
     }
-    step(alloc, given, lines, hosts, written, line, out)
+    step_among(alloc, given, lines, hosts, written, line, out)
 }
 
 /// So from each of these.
@@ -84,7 +111,7 @@ fn lead_all_behind(
     requires few { line_bytes * lines ≤ device_limit }
     requires hosts { HostsFit hosts.now }
     requires told { AreToldCommands hosts.now }
-    requires fault { TellsNoReply line.now }
+    requires line { IsStepLine line.now }
     ensures { (start : Image) (x : Possible) → length start ≡ lines → AllFine (IsFine start given.now hosts.now.seen.items) written.now.items
         → ((k : ℕ) (d : AnyCandidate) → slice_get written.now.items k ≡ Some d → Wrote start at x (possible_of start hosts.now d))
         → OnOk result (LeadsBehindAll start (note_of_line line.now) at x (possible_of start hosts.now) written.now.items (length written.now.items)
@@ -97,7 +124,7 @@ fn lead_all_behind(
     Ok(())
 }
 
-/// Pushes the states to which the line leads where host `at` has named an entry before, of which the line tells.
+/// Puts the states to which the line leads where host `at` has named an entry before, of which the line tells, behind others.
 fn lead_host(
     alloc: Global,
     given: &GivenImage,
@@ -112,7 +139,7 @@ fn lead_host(
     requires hosts { HostsFit hosts.now }
     requires told { AreToldCommands hosts.now }
     requires candidate { IsCandidate hosts.now candidate.now }
-    requires fault { TellsNoReply line.now }
+    requires line { IsStepLine line.now }
     ensures { (start : Image) → length start ≡ lines → HasGiven start given.now candidate.now.settled
         → OnOk result (WritesAmong start (note_of_line line.now) at (possible_of start hosts.now candidate.now)
         (IsFine start given.now (seen_after hosts.now.seen.items line.now)) (possible_after start hosts.now line.now) out.old.items out.new.items) }
@@ -125,7 +152,7 @@ fn lead_host(
     lead_all_behind(alloc, given, lines, hosts, &named, at, line, out)
 }
 
-/// Pushes all states to which the line leads from this one, at once and where hosts have named entries before.
+/// Puts all states to which the line leads from this one, at once and where hosts have named entries before, behind others.
 fn lead_hosts(
     alloc: Global,
     given: &GivenImage,
@@ -139,13 +166,13 @@ fn lead_hosts(
     requires hosts { HostsFit hosts.now }
     requires told { AreToldCommands hosts.now }
     requires candidate { IsCandidate hosts.now candidate.now }
-    requires fault { TellsNoReply line.now }
+    requires line { IsStepLine line.now }
     ensures { (start : Image) → length start ≡ lines → HasGiven start given.now candidate.now.settled
         → OnOk result (LeadsAmong start (note_of_line line.now) (length hosts.now.seen.items) (possible_of start hosts.now candidate.now)
         (IsFine start given.now (seen_after hosts.now.seen.items line.now)) (possible_after start hosts.now line.now) out.old.items out.new.items) }
 {
     let own = copy(alloc, candidate)?;
-    step(alloc, given, lines, hosts, own, line, out)?;
+    step_among(alloc, given, lines, hosts, own, line, out)?;
     'hosts: for at in 0..hosts.seen.len() {
         lead_host(alloc, given, lines, hosts, candidate, at, line, out)?;
     }
@@ -165,7 +192,7 @@ fn lead_from(
     requires few { line_bytes * lines ≤ device_limit }
     requires hosts { HostsFit hosts.now }
     requires told { AreToldCommands hosts.now }
-    requires fault { TellsNoReply line.now }
+    requires line { IsStepLine line.now }
     ensures { (start : Image) → length start ≡ lines → IsFine start given.now hosts.now.seen.items candidate.now
         → OnOk result (LeadsAmong start (note_of_line line.now) (length hosts.now.seen.items) (possible_of start hosts.now candidate.now)
         (IsFine start given.now (seen_after hosts.now.seen.items line.now)) (possible_after start hosts.now line.now) out.old.items out.new.items) }
@@ -176,7 +203,7 @@ fn lead_from(
     lead_hosts(alloc, given, lines, hosts, candidate, line, out)
 }
 
-/// The states to which the line leads from these.
+/// The states to which the line leads from these, but for those of which others allow no less.
 pub fn go_on(
     alloc: Global,
     given: &GivenImage,
@@ -188,7 +215,7 @@ pub fn go_on(
     requires few { line_bytes * lines ≤ device_limit }
     requires hosts { HostsFit hosts.now }
     requires told { AreToldCommands hosts.now }
-    requires fault { TellsNoReply line.now }
+    requires line { IsStepLine line.now }
     ensures leads { (start : Image) → length start ≡ lines → AllFine (IsFine start given.now hosts.now.seen.items) candidates.now.items
         → IfOk result (λ next. LeadsStates start (note_of_line line.now) (map (possible_of start hosts.now) candidates.now.items)
         (map (possible_after start hosts.now line.now) next.items)) }

@@ -1,6 +1,6 @@
 //! The hosts of a history, as all its states have them. `specs/After.antt` says what they are behind a line.
 
-ghost use Rattle.std.specs.Prelude.{◌≡◌, ◌++◌, ◌∷◌, List, Option, [], None, Some, OnOk, false, true};
+ghost use Rattle.std.specs.Prelude.{◌≡◌, ◌++◌, ◌∷◌, List, Option, [], None, Some, IfOk, OnOk, false, true};
 ghost use Rattle.fam_history.specs.declared.command.ToldCommand.{ToldCommand};
 ghost use Rattle.fam_journal.specs.Members.{changed_at};
 ghost use Rattle.fam_journal.specs.Shapes.{keeps_behind};
@@ -23,10 +23,19 @@ pub struct Hosts {
     pub commands: Vec<Option<ToldCommand>>,
 }
 
+/// The same hosts.
+fn copy_seen(seen: &Vec<SeenHost>) -> Result<Vec<SeenHost>, OutOfMemory>
+    ensures { IfOk result (λ copy. copy.items ≡ seen.now.items) }
+{
+    match seen.clone() {
+        Ok(copy) => Ok(copy),
+        Err(_) => Err(OutOfMemory),
+    }
+}
+
 /// One host more.
-fn declare(hosts: &mut Hosts, name: HostName, uuid: Uuid) -> Result<(), OutOfMemory>
-    ensures seen { OnOk result (hosts.new.seen.items ≡ hosts.old.seen.items ++ new_seen name uuid ∷ []) }
-    ensures commands { OnOk result (hosts.new.commands.items ≡ hosts.old.commands.items ++ None ∷ []) }
+fn declare(seen: &mut Vec<SeenHost>, name: HostName, uuid: Uuid) -> Result<(), OutOfMemory>
+    ensures { OnOk result (seen.new.items ≡ seen.old.items ++ new_seen name uuid ∷ []) }
 {
     let new = SeenHost {
         name,
@@ -34,10 +43,17 @@ fn declare(hosts: &mut Hosts, name: HostName, uuid: Uuid) -> Result<(), OutOfMem
         runs: false,
         keeps: false,
     };
-    if hosts.seen.push(new).is_err() {
+    if seen.push(new).is_err() {
         return Err(OutOfMemory);
     }
-    if hosts.commands.push(None).is_err() {
+    Ok(())
+}
+
+/// It has begun no command.
+fn declare_command(commands: &mut Vec<Option<ToldCommand>>) -> Result<(), OutOfMemory>
+    ensures { OnOk result (commands.new.items ≡ commands.old.items ++ None ∷ []) }
+{
+    if commands.push(None).is_err() {
         return Err(OutOfMemory);
     }
     Ok(())
@@ -87,13 +103,15 @@ fn put_command(commands: &mut Vec<Option<ToldCommand>>, at: usize, cmd: Option<T
 }
 
 /// A host begins a command.
-fn begin(hosts: &mut Hosts, at: usize, cmd: &ToldCommand) -> Result<(), OutOfMemory>
-    ensures seen { OnOk result (hosts.new.seen.items ≡ changed_at at (λ s. record s { runs = true }) hosts.old.seen.items) }
-    ensures commands { OnOk result (hosts.new.commands.items ≡ changed_at at (λ c. Some cmd.now) hosts.old.commands.items) }
+fn begin(
+    commands: &mut Vec<Option<ToldCommand>>,
+    at: usize,
+    cmd: &ToldCommand,
+) -> Result<(), OutOfMemory>
+    ensures { OnOk result (commands.new.items ≡ changed_at at (λ c. Some cmd.now) commands.old.items) }
 {
     let cmd = copy_told(cmd)?;
-    put_runs(&mut hosts.seen, at, true);
-    put_command(&mut hosts.commands, at, Some(cmd));
+    put_command(commands, at, Some(cmd));
     Ok(())
 }
 
@@ -118,21 +136,49 @@ fn answered(seen: &mut Vec<SeenHost>, at: usize, answer: &HostAnswer)
     }
 }
 
+/// What is seen of the hosts behind a line that stands.
+fn follow_seen(seen: &mut Vec<SeenHost>, line: &Line) -> Result<(), OutOfMemory>
+    ensures { OnOk result (seen.new.items ≡ seen_after seen.old.items line.now) }
+{
+    match line {
+        Line::Host(name, uuid) => return declare(seen, *name, *uuid),
+        Line::Start(host, _) => put_runs(seen, *host, true),
+        Line::Answered(host, answer) => answered(seen, *host, answer),
+        Line::Stop(host) => put_runs(seen, *host, false),
+        Line::Halt(host) => put_idle(seen, *host, false),
+        Line::Umount(host) => put_clean(seen, *host),
+        _ => {}
+    }
+    Ok(())
+}
+
+/// Their last commands.
+fn follow_commands(commands: &mut Vec<Option<ToldCommand>>, line: &Line) -> Result<(), OutOfMemory>
+    ensures { OnOk result (commands.new.items ≡ commands_after commands.old.items line.now) }
+{
+    match line {
+        Line::Host(_, _) => declare_command(commands),
+        Line::Start(host, cmd) => begin(commands, *host, cmd),
+        _ => Ok(()),
+    }
+}
+
 impl Hosts {
     /// The hosts behind a line that stands.
     pub fn follow(&mut self, line: &Line) -> Result<(), OutOfMemory>
         ensures seen { OnOk result (self.new.seen.items ≡ seen_after self.old.seen.items line.now) }
         ensures commands { OnOk result (self.new.commands.items ≡ commands_after self.old.commands.items line.now) }
     {
-        match line {
-            Line::Host(name, uuid) => return declare(self, *name, *uuid),
-            Line::Start(host, cmd) => return begin(self, *host, cmd),
-            Line::Answered(host, answer) => answered(&mut self.seen, *host, answer),
-            Line::Stop(host) => put_runs(&mut self.seen, *host, false),
-            Line::Halt(host) => put_idle(&mut self.seen, *host, false),
-            Line::Umount(host) => put_clean(&mut self.seen, *host),
-            _ => {}
-        }
-        Ok(())
+        follow_seen(&mut self.seen, line)?;
+        follow_commands(&mut self.commands, line)
+    }
+
+    /// What is seen of them then.
+    pub(crate) fn seen_behind(&self, line: &Line) -> Result<Vec<SeenHost>, OutOfMemory>
+        ensures { IfOk result (λ seen. seen.items ≡ seen_after self.now.seen.items line.now) }
+    {
+        let mut seen = copy_seen(&self.seen)?;
+        follow_seen(&mut seen, line)?;
+        Ok(seen)
     }
 }

@@ -1,6 +1,6 @@
-//! To which states a line leads that tells no reply.
+//! To which states a line leads.
 
-ghost use Rattle.std.specs.Prelude.{◌≡◌, ◌*◌, ◌++◌, ◌∷◌, ◌≤◌, IfOk, OnOk, [], length, true};
+ghost use Rattle.std.specs.Prelude.{◌≡◌, ◌*◌, ◌≤◌, IfOk, OnOk, length, true};
 ghost use Rattle.fam_base.specs.Image.{Image};
 ghost use Rattle.fam_format.specs.Layout.{device_limit};
 ghost use Rattle.fam_judge.specs.Possible.{StepsTo};
@@ -11,18 +11,22 @@ ghost use Rattle.fam_judging.specs.Candidates.{HostsFit, IsCandidate, possible_o
 ghost use Rattle.fam_judging.specs.Going.{Goes, HasGiven};
 ghost use Rattle.fam_judging.specs.Plain.{TellsNoReply};
 ghost use Rattle.fam_judging.specs.Pushing.{IsFine, Pushes};
+ghost use Rattle.fam_judging.specs.StepLines.{IsStepLine};
 ghost use Rattle.fam_judging.specs.Told.{AreToldCommands};
 
 use crate::candidate::Candidate;
+use crate::candidates::push;
 use crate::given::GivenImage;
 use crate::hosts::Hosts;
 use crate::plain::plain;
+use crate::replies::reply;
+use crate::replies_kinds::is_fault;
 use crate::steps::{is_own, own};
 use fam_base::OutOfMemory;
 use fam_lines::Line;
 use std::alloc::Global;
 
-/// The candidate comes to the state to which the line leads, where it leads to one.
+/// The candidate comes to the state to which a line leads that tells no reply, where it leads to one.
 fn lead_to(
     alloc: Global,
     given: &GivenImage,
@@ -48,18 +52,8 @@ fn lead_to(
     }
 }
 
-/// One candidate more.
-pub(crate) fn push(out: &mut Vec<Candidate>, candidate: Candidate) -> Result<(), OutOfMemory>
-    ensures { OnOk result (out.new.items ≡ out.old.items ++ candidate ∷ []) }
-{
-    if out.push(candidate).is_err() {
-        return Err(OutOfMemory);
-    }
-    Ok(())
-}
-
-/// Pushes the candidate behind others, as the state to which the line leads; none where it leads nowhere.
-pub fn step(
+/// Pushes the candidate behind others, as the state to which a line leads that tells no reply; none where it leads nowhere.
+fn step_alone(
     alloc: Global,
     given: &GivenImage,
     lines: u64,
@@ -83,4 +77,31 @@ pub fn step(
         return Ok(());
     }
     push(out, candidate)
+}
+
+/// Pushes behind others all states to which the line leads from the candidate.
+pub fn step(
+    alloc: Global,
+    given: &GivenImage,
+    lines: u64,
+    hosts: &Hosts,
+    candidate: Candidate,
+    line: &Line,
+    out: &mut Vec<Candidate>,
+) -> Result<(), OutOfMemory>
+    requires few { line_bytes * lines ≤ device_limit }
+    requires hosts { HostsFit hosts.now }
+    requires told { AreToldCommands hosts.now }
+    requires candidate { IsCandidate hosts.now candidate }
+    requires line { IsStepLine line.now }
+    ensures { (start : Image) → length start ≡ lines → HasGiven start given.now candidate.settled
+        → OnOk result (Pushes (StepsTo start (possible_of start hosts.now candidate) (note_of_line line.now)) (IsFine start given.now (seen_after hosts.now.seen.items line.now))
+        (possible_after start hosts.now line.now) out.old.items out.new.items) }
+{
+    match line {
+        Line::Answered(at, answer) if !is_fault(answer) => {
+            reply(alloc, given, hosts, &candidate, *at, answer, out)
+        }
+        _ => step_alone(alloc, given, lines, hosts, candidate, line, out),
+    }
 }

@@ -4,6 +4,7 @@ ghost use Rattle.std.specs.Prelude.{◌≡◌, IfOk, None};
 ghost use Rattle.fam_judging.specs.Lefts.{only};
 
 use crate::candidate::{Settled, Track};
+use crate::settled::copy_settled;
 use fam_base::OutOfMemory;
 use std::alloc::Global;
 
@@ -32,17 +33,6 @@ pub(crate) fn none() -> Lefts
     }
 }
 
-/// The same, beside the other one.
-pub(crate) fn copy(alloc: Global, settled: &Settled) -> Result<Settled, OutOfMemory>
-    ensures { IfOk result (λ copy. copy ≡ settled.now) }
-{
-    match settled {
-        Settled::Log(log) => Ok(Settled::Log(log.copy(alloc)?)),
-        Settled::Given => Ok(Settled::Given),
-        Settled::Halted => Ok(Settled::Halted),
-    }
-}
-
 /// What is settled stays, where the answer may stand.
 pub(crate) fn kept(
     alloc: Global,
@@ -55,7 +45,7 @@ pub(crate) fn kept(
     if !stands {
         return Ok(none());
     }
-    let settled = copy(alloc, settled)?;
+    let settled = copy_settled(alloc, settled)?;
     Ok(Lefts {
         first: Some(Left { settled, track }),
         second: None,

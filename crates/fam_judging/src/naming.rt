@@ -20,7 +20,7 @@ use fam_settled::{Log, bytes_told};
 use uuid::Uuid;
 
 /// The entry of number `n` that a command names behind a log, where it names one. It pends then.
-fn name_log(log: &mut Log, cmd: &ToldCommand, me: Uuid, n: u64) -> Option<Entry>
+pub(crate) fn name_log(log: &mut Log, cmd: &ToldCommand, me: Uuid, n: u64) -> Option<Entry>
     requires told { IsToldCommand cmd.now }
     ensures { (host : HostPast) → host.cmd ≡ Some (untold_of cmd.now) → host.uuid ≡ me
         → NamesIn n host cmd.now (settled_log_state log.old) (settled_log_state log.new) result }

@@ -1,50 +1,24 @@
 //! Answers that an entry is appended.
 
-ghost use Rattle.std.specs.Prelude.{◌≡◌, ◌↔◌, IfOk, IsTrue, None, length};
+ghost use Rattle.std.specs.Prelude.{◌↔◌, IfOk, IsTrue};
 ghost use Rattle.fam_settled.specs.Settled.{settled_log_state};
-ghost use Rattle.fam_journal.specs.Legal.{AppendedAllowed, FoundAllowed};
-ghost use Rattle.fam_journal.specs.Past.{acknowledges, finds};
+ghost use Rattle.fam_journal.specs.Legal.{AppendedAllowed};
+ghost use Rattle.fam_journal.specs.Past.{acknowledges};
 ghost use Rattle.fam_rules.specs.Reply as reply;
 ghost use Rattle.fam_judging.specs.FoundLefts.{host_of};
 ghost use Rattle.fam_judging.specs.Lefts.{LeavesEndings};
-ghost use Rattle.fam_judging.specs.NamedLefts.{AcknowledgedLeft, FoundNamed, NamesDecided, TellsCommand, NamedLeft};
+ghost use Rattle.fam_judging.specs.NamedLefts.{AcknowledgedLeft, FoundNamed, NamedLeft};
+ghost use Rattle.fam_judging.specs.Told.{IsToldCommand};
 
 use crate::candidate::{Settled, Stage, Track, Wrote};
 use crate::given::GivenImage;
 use crate::lefts::{Left, Lefts, none, one};
-use fam_base::{Entry, OutOfMemory};
+use crate::naming::name_log;
+use fam_base::OutOfMemory;
 use fam_history::ToldCommand;
 use fam_lines::SeenHost;
-use fam_settled::{Log, bytes_told};
+use fam_settled::Log;
 use std::alloc::Global;
-
-/// A command names the entry that the settled ones decide on, and it is acknowledged.
-fn name(
-    log: &mut Log,
-    seen: &SeenHost,
-    cmd: &ToldCommand,
-    seq: u64,
-) -> Result<Option<Entry>, OutOfMemory>
-    requires { TellsCommand cmd.now }
-    ensures { IfOk result (λ named. NamesDecided log.old log.new seq seen.now cmd.now named) }
-{
-    log.is_settled();
-    match log.decide(cmd, seen.uuid) {
-        Some(Ok(entry)) => {
-            log.pend(&entry, bytes_told(cmd));
-            log.acknowledge(seq)?;
-            Ok(Some(entry))
-        }
-        _ => Ok(None),
-    }
-}
-
-/// Whether nothing pends, and so many entries are settled.
-fn is_free(log: &Log, seq: u64) -> bool
-    ensures { IsTrue result ↔ ((seq ≡ length log.now.entries) × (log.now.pending ≡ None)) }
-{
-    log.pending().is_none() && log.count() == seq
-}
 
 /// Where a command found what is settled, what is left behind entry `seq` of it.
 fn named(
@@ -54,20 +28,20 @@ fn named(
     seq: u64,
     track: &Track,
 ) -> Result<Option<Left>, OutOfMemory>
-    requires { TellsCommand cmd.now }
+    requires { IsToldCommand cmd.now }
     ensures { IfOk result (λ left. NamedLeft log seq seen.now cmd.now track.now left) }
 {
-    if !is_free(&log, seq) {
-        return Ok(None);
-    }
-    match name(&mut log, seen, cmd, seq)? {
-        Some(entry) => Ok(Some(Left {
-            settled: Settled::Log(log),
-            track: Track {
-                wrote: Some(Wrote { seq, entry }),
-                ..*track
-            },
-        })),
+    match name_log(&mut log, cmd, seen.uuid, seq) {
+        Some(entry) => {
+            log.acknowledge(seq)?;
+            Ok(Some(Left {
+                settled: Settled::Log(log),
+                track: Track {
+                    wrote: Some(Wrote { seq, entry }),
+                    ..*track
+                },
+            }))
+        }
         None => Ok(None),
     }
 }
@@ -115,7 +89,7 @@ fn found_named(
     track: &Track,
     seq: u64,
 ) -> Result<Option<Left>, OutOfMemory>
-    requires { TellsCommand cmd.now }
+    requires { IsToldCommand cmd.now }
     ensures { IfOk result (λ left. FoundNamed log.now seq seen.now cmd.now track.now left) }
 {
     if !log.found_fits(seq) {
@@ -135,7 +109,7 @@ fn met_named(
     track: &Track,
     seq: u64,
 ) -> Result<Option<Left>, OutOfMemory>
-    requires { TellsCommand cmd.now }
+    requires { IsToldCommand cmd.now }
     ensures { IfOk result (λ left. NamedLeft log.now seq seen.now cmd.now track.now left) }
 {
     let log = log.copy(alloc)?;
@@ -152,7 +126,7 @@ pub(crate) fn appended(
     track: &Track,
     seq: u64,
 ) -> Result<Lefts, OutOfMemory>
-    requires { TellsCommand cmd.now }
+    requires { IsToldCommand cmd.now }
     ensures { IfOk result (λ lefts. LeavesEndings given.now seen.now cmd.now settled.now track.now (reply.Appended seq) lefts) }
 {
     let _ = given;

@@ -6,9 +6,9 @@ ghost use Rattle.fam_lines.specs.Lines.{answer_of};
 ghost use Rattle.fam_rules.specs.Reply as reply;
 ghost use Rattle.fam_rules.specs.Reply.{Reply};
 ghost use Rattle.fam_judging.specs.Lefts.{LeavesEndings};
-ghost use Rattle.fam_judging.specs.NamedLefts.{TellsCommand};
 ghost use Rattle.fam_judging.specs.PlainAnswers.{IsPlainAnswer};
 ghost use Rattle.fam_judging.specs.ReplyKinds.{IsDecidedCause};
+ghost use Rattle.fam_judging.specs.Told.{IsToldCommand};
 
 use crate::candidate::{Settled, Track};
 use crate::given::GivenImage;
@@ -63,7 +63,7 @@ pub(crate) fn plain_lefts(
     track: &Track,
     answer: &HostAnswer,
 ) -> Result<Lefts, OutOfMemory>
-    requires told { TellsCommand cmd.now }
+    requires told { IsToldCommand cmd.now }
     requires plain { IsPlainAnswer answer.now }
     ensures { IfOk result (λ lefts. (given_reply : Reply) → answer_of answer.now ≡ Replied given_reply
         → LeavesEndings given.now seen.now cmd.now settled.now track.now given_reply lefts) }

@@ -1,37 +1,16 @@
 //! Candidates behind an answer.
 
-ghost use Rattle.std.specs.Prelude.{◌≡◌, IfOk, OnOk};
-ghost use Rattle.fam_journal.specs.Members.{changed_at};
+ghost use Rattle.std.specs.Prelude.{OnOk};
 ghost use Rattle.fam_judging.specs.AnsweredHosts.{AllPut, ArePutBehind, IsPutBehind};
 
-use crate::candidate::{Candidate, Track};
+use crate::candidate::Candidate;
+use crate::candidates::push;
 use crate::lefts::{Left, Lefts};
+use crate::tracks::{copy_tracks, put_track};
 use fam_base::OutOfMemory;
-use std::alloc::Global;
-
-/// The same of each host.
-fn copy_tracks(alloc: Global, tracks: &[Track]) -> Result<Vec<Track>, OutOfMemory>
-    ensures { IfOk result (λ copy. copy.items ≡ tracks.now) }
-{
-    let mut copy = Vec::new(alloc);
-    match copy.extend_from_slice(tracks) {
-        Ok(()) => Ok(copy),
-        Err(_) => Err(OutOfMemory),
-    }
-}
-
-/// What is known of a host is this.
-fn put_track(tracks: &mut Vec<Track>, at: usize, track: &Track)
-    ensures { tracks.new.items ≡ changed_at at (λ t. track.now) tracks.old.items }
-{
-    if at < tracks.len() {
-        tracks[at] = *track;
-    }
-}
 
 /// A candidate with what is left of a host's command is put behind others.
 fn put(
-    alloc: Global,
     candidate: &Candidate,
     at: usize,
     left: Left,
@@ -39,21 +18,19 @@ fn put(
 ) -> Result<(), OutOfMemory>
     ensures { OnOk result (IsPutBehind candidate.now at left out.old.items out.new.items) }
 {
-    let mut tracks = copy_tracks(alloc, candidate.tracks.as_slice())?;
+    let mut tracks = copy_tracks(&candidate.tracks)?;
     put_track(&mut tracks, at, &left.track);
-    let behind = Candidate {
-        settled: left.settled,
-        tracks,
-    };
-    if out.push(behind).is_err() {
-        return Err(OutOfMemory);
-    }
-    Ok(())
+    push(
+        out,
+        Candidate {
+            settled: left.settled,
+            tracks,
+        },
+    )
 }
 
 /// So it is where something is left.
 fn put_some(
-    alloc: Global,
     candidate: &Candidate,
     at: usize,
     left: Option<Left>,
@@ -62,14 +39,13 @@ fn put_some(
     ensures { OnOk result (ArePutBehind candidate.now at left out.old.items out.new.items) }
 {
     match left {
-        Some(left) => put(alloc, candidate, at, left, out),
+        Some(left) => put(candidate, at, left, out),
         None => Ok(()),
     }
 }
 
 /// All candidates that keep what is left of a host's command are put behind others.
 pub(crate) fn put_all(
-    alloc: Global,
     candidate: &Candidate,
     at: usize,
     lefts: Lefts,
@@ -77,6 +53,6 @@ pub(crate) fn put_all(
 ) -> Result<(), OutOfMemory>
     ensures { OnOk result (AllPut candidate.now at lefts out.old.items out.new.items) }
 {
-    put_some(alloc, candidate, at, lefts.first, out)?;
-    put_some(alloc, candidate, at, lefts.second, out)
+    put_some(candidate, at, lefts.first, out)?;
+    put_some(candidate, at, lefts.second, out)
 }

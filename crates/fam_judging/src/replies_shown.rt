@@ -4,7 +4,7 @@ ghost use Rattle.std.specs.Prelude.{◌≡◌, ◌↔◌, IfOk, IsTrue};
 ghost use Rattle.fam_commands.specs.ReplyClasses.{Showing, reply_class};
 ghost use Rattle.fam_rules.specs.Reply.{Reply};
 ghost use Rattle.fam_lines.specs.Lines.{untold_of};
-ghost use Rattle.fam_settled.specs.Told.{IsNoCheck, bare_cmd};
+ghost use Rattle.fam_settled.specs.Told.{bare_cmd};
 ghost use Rattle.fam_judging.specs.Lefts.{LeavesEndings};
 ghost use Rattle.fam_judging.specs.Showing.{IsShown, IsAnswerTold, ShowsTold};
 
@@ -28,7 +28,6 @@ fn shows_fits(
     answer: &ToldAnswer,
     listed: &[Entry],
 ) -> Result<bool, OutOfMemory>
-    requires { IsNoCheck (bare_cmd cmd.now) }
     ensures { IfOk result (λ b. IsTrue b ↔ ShowsTold log.now m cmd.now track.now answer.now listed.now) }
 {
     let Some(floor) = track.floor else {
@@ -60,8 +59,7 @@ pub(crate) fn shown_log(
     })))
 }
 
-/// What is left behind an answer of the first `m` entries, which tells this, with these entries in its lines, of a command that
-/// isn't a check.
+/// What is left behind an answer of the first `m` entries, which tells this, with these entries in its lines.
 pub(crate) fn shown(
     alloc: Global,
     given: &GivenImage,
@@ -73,7 +71,6 @@ pub(crate) fn shown(
     answer: &ToldAnswer,
     listed: &[Entry],
 ) -> Result<Lefts, OutOfMemory>
-    requires { IsNoCheck (bare_cmd cmd.now) }
     ensures { IfOk result (λ lefts. (reply : Reply) → reply_class reply ≡ Showing m → IsAnswerTold answer.now listed.now reply
         → untold_of cmd.now ≡ bare_cmd cmd.now → LeavesEndings given.now seen.now cmd.now settled.now track.now reply lefts) }
 {

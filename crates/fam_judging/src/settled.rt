@@ -13,6 +13,18 @@ use crate::candidate::Settled;
 use crate::given::{Damage, GivenImage};
 use fam_base::OutOfMemory;
 use fam_settled::Log;
+use std::alloc::Global;
+
+/// The same, beside the other one. The two share most of a log.
+pub(crate) fn copy_settled(alloc: Global, settled: &Settled) -> Result<Settled, OutOfMemory>
+    ensures { IfOk result (λ copy. copy ≡ settled.now) }
+{
+    match settled {
+        Settled::Log(log) => Ok(Settled::Log(log.copy(alloc)?)),
+        Settled::Given => Ok(Settled::Given),
+        Settled::Halted => Ok(Settled::Halted),
+    }
+}
 
 /// Whether a number is one more than another one.
 pub(crate) fn is_next(n: u64, count: u64) -> bool

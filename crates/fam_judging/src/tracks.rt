@@ -1,12 +1,31 @@
 //! What a candidate keeps of a host, behind a line.
 
-ghost use Rattle.std.specs.Prelude.{◌≡◌, ◌++◌, ◌∷◌, [], OnOk, Some};
+ghost use Rattle.std.specs.Prelude.{◌≡◌, ◌++◌, ◌∷◌, [], IfOk, OnOk, Some};
 ghost use Rattle.fam_journal.specs.Members.{changed_at};
 ghost use Rattle.fam_judging.specs.declared.candidate.Stage.TheVariants as stage;
 ghost use Rattle.fam_judging.specs.After.{begun_track, named_track, new_track};
 
 use crate::candidate::{Stage, Track, Wrote};
 use fam_base::{Entry, OutOfMemory};
+
+/// The same of each host.
+pub(crate) fn copy_tracks(tracks: &Vec<Track>) -> Result<Vec<Track>, OutOfMemory>
+    ensures { IfOk result (λ copy. copy.items ≡ tracks.now.items) }
+{
+    match tracks.clone() {
+        Ok(copy) => Ok(copy),
+        Err(_) => Err(OutOfMemory),
+    }
+}
+
+/// What is known of a host is this.
+pub(crate) fn put_track(tracks: &mut Vec<Track>, at: usize, track: &Track)
+    ensures { tracks.new.items ≡ changed_at at (λ t. track.now) tracks.old.items }
+{
+    if at < tracks.len() {
+        tracks[at] = *track;
+    }
+}
 
 /// One host more.
 pub(crate) fn declare(tracks: &mut Vec<Track>) -> Result<(), OutOfMemory>

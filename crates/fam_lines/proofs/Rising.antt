@@ -16,7 +16,8 @@ use Rattle.fam_lines.specs.declared.answer.HostAnswer.TheVariants as given
 use Rattle.fam_lines.specs.declared.host.SeenHost.{SeenHost}
 use Rattle.fam_lines.specs.declared.line.Line.{Line}
 use Rattle.fam_lines.specs.declared.line.Line.TheVariants as line
-use Rattle.fam_lines.specs.Resolved.{agrees, alone, answer_with, answered_line, has_no_further, is_answer, is_empty, is_told, is_whole_checked, line_of_made, reported, resolved, resolved_refusal, rise_behind, row_line, seen_number, whole_params}
+use Rattle.fam_lines.specs.Resolved.{agrees, alone, answer_with, answered_line, has_no_further, is_answer, is_empty, is_told}
+use Rattle.fam_lines.specs.Resolved.{is_whole_checked, line_of_made, reported, resolved, resolved_refusal, rise_behind, row_line, seen_number, whole_params}
 use Rattle.fam_lines.specs.Rising.{ListsRising, RisesIn}
 
 -- what a test lets through

@@ -4,7 +4,7 @@ use Rattle.fam_judging.proofs.below.are_hosts_below.Goals as goal
 
 pub hosts-preserved : goal.hosts-preserved
 hosts-preserved c =
-    below_more (IsHostBelow c.args.hosts.now.seen.items c.args.a.now.tracks.items c.args.b.now.tracks.items) _ c.hosts.invariant
+    below_more (IsHostBelow c.args.seen.now.items c.args.a.now.tracks.items c.args.b.now.tracks.items) _ c.hosts.invariant
     (c.if-not-is_host_below.ensures refl)
 
 pub returns : goal.returns

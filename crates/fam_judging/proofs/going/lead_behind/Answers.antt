@@ -1,12 +1,11 @@
 use Rattle.std.proofs.Common.{refl}
-use Rattle.fam_judge.specs.Possible.{StepsTo}
 use Rattle.fam_lines.specs.Lines.{note_of_line}
 use Rattle.fam_judging.specs.declared.candidate.Candidate.{Candidate}
 use Rattle.fam_judging.specs.After.{possible_after, seen_after}
-use Rattle.fam_judging.specs.Among.{LeadsBehind}
+use Rattle.fam_judging.specs.Among.{LeadsBehind, StepsAmong}
 use Rattle.fam_judging.specs.Candidates.{possible_of}
-use Rattle.fam_judging.specs.Pushing.{IsFine, Pushes}
-use Rattle.fam_judging.proofs.Among.{behind_none, behind_pushed}
+use Rattle.fam_judging.specs.Pushing.{IsFine}
+use Rattle.fam_judging.proofs.Among.{behind_none, behind_steps}
 use Rattle.fam_judging.proofs.Goings.{on_ok}
 use Rattle.fam_judging.proofs.going.lead_behind.Goals as goal
 
@@ -25,7 +24,7 @@ returns c start x long fine named =
     let Fine : Candidate → Type 0 = IsFine start c.args.given.now (seen_after hosts.seen.items c.args.line.now) in
     let see = possible_after start hosts c.args.line.now in
     let old = c.args.out.now.items in
-    let new = c.step.new.out.items in
-    on_ok c.step.result (Pushes (StepsTo start w line) Fine see old new) (LeadsBehind start line c.args.at x w Fine see old new)
-    (behind_pushed start line c.args.at x w Fine see old new named)
-    (c.step.ensures start long fine.said)
+    let new = c.step_among.new.out.items in
+    on_ok c.step_among.result (StepsAmong start line w Fine see old new) (LeadsBehind start line c.args.at x w Fine see old new)
+    (behind_steps start line c.args.at x w Fine see old new named)
+    (c.step_among.ensures start long fine.said)

@@ -1,13 +1,13 @@
 use Rattle.std.proofs.Common.{◌≡◌, ℕ, length, subst, sym, arith}
-use Rattle.fam_judge.specs.Possible.{Possible, StepsTo}
+use Rattle.fam_judge.specs.Possible.{Possible}
 use Rattle.fam_lines.specs.Lines.{note_of_line}
 use Rattle.fam_judging.specs.declared.candidate.Candidate.{Candidate}
 use Rattle.fam_judging.specs.declared.candidate.Settled.{Settled}
 use Rattle.fam_judging.specs.After.{possible_after, seen_after}
-use Rattle.fam_judging.specs.Among.{LeadsAmong}
+use Rattle.fam_judging.specs.Among.{LeadsAmong, StepsAmong}
 use Rattle.fam_judging.specs.Candidates.{possible_of}
 use Rattle.fam_judging.specs.Going.{HasGiven}
-use Rattle.fam_judging.specs.Pushing.{IsFine, Pushes}
+use Rattle.fam_judging.specs.Pushing.{IsFine}
 use Rattle.fam_judging.proofs.Onward.{among_first, among_next}
 use Rattle.fam_judging.proofs.Writtens.{copied}
 use Rattle.fam_judging.proofs.going.lead_hosts.Goals as goal
@@ -21,11 +21,11 @@ hosts-init c start long has =
     let Fine : Candidate → Type 0 = IsFine start c.args.given.now (seen_after hosts.seen.items c.args.line.now) in
     let see = possible_after start hosts c.args.line.now in
     let out = c.args.out.now.items in
-    let new = c.step.new.out.items in
+    let new = c.step_among.new.out.items in
     let same = copied start hosts old own c.in_ok-own.ensures.settled c.in_ok-own.ensures.tracks in
     let said = subst (λ (s : Settled). HasGiven start c.args.given.now s) (sym c.in_ok-own.ensures.settled) has in
     among_first start line (possible_of start hosts old) Fine see out new
-    (subst (λ (x : Possible). Pushes (StepsTo start x line) Fine see out new) same (c.in_ok-step.ensures start long said))
+    (subst (λ (x : Possible). StepsAmong start line x Fine see out new) same (c.in_ok-step_among.ensures start long said))
 
 pub hosts-preserved : goal.hosts-preserved
 hosts-preserved c start long has =

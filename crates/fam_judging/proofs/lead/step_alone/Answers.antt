@@ -8,7 +8,7 @@ use Rattle.fam_judging.specs.Going.{Goes}
 use Rattle.fam_judging.specs.Pushing.{IsFine, Pushes}
 use Rattle.fam_judging.proofs.Goings.{on_ok}
 use Rattle.fam_judging.proofs.Pushes.{push_none, push_one}
-use Rattle.fam_judging.proofs.lead.step.Goals as goal
+use Rattle.fam_judging.proofs.lead.step_alone.Goals as goal
 
 pub returns-then-not-goes : goal.returns-then-not-goes
 returns-then-not-goes c start long has =

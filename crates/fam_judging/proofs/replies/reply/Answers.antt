@@ -3,20 +3,19 @@ use Rattle.std.proofs.lemmas.Option.{slice_get_read}
 use Rattle.fam_lines.specs.Lines.{answer_of}
 use Rattle.fam_judging.proofs.Goings.{on_ok}
 use Rattle.fam_judging.proofs.Replying.{idle_pushed, lefts_pushed, no_fault, tells_running}
-use Rattle.fam_judging.proofs.ShownAnswers.{shown_replies}
-use Rattle.fam_judging.proofs.replies.shown_reply.Goals as goal
+use Rattle.fam_judging.proofs.replies.reply.Goals as goal
 
 pub returns-in_default : goal.returns-in_default
 returns-in_default c start has =
-    let r = no_fault (answer_of c.args.answer.now) (shown_replies c.args.answer.now c.requires.shown) in
+    let r = no_fault (answer_of c.args.answer.now) c.requires.replies in
     idle_pushed start c.args.given.now c.args.hosts.now c.args.candidate.now c.args.at c.args.answer.now r.0 r.1 (sym c.in_default.ensures.is) c.args.out.now.items
 
-pub shown_lefts-requires-clause-told : goal.shown_lefts-requires-clause-told
-shown_lefts-requires-clause-told c = tells_running c.args.hosts.now c.args.at c.in-Some.cmd.now c.requires.told c.in-Some.ensures.is
+pub answer_lefts-requires-clause-told : goal.answer_lefts-requires-clause-told
+answer_lefts-requires-clause-told c = tells_running c.args.hosts.now c.args.at c.in-Some.cmd.now c.requires.told c.in-Some.ensures.is
 
 pub returns : goal.returns
 returns c start has =
-    let r = no_fault (answer_of c.args.answer.now) (shown_replies c.args.answer.now c.requires.shown) in
+    let r = no_fault (answer_of c.args.answer.now) c.requires.replies in
     let hosts = c.args.hosts.now in
     let tracks = c.args.candidate.now.tracks.items in
     let seen_is = slice_get_read hosts.seen.items (length hosts.seen.items) c.args.at c.index-seen.result.now refl c.in-Some.ensures.within c.index-seen.ensures in

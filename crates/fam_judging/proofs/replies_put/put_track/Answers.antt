@@ -1,9 +1,0 @@
-use Rattle.std.proofs.Common.{arith}
-use Rattle.fam_judging.proofs.ReplyPuts.{put_nowhere, put_there}
-use Rattle.fam_judging.proofs.replies_put.put_track.Goals as goal
-
-pub returns-then-at-len : goal.returns-then-at-len
-returns-then-at-len c = put_there c.args.at c.args.tracks.now.items c.args.track.now
-
-pub returns-else-at-len : goal.returns-else-at-len
-returns-else-at-len c = put_nowhere c.args.at _ c.args.tracks.now.items (omega (arith, c.if-at-len.false, c.len.ensures))
