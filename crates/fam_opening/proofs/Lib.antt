@@ -1,0 +1,3 @@
+pub mod Damaged
+pub mod Surveys
+pub mod SlotWords
