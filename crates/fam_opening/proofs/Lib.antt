@@ -1,3 +1,4 @@
 pub mod Damaged
 pub mod Surveys
 pub mod SlotWords
+pub mod FileBytes

@@ -6,6 +6,7 @@
 
 mod damage;
 mod fault;
+mod files;
 mod lines;
 mod slots;
 
