@@ -1,5 +1,5 @@
 -- What a damaged image tells, by the first fault of its reading.
-use Rattle.std.proofs.Common.{◌≡◌, ℕ, zero, suc, ◌+◌, ◌*◌, ◌<◌, ◌≤◌, Bool, true, false, List, [], ◌∷◌, ◌++◌, length, Option, Some, None, Result, Ok, Err, refl, sym, ap, subst, ◌∙◌, arith, if◌then◌else◌}
+use Rattle.std.proofs.Common.{◌≡◌, ℕ, zero, suc, ◌+◌, ◌*◌, ◌<◌, ◌≤◌, Bool, true, false, List, [], ◌∷◌, ◌++◌, length, map, Option, Some, None, Result, Ok, Err, refl, sym, ap, subst, ◌∙◌, arith, if◌then◌else◌}
 use Rattle.std.specs.Prelude.{⊤, nat_lt}
 use Rattle.std.proofs.lemmas.Bool.{lt-ltb, le-ltb}
 use Rattle.fam_base.specs.declared.entry.Entry.{Entry}
@@ -12,11 +12,16 @@ use Rattle.fam_format.specs.Layout.{least_lines, log_line}
 use Rattle.fam_format.specs.Log.{gate_fault, log_fault}
 use Rattle.fam_format.specs.Reading as read
 use Rattle.fam_format.specs.Reading.{Lines, Reading, gate_in, joined_or, read_below, read_log, read_slots, reading, reading_of, slot_in, slot_or, super_in}
+use Rattle.fam_format.specs.Params.{SoundParams}
 use Rattle.fam_format.specs.Tree.{join_fault}
+use Rattle.fam_format.proofs.UnitPowers.{unit_told}
 use Rattle.fam_rules.specs.declared.answers.Report.{Report}
 use Rattle.fam_rules.specs.Place.{line_bytes}
+use Rattle.fam_rules.specs.Solo.{held_file}
 use Rattle.fam_rules.specs.Reports.{log_report, no_survey, report_below, report_by, report_log, report_of, report_super, super_report, survey_slots}
-use Rattle.fam_journal.specs.Past.{Bad, BadHeader, BadSlot, FewLines, Given, NoSuperblock, State, first_state, state_read}
+use Rattle.fam_replay.specs.Sources.{Tells}
+use Rattle.fam_replay.specs.declared.fault.ReadFault.{ReadFault}
+use Rattle.fam_journal.specs.Past.{Bad, BadHeader, BadSlot, FewLines, Given, NoSuperblock, Sound, State, first_state, state_read}
 use Rattle.fam_judging.specs.Candidates.{IsGivenImage}
 use Rattle.fam_judging.specs.declared.given.Damage.TheVariants as damage
 use Rattle.fam_judging.specs.declared.given.GivenImage.{GivenImage}
@@ -150,3 +155,36 @@ module _ (image : Image) (p : Params) (told : super_in (line_at image) (line_byt
         ∙ ap (λ (n : ℕ). report_by p n (survey_slots (line_at image) p n 0 p.slots no_survey)) (sym counts)
         ∙ sym (log_is ∙ slot_report (line_at image) p (log_fault (line_at image log_line) p) seq reason (sym log_read ∙ reads));
   }
+
+-- Images of so many lines.
+
+-- what the superblock tells
+pub super_sized : (image : Image) (size : ℕ) (told : Result Params SuperFault) → length image ≡ size → super_in (line_at image) (line_bytes * size) ≡ told
+    → super_in (line_at image) (line_bytes * length image) ≡ told
+super_sized image size told count is = ap (λ (n : ℕ). super_in (line_at image) (line_bytes * n)) count ∙ is
+
+-- the reading, behind a superblock
+pub reading_sized : (image : Image) (size : ℕ) (p : Params) (what : Reading) → length image ≡ size → super_in (line_at image) (line_bytes * size) ≡ Ok p
+    → read_log (line_at image) p (log_fault (line_at image log_line) p) ≡ what → reading image ≡ what
+reading_sized image size p what count told is = log_read image p (super_sized image size (Ok p) count told) ∙ is
+
+-- behind a superblock no other one is told
+pub other_super : (image : Image) (p : Params) (fault : SuperFault) (told : Result Params SuperFault)
+    → read_log (line_at image) p (log_fault (line_at image log_line) p) ≡ read.NoSuperblock fault → told ≡ Err fault
+other_super image p fault told is = absurd (no_super_in_log (line_at image) p (log_fault (line_at image log_line) p) fault is)
+
+-- a sound superblock is of an image with a gate
+pub gate_within : (p : Params) (lines : ℕ) → SoundParams p → p.device ≤ line_bytes * lines → least_lines ≤ lines
+gate_within p lines sound device =
+    let least = (unit_told p.unit sound.unit).least in
+    let need = sound.need in
+    omega (arith, least, need, device)
+
+-- a sound image's first state
+pub state_sound : (image : Image) (p : Params) (entries : List Entry) → least_lines ≤ length image → reading image ≡ read.Sound p entries
+    → first_state image ≡ Sound p (map (held_file (line_at image)) entries) None
+state_sound image p entries enough is = state_of image enough ∙ ap (state_read image) is
+
+-- what a fault tells, where it is this one
+pub tells_here : (f g : ReadFault) (what : Reading) → f ≡ g → Tells f what → Tells g what
+tells_here f g what is tells = subst (λ (h : ReadFault). Tells h what) is tells

@@ -2,3 +2,4 @@ pub mod Damaged
 pub mod Surveys
 pub mod SlotWords
 pub mod FileBytes
+pub mod Held
