@@ -1,13 +1,15 @@
 -- What a damaged image tells, by the first fault of its reading.
-use Rattle.std.proofs.Common.{◌≡◌, ℕ, zero, suc, ◌+◌, ◌*◌, ◌<◌, ◌≤◌, Bool, true, false, List, [], ◌∷◌, ◌++◌, length, map, Option, Some, None, Result, Ok, Err, refl, sym, ap, subst, ◌∙◌, arith, if◌then◌else◌}
-use Rattle.std.specs.Prelude.{⊤, nat_lt}
+use Rattle.std.proofs.Common.{◌≡◌, ℕ, zero, suc, ◌+◌, ◌*◌, ◌<◌, ◌≤◌, List, [], ◌∷◌, ◌++◌, length, map, Option, Some, None, Result, Ok, Err, refl, sym, ap, subst, ◌∙◌, arith}
+use Rattle.std.specs.Prelude.{⊤}
 use Rattle.std.proofs.lemmas.Bool.{lt-ltb, le-ltb}
 use Rattle.fam_base.specs.declared.entry.Entry.{Entry}
 use Rattle.fam_base.specs.declared.entry.Params.{Params}
 use Rattle.fam_base.specs.Image.{Image, line_at}
 use Rattle.fam_format.specs.declared.faults.LogFault.{LogFault}
+use Rattle.fam_format.specs.declared.faults.LogFault.TheVariants as log
 use Rattle.fam_format.specs.declared.faults.Reason.{Reason}
 use Rattle.fam_format.specs.declared.faults.SuperFault.{SuperFault}
+use Rattle.fam_format.specs.declared.faults.SuperFault.TheVariants as super
 use Rattle.fam_format.specs.Layout.{least_lines, log_line}
 use Rattle.fam_format.specs.Log.{gate_fault, log_fault}
 use Rattle.fam_format.specs.Reading as read
@@ -19,12 +21,12 @@ use Rattle.fam_rules.specs.declared.answers.Report.{Report}
 use Rattle.fam_rules.specs.Place.{line_bytes}
 use Rattle.fam_rules.specs.Solo.{held_file}
 use Rattle.fam_rules.specs.Reports.{log_report, no_survey, report_below, report_by, report_log, report_of, report_super, super_report, survey_slots}
-use Rattle.fam_replay.specs.Sources.{Tells}
+use Rattle.fam_replay.specs.Sources.{Tells, of_log, of_super}
 use Rattle.fam_replay.specs.declared.fault.ReadFault.{ReadFault}
-use Rattle.fam_journal.specs.Past.{Bad, BadHeader, BadSlot, FewLines, Given, NoSuperblock, Sound, State, first_state, state_read}
+use Rattle.fam_replay.specs.declared.fault.ReadFault.TheVariants as fault
+use Rattle.fam_journal.specs.Past.{Bad, BadHeader, BadSlot, FewLines, Given, NoSuperblock, Sound, first_state, state_read}
 use Rattle.fam_judging.specs.Candidates.{IsGivenImage}
 use Rattle.fam_judging.specs.declared.given.Damage.TheVariants as damage
-use Rattle.fam_judging.specs.declared.given.GivenImage.{GivenImage}
 
 -- What the slots may tell.
 
@@ -145,7 +147,8 @@ module _ (image : Image) (p : Params) (told : super_in (line_at image) (line_byt
 
   -- with a bad slot
   pub given_slot : (seq : ℕ) (reason : Reason) (gate : ℕ) (report : Report) → least_lines ≤ length image → reading image ≡ read.BadSlot seq reason → gate_in (line_at image) ≡ gate
-      → report ≡ report_by p gate (survey_slots (line_at image) p gate 0 p.slots no_survey) → IsGivenImage image (record { damage = damage.BadSlot seq reason; gate = gate; params = Some p; report = report })
+      → report ≡ report_by p gate (survey_slots (line_at image) p gate 0 p.slots no_survey)
+      → IsGivenImage image (record { damage = damage.BadSlot seq reason; gate = gate; params = Some p; report = report })
   given_slot seq reason gate report enough reads counts is = record {
     state = state_of image enough ∙ ap (state_read image) reads ∙ ap (Bad (Given image) (BadSlot seq reason)) counts;
     super = one;
@@ -185,6 +188,14 @@ pub state_sound : (image : Image) (p : Params) (entries : List Entry) → least_
     → first_state image ≡ Sound p (map (held_file (line_at image)) entries) None
 state_sound image p entries enough is = state_of image enough ∙ ap (state_read image) is
 
--- what a fault tells, where it is this one
-pub tells_here : (f g : ReadFault) (what : Reading) → f ≡ g → Tells f what → Tells g what
-tells_here f g what is tells = subst (λ (h : ReadFault). Tells h what) is tells
+-- What a fault tells.
+
+pub super_told : (f : ReadFault) (fault : SuperFault) (what : Reading) → of_super fault ≡ f → Tells f what → what ≡ read.NoSuperblock fault
+super_told f (super.NoSuper word) what is tells = subst (λ (g : ReadFault). Tells g what) (sym is) tells
+super_told f (super.BadSuper field found wanted) what is tells = subst (λ (g : ReadFault). Tells g what) (sym is) tells
+
+pub log_told : (f : ReadFault) (fault : LogFault) (what : Reading) → of_log fault ≡ f → Tells f what → what ≡ read.BadHeader fault
+log_told f (log.BadLog field found wanted) what is tells = subst (λ (g : ReadFault). Tells g what) (sym is) tells
+
+pub slot_told : (f : ReadFault) (seq : ℕ) (reason : Reason) (what : Reading) → fault.BadEntry seq reason ≡ f → Tells f what → what ≡ read.BadSlot seq reason
+slot_told f seq reason what is tells = subst (λ (g : ReadFault). Tells g what) (sym is) tells

@@ -4,14 +4,11 @@ use Rattle.std.proofs.lemmas.Bool.{cases_lt}
 use Rattle.std.proofs.lemmas.List.{get_or-take, length-take-le}
 use Rattle.std.proofs.lemmas.List.FromFn.{fill_by_all}
 use Rattle.fam_base.specs.declared.entry.Entry.{Entry}
-use Rattle.fam_base.specs.declared.entry.Params.{Params}
 use Rattle.fam_base.specs.Image.{Image, byte_of, eight, line_at}
-use Rattle.fam_format.specs.Params.{SoundParams}
 use Rattle.fam_format.specs.Reading.{Lines}
-use Rattle.fam_format.specs.Slot.{Proper}
 use Rattle.fam_media.specs.Runs.{AreRead, line_in}
 use Rattle.fam_rules.specs.Content.{byte_in}
-use Rattle.fam_rules.specs.Place.{line_bytes, place}
+use Rattle.fam_rules.specs.Place.{place}
 use Rattle.fam_rules.specs.Solo.{held_file}
 use Rattle.fam_rules.specs.Written.{file_line}
 use Rattle.fam_rules.proofs.FilePlaces.{line_place}

@@ -1,7 +1,6 @@
 -- The settled log while entries are added to it.
 use Rattle.std.proofs.Common.{◌≡◌, ℕ, ◌+◌, ◌*◌, ◌<◌, ◌≤◌, List, [], ◌∷◌, ◌++◌, length, map, take, Option, Some, None, refl, sym, ap, ap₂, subst, ◌∙◌, arith}
 use Rattle.std.specs.Prelude.{slice_get}
-use Rattle.std.specs.List.{range_with_len}
 use Rattle.std.proofs.Math.Seq.{take-length}
 use Rattle.std.proofs.lemmas.List.{length-take-le, map_push, take_more}
 use Rattle.std.proofs.lemmas.List.FromFn.{length-map-range_with_len}
@@ -14,7 +13,7 @@ use Rattle.fam_plan.specs.State.{IsHistory, MayBeAdded, PlanState}
 use Rattle.fam_rules.specs.Asks.{File, entries_of}
 use Rattle.fam_rules.specs.Content.{fill}
 use Rattle.fam_rules.specs.Solo.{held_file}
-use Rattle.fam_journal.specs.Past.{Sound, State}
+use Rattle.fam_journal.specs.Past.{Sound}
 use Rattle.fam_settled.specs.declared.bytes.Filed.{Filed}
 use Rattle.fam_settled.specs.Settled.{SettledLog, filed, plan_of, settled_files, settled_log_state}
 use Rattle.fam_settled.proofs.Files.{entries_of-files_of}

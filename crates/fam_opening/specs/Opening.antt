@@ -1,5 +1,5 @@
 -- What is read of an image, and why it isn't read.
-use Rattle.std.specs.Prelude.{ℕ, ⊤, ◌≡◌, ◌<◌}
+use Rattle.std.specs.Prelude.{ℕ, ⊤, ◌<◌}
 use Rattle.fam_media.specs.Causes.{Rose}
 use Rattle.fam_opening.specs.declared.fault.OpenFault.{OpenFault}
 use Rattle.fam_opening.specs.declared.fault.OpenFault.TheVariants.{MediaFault, OutOfMemory}

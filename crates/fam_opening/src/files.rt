@@ -12,7 +12,7 @@ ghost use Rattle.fam_opening.specs.Files.{AreInRow, HoldFirst, IsFileOn, byte_he
 ghost use Rattle.fam_opening.specs.Opening.{IsOpenCaused};
 
 use crate::fault::OpenFault;
-use fam_base::{Entry, Line, LineNo, OutOfMemory};
+use fam_base::{Entry, Line, OutOfMemory};
 use fam_content::{file_line, lines_in_row, lines_of};
 use fam_format::byte_of;
 use fam_media::Media;

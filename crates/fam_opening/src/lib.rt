@@ -7,6 +7,7 @@
 mod damage;
 mod fault;
 mod files;
+mod found;
 mod lines;
 mod opened;
 mod slots;

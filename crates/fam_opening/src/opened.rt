@@ -15,6 +15,7 @@ ghost use Rattle.fam_opening.specs.Opening.{IsOpenCaused};
 
 use crate::damage::{bad_header, bad_slot, bad_superblock, few_lines};
 use crate::fault::OpenFault;
+use crate::found::{Found, found_by};
 use crate::lines::{read_line, read_superblock};
 use crate::slots::report_slots;
 use crate::sound::hold_all;
@@ -22,7 +23,7 @@ use fam_base::{LineNo, Params};
 use fam_format::{GATE_LINE, LEAST_LINES, LogFault, Reason, SuperFault};
 use fam_judging::GivenImage;
 use fam_media::Media;
-use fam_replay::{ReadFault, read_behind};
+use fam_replay::read_behind;
 use fam_settled::Log;
 use std::alloc::Global;
 
@@ -107,11 +108,7 @@ fn open_with_slot<M: Media>(
 }
 
 /// An image whose superblock has these parameters.
-fn open_behind<M: Media>(
-    alloc: Global,
-    media: &mut M,
-    params: &Params,
-) -> Result<Opened, OpenFault>
+fn open_behind<M: Media>(alloc: Global, media: &mut M, params: &Params) -> Result<Opened, OpenFault>
     requires within { least_lines ≤ M.size media.old }
     requires sound { SoundParams params.now }
     requires device { params.now.device ≤ line_bytes * M.size media.old }
@@ -121,34 +118,17 @@ fn open_behind<M: Media>(
     ensures same { (M.state media.new).image ≡ (M.state media.old).image }
     ensures steady { IsSteady M.size M.state media.old media.new }
 {
-    let given = match read_behind(alloc, media, params) {
+    let fault = match read_behind(alloc, media, params) {
         Ok(plan) => return Ok(Opened::Sound(hold_all(alloc, media, &plan)?)),
-        Err(ReadFault::NoSuper(word)) => open_without_superblock(media, SuperFault::NoSuper(word)),
-        Err(ReadFault::BadSuper {
-            field,
-            found,
-            wanted,
-        }) => open_without_superblock(media, SuperFault::BadSuper {
-            field,
-            found,
-            wanted,
-        }),
-        Err(ReadFault::BadLog {
-            field,
-            found,
-            wanted,
-        }) => open_with_header(media, params, LogFault::BadLog {
-            field,
-            found,
-            wanted,
-        }),
-        Err(ReadFault::BadEntry { seq, reason }) => {
-            open_with_slot(alloc, media, params, seq, reason)
-        }
-        Err(ReadFault::MediaFault(line)) => Err(OpenFault::MediaFault(line.0)),
-        Err(ReadFault::OutOfMemory) => Err(OpenFault::OutOfMemory),
+        Err(fault) => fault,
     };
-    Ok(Opened::Damaged(given?))
+    let given = match found_by(fault) {
+        Found::Superblock(fault) => open_without_superblock(media, fault)?,
+        Found::Header(fault) => open_with_header(media, params, fault)?,
+        Found::Slot(seq, reason) => open_with_slot(alloc, media, params, seq, reason)?,
+        Found::Unread(fault) => return Err(fault),
+    };
+    Ok(Opened::Damaged(given))
 }
 
 /// Reads an image as the state in which a history begins on it. Out of memory may come of any image.

@@ -1,4 +1,4 @@
-use Rattle.std.proofs.Common.{◌≡◌, ℕ, ◌*◌, ap, ◌∙◌}
+use Rattle.std.proofs.Common.{ℕ, ◌*◌, ap, ◌∙◌}
 use Rattle.fam_base.specs.Image.{line_at}
 use Rattle.fam_format.specs.Reading.{super_in}
 use Rattle.fam_rules.specs.Place.{line_bytes}

@@ -1,4 +1,4 @@
-use Rattle.std.proofs.Common.{◌≡◌, ℕ, ◌+◌, ◌*◌, ◌<◌, get_or, length, vec_len}
+use Rattle.std.proofs.Common.{◌≡◌, ℕ, ◌+◌, ◌*◌, ◌<◌, get_or, vec_len}
 use Rattle.fam_media.specs.Runs.{line_in}
 use Rattle.fam_rules.specs.Content.{byte_in}
 use Rattle.fam_opening.proofs.files.push_lines.Given as goal

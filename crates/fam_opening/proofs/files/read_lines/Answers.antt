@@ -1,6 +1,5 @@
-use Rattle.std.proofs.Common.{◌≡◌, ℕ, ◌+◌, ◌*◌, ◌≤◌, ◌∙◌, length, take, ap, subst, sym, rules, arith}
+use Rattle.std.proofs.Common.{ℕ, ◌+◌, ◌*◌, ◌≤◌, ◌∙◌, length, ap, rules, arith}
 use Rattle.std.proofs.lemmas.List.{length-take-le}
-use Rattle.fam_base.specs.Image.{line_at}
 use Rattle.fam_opening.proofs.files.read_lines.Goals as goal
 
 pub loop-j-preserved : goal.loop-j-preserved

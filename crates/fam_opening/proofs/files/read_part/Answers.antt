@@ -1,4 +1,4 @@
-use Rattle.std.proofs.Common.{◌≡◌, ℕ, ◌+◌, ◌*◌, ◌<◌, ◌∙◌, get_or, length, subst, sym, arith}
+use Rattle.std.proofs.Common.{◌≡◌, ℕ, ◌+◌, ◌*◌, ◌∙◌, get_or, length, subst, sym, arith}
 use Rattle.fam_base.specs.Image.{line_at}
 use Rattle.fam_rules.specs.Content.{byte_in}
 use Rattle.fam_media.specs.Runs.{line_in}

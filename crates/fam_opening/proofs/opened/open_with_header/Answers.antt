@@ -1,4 +1,4 @@
-use Rattle.std.proofs.Common.{Ok, ◌∙◌, arith}
+use Rattle.std.proofs.Common.{Ok, arith}
 use Rattle.fam_opening.proofs.Damaged.{super_sized}
 use Rattle.fam_opening.proofs.opened.open_with_header.Goals as goal
 

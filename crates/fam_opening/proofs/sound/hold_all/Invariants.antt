@@ -1,4 +1,4 @@
-use Rattle.std.proofs.Common.{◌≡◌, ◌≤◌, None, length, map, take, vec_len}
+use Rattle.std.proofs.Common.{◌≡◌, None, map, take, vec_len}
 use Rattle.fam_base.specs.Image.{line_at}
 use Rattle.fam_media.specs.Causes.{IsSteady}
 use Rattle.fam_media.specs.Outside.{IfModelled}
