@@ -27,7 +27,8 @@ module _ (memory : Lines) (p : Params) (slot : ℕ) where
       ]
 
   -- all of them
-  pub words_all : (words : List ℕ) (line : ℕ) → (geometry p).words ≤ length words → (geometry p).lines ≤ line → ((k : ℕ) → k < 8 * line → get_or words k 0 ≡ slot_word memory p slot k)
+  pub words_all : (words : List ℕ) (line : ℕ) → (geometry p).words ≤ length words → (geometry p).lines ≤ line
+      → ((k : ℕ) → k < 8 * line → get_or words k 0 ≡ slot_word memory p slot k)
       → take (geometry p).words words ≡ slot_words memory p slot
   unfolding slot_words
   words_all words line count past each =
