@@ -171,7 +171,8 @@ _famfs_helper_options() {
 # what its words are, in order
 _famfs_helper_places() {
     case $1 in
-        famfs-describe | famfs-judge | famfs-list) echo "file" ;;
+        famfs-describe | famfs-list) echo "file" ;;
+        famfs-judge) echo "file file" ;;
         famfs-extract) echo "file path file" ;;
         famfs-tree) echo "folder file path" ;;
     esac

@@ -1,5 +1,5 @@
 -- Texts behind one another.
-use Rattle.std.proofs.Common.{◌≡◌, ℕ, List, ◌++◌, refl, sym, ◌∙◌}
+use Rattle.std.proofs.Common.{◌≡◌, ℕ, List, ◌++◌, refl, ◌∙◌}
 use Rattle.std.proofs.lemmas.List.{append_assoc}
 
 -- four texts

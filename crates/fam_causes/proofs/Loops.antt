@@ -1,5 +1,5 @@
 -- What loops over candidates keep.
-use Rattle.std.proofs.Common.{◌≡◌, ◌+◌, ◌<◌, ◌≤◌, ℕ, List, [], ◌∷◌, length, Option, Some, None, refl, sym, ap, subst, ◌∙◌, inl, inr, arith}
+use Rattle.std.proofs.Common.{◌≡◌, ◌+◌, ◌<◌, ℕ, List, [], ◌∷◌, length, Option, Some, None, refl, sym, ap, subst, ◌∙◌, inl, inr, arith}
 use Rattle.std.specs.Option.{IfSome, MatchOption}
 use Rattle.std.specs.Prelude.{◌==◌, false, get_or, is_some, slice_get}
 use Rattle.std.proofs.lemmas.Bool.{cases_lt, true≢false}

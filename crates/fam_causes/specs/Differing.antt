@@ -1,5 +1,5 @@
 -- What was wanted in place of an answer, an entry or a found.
-use Rattle.std.specs.Prelude.{ℕ, ◌≡◌, ◌≢◌, ◌<◌, ◌⊎◌, ◌↔◌, ◌++◌, List, [], length, slice_get, take, Vec, Option, Some, None, Result, Ok, Err}
+use Rattle.std.specs.Prelude.{ℕ, ◌≡◌, ◌≢◌, ◌<◌, ◌⊎◌, ◌↔◌, ◌++◌, false, List, [], length, slice_get, take, Vec, Option, Some, None, Result, Ok, Err}
 use Rattle.std.specs.FinMap as map
 use Rattle.std.specs.Global.{Global}
 use Rattle.fam_base.specs.declared.entry.Entry.{Entry}
@@ -32,7 +32,8 @@ use Rattle.fam_judging.specs.FoundLefts.{host_of}
 use Rattle.fam_judging.specs.Going.{running}
 use Rattle.fam_judging.specs.ReplyKinds.{damage_in}
 use Rattle.fam_causes.specs.Asked.{Asked}
-use Rattle.fam_causes.specs.Bounds.{IsFirstToShow, ShowsSo, shown_count}
+use Rattle.fam_causes.specs.Asking.{asking_of, asks_survey}
+use Rattle.fam_causes.specs.Bounds.{IsFirstToShow, shown_count}
 
 -- the line is this answer to host h, which runs this command
 pub record AnswersCommand (x : Asked) (h : ℕ) (answer : HostAnswer) (cmd : ToldCommand) : Type 0 where
@@ -148,11 +149,15 @@ damage_of (given.BadHeader fault) = Some (past.BadHeader fault)
 damage_of (given.BadSlot seq reason) = Some (past.BadSlot seq reason)
 damage_of (given.MediaFault at) = None
 
--- the first candidate is damaged so, and the answer tells of so many entries
+-- the first candidate is damaged so, of which the answer says nothing; and the command isn't one that checks the file system, and so
+-- answers with a report of the damage
 pub record IsOtherDamaged (x : Asked) (wanted : ToldAnswer) : Type 0 where
   pub host : ℕ
-  pub m : ℕ
-  pub shows : ShowsSo x host m
+  pub answer : HostAnswer
+  pub cmd : ToldCommand
+  pub answers : AnswersCommand x host answer cmd
+  pub no_survey : asks_survey (asking_of cmd) ≡ false
+  pub silent : damage_of answer ≡ None
   pub one : Candidate
   pub first : slice_get x.candidates 0 ≡ Some one
   pub damaged : told_of_damage (damage_in x.given one.settled) ≡ Some wanted

@@ -1,6 +1,6 @@
 //! Why an answer can't stand.
 
-ghost use Rattle.std.specs.Prelude.{◌≡◌, ◌<◌, ℕ, Bool, IfOk, IfSome, IsTrue, List, MatchOption, Some, length};
+ghost use Rattle.std.specs.Prelude.{◌≡◌, ◌<◌, ℕ, Bool, IfOk, IfSome, IsFalse, IsTrue, List, MatchOption, None, Some, length};
 ghost use Rattle.fam_journal.specs.Past.{Damage};
 ghost use Rattle.fam_lines.specs.declared.answer.HostAnswer.TheVariants as answer;
 ghost use Rattle.fam_lines.specs.declared.line.Line.TheVariants as line;
@@ -13,6 +13,7 @@ ghost use Rattle.fam_causes.specs.Causes.{IsCause};
 ghost use Rattle.fam_causes.specs.Differing.{damage_of};
 
 use crate::acknowledged::is_unacknowledged;
+use crate::asking::asking_of;
 use crate::bounds::{least_floor, most, shown_count};
 use crate::damages::{first_damage, is_other_damage};
 use crate::decided::{decided, is_other};
@@ -66,30 +67,8 @@ fn many_cause(candidates: &Vec<Candidate>, at: usize, answer: &HostAnswer, m: u6
     }
 }
 
-/// It shows something of a damaged image.
-fn damaged_cause(
-    given: &GivenImage,
-    candidates: &Vec<Candidate>,
-    at: usize,
-    answer: &HostAnswer,
-    m: u64,
-) -> Option<Cause>
-    requires count { shown_count answer.now ≡ Some m }
-    ensures { (hosts : Hosts) (marks : List ℕ) (name : List ℕ) (answers : Bool) → IfSome result
-        (IsCause (asked given.now hosts candidates.now.items marks name answers (Some (line.Answered at answer.now)))) }
-{
-    let _ = at;
-    let _ = answer;
-    let _ = m;
-    match first_damage(given, candidates) {
-        Some(wanted) => Some(Cause::OtherAnswer(Some(wanted))),
-        None => None,
-    }
-}
-
 /// Why an answer of so many entries can't stand, whatever it shows of them.
 fn count_cause(
-    given: &GivenImage,
     candidates: &Vec<Candidate>,
     marks: &[u64],
     at: usize,
@@ -97,18 +76,54 @@ fn count_cause(
     m: u64,
 ) -> Option<Cause>
     requires count { shown_count answer.now ≡ Some m }
-    ensures { (hosts : Hosts) (name : List ℕ) (answers : Bool) → IfSome result
-        (IsCause (asked given.now hosts candidates.now.items marks.now name answers (Some (line.Answered at answer.now)))) }
+    ensures { (given : GivenImage) (hosts : Hosts) (name : List ℕ) (answers : Bool) → IfSome result
+        (IsCause (asked given hosts candidates.now.items marks.now name answers (Some (line.Answered at answer.now)))) }
 {
     let few = few_cause(candidates, marks, at, answer, m);
     if few.is_some() {
         return few;
     }
-    let many = many_cause(candidates, at, answer, m);
-    if many.is_some() {
-        return many;
+    many_cause(candidates, at, answer, m)
+}
+
+/// Whether an answer tells of damage.
+fn tells_damage(answer: &HostAnswer) -> bool
+    ensures damage { IsTrue result → (d : Damage) × (damage_of answer.now ≡ Some d) }
+    ensures none { IsFalse result → damage_of answer.now ≡ None }
+{
+    match answer {
+        HostAnswer::NoSuperblock(_) => true,
+        HostAnswer::BadHeader(_) => true,
+        HostAnswer::BadSlot(_, _) => true,
+        _ => false,
     }
-    damaged_cause(given, candidates, at, answer, m)
+}
+
+/// The image is damaged, of which an answer says nothing.
+fn damaged_cause(
+    given: &GivenImage,
+    hosts: &Hosts,
+    candidates: &Vec<Candidate>,
+    at: usize,
+    cmd: &ToldCommand,
+    answer: &HostAnswer,
+) -> Option<Cause>
+    requires runs { running hosts.now.seen.items hosts.now.commands.items at ≡ Some cmd.now }
+    ensures { (marks : List ℕ) (name : List ℕ) (answers : Bool) → IfSome result
+        (IsCause (asked given.now hosts.now candidates.now.items marks name answers (Some (line.Answered at answer.now)))) }
+{
+    let _ = hosts;
+    let _ = at;
+    if asking_of(cmd).is_survey() {
+        return None;
+    }
+    if tells_damage(answer) {
+        return None;
+    }
+    match first_damage(given, candidates) {
+        Some(wanted) => Some(Cause::OtherAnswer(Some(wanted))),
+        None => None,
+    }
 }
 
 /// The cause that was found, or the last resort.
@@ -159,7 +174,10 @@ fn showing_cause(
     ensures { (name : List ℕ) (answers : Bool) → IfOk result
         (IsCause (asked given.now hosts.now candidates.now.items marks.now name answers (Some (line.Answered at answer.now)))) }
 {
-    if let Some(cause) = count_cause(given, candidates, marks, at, answer, m) {
+    if let Some(cause) = count_cause(candidates, marks, at, answer, m) {
+        return Ok(cause);
+    }
+    if let Some(cause) = damaged_cause(given, hosts, candidates, at, cmd, answer) {
         return Ok(cause);
     }
     let found = content_cause(alloc, hosts, candidates, at, cmd, answer, m)?;
@@ -208,18 +226,6 @@ fn acknowledged_cause(
     }
 }
 
-/// Whether an answer tells of damage.
-fn tells_damage(answer: &HostAnswer) -> bool
-    ensures { IsTrue result → (d : Damage) × (damage_of answer.now ≡ Some d) }
-{
-    match answer {
-        HostAnswer::NoSuperblock(_) => true,
-        HostAnswer::BadHeader(_) => true,
-        HostAnswer::BadSlot(_, _) => true,
-        _ => false,
-    }
-}
-
 /// No state is damaged so.
 fn damage_cause(
     given: &GivenImage,
@@ -257,6 +263,10 @@ fn other_cause(
     let wanted = decided_cause(hosts, candidates, at, cmd, answer);
     if wanted.is_some() {
         return wanted;
+    }
+    let damaged = damaged_cause(given, hosts, candidates, at, cmd, answer);
+    if damaged.is_some() {
+        return damaged;
     }
     match answer {
         HostAnswer::Appended(seq) => acknowledged_cause(hosts, candidates, at, cmd, *seq),

@@ -20,15 +20,6 @@ fn path_asked(cmd: &ToldCommand) -> Option<&Path> {
     }
 }
 
-/// The content of a file, where it is told.
-fn content_of(bytes: Bytes) -> Option<Content> {
-    match bytes {
-        Bytes::Zero => Some(Content::Zero),
-        Bytes::Seed(seed) => Some(Content::Seed(seed)),
-        Bytes::Untold => None,
-    }
-}
-
 /// The first offset below the end at which two contents differ, with the bytes there.
 fn first_difference(a: &Content, b: &Content, end: u64) -> Option<(u64, u8, u8)> {
     let mut first = ContentStream::new(a);
@@ -44,12 +35,9 @@ fn first_difference(a: &Content, b: &Content, end: u64) -> Option<(u64, u8, u8)>
     None
 }
 
-/// A verify of a file with this content.
-fn compared(m: u64, file: &Filed, against: &Content) -> ToldAnswer {
-    let Some(content) = content_of(file.bytes) else {
-        return ToldAnswer::Same(m);
-    };
-    match first_difference(&content, against, file.entry.size) {
+/// A verify of a file that has this content with another one.
+fn compared_with(m: u64, content: &Content, size: u64, against: &Content) -> ToldAnswer {
+    match first_difference(content, against, size) {
         Some((offset, found, wanted)) => ToldAnswer::Differs {
             entries: m,
             offset,
@@ -57,6 +45,17 @@ fn compared(m: u64, file: &Filed, against: &Content) -> ToldAnswer {
             wanted,
         },
         None => ToldAnswer::Same(m),
+    }
+}
+
+/// A verify of a file with this content.
+fn compared(m: u64, file: &Filed, against: &Content) -> ToldAnswer {
+    let size = file.entry.size;
+    match &file.bytes {
+        Bytes::Zero => compared_with(m, &Content::Zero, size, against),
+        Bytes::Seed(seed) => compared_with(m, &Content::Seed(*seed), size, against),
+        Bytes::Held(held) => compared_with(m, held.content(), size, against),
+        Bytes::Untold => ToldAnswer::Same(m),
     }
 }
 
@@ -116,11 +115,13 @@ fn read(
     offset: u64,
     count: u64,
 ) -> Result<Option<ToldAnswer>, OutOfMemory> {
-    let Some(content) = content_of(file.bytes) else {
-        return Ok(None);
-    };
     let end = file.entry.size.min(offset.saturating_add(count));
-    let bytes = bytes_between(alloc, &content, offset, end)?;
+    let bytes = match &file.bytes {
+        Bytes::Zero => bytes_between(alloc, &Content::Zero, offset, end)?,
+        Bytes::Seed(seed) => bytes_between(alloc, &Content::Seed(*seed), offset, end)?,
+        Bytes::Held(held) => bytes_between(alloc, held.content(), offset, end)?,
+        Bytes::Untold => return Ok(None),
+    };
     let bytes = SharedBytes::new(alloc, bytes)?;
     Ok(Some(ToldAnswer::Bytes(m, bytes)))
 }
@@ -156,7 +157,7 @@ pub(crate) fn likely_answer(
     let Some(path) = path_asked(cmd) else {
         return Ok(None);
     };
-    let Some(file) = log.file_among(m, path) else {
+    let Some(file) = log.file_among(m, path)? else {
         return Ok(Some(ToldAnswer::NotFound(m)));
     };
     match file.entry.kind {

@@ -104,7 +104,7 @@ impl Asking {
         }
     }
 
-    fn is_survey(self) -> bool
+    pub(crate) fn is_survey(self) -> bool
         ensures { result ≡ asks_survey self }
     {
         match self {

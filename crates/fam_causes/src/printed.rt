@@ -11,7 +11,7 @@ ghost use Rattle.fam_causes.specs.CauseTexts.{cause_lines, entry_or_end, wanted_
 
 use crate::kinds::Cause;
 use fam_base::{ByteText, Entry, LineNo, OutOfMemory, SharedBytes, put_bytes};
-use fam_format::{LogFault, SuperFault};
+use fam_format::{LogFault, Reason, SuperFault};
 use fam_history::ToldAnswer;
 use fam_rules::{Checked, Refused};
 use fam_script::{answer_text, line, line_of, line_with, line_with_last_name};
@@ -131,6 +131,41 @@ fn report_line(alloc: Global, sound: bool) -> Result<Vec<u8>, OutOfMemory>
     }
 }
 
+/// The line of the first bytes that differ.
+fn differs_line(
+    alloc: Global,
+    m: u64,
+    offset: u64,
+    found: u8,
+    wanted: u8,
+) -> Result<Vec<u8>, OutOfMemory>
+    ensures { IfOk result (λ bytes. bytes.items ≡ text.line (told_answer_text (told.Differs m offset found wanted))) }
+{
+    printed(
+        alloc,
+        Answer::Differs {
+            m,
+            offset,
+            found,
+            wanted,
+        },
+    )
+}
+
+/// The line of two sizes.
+fn length_line(alloc: Global, m: u64, size: u64, wanted: u64) -> Result<Vec<u8>, OutOfMemory>
+    ensures { IfOk result (λ bytes. bytes.items ≡ text.line (told_answer_text (told.Length m size wanted))) }
+{
+    printed(alloc, Answer::Length { m, size, wanted })
+}
+
+/// The line of a bad slot.
+fn slot_line(alloc: Global, seq: u64, reason: Reason) -> Result<Vec<u8>, OutOfMemory>
+    ensures { IfOk result (λ bytes. bytes.items ≡ text.line (told_answer_text (told.BadSlot seq reason))) }
+{
+    printed(alloc, Answer::BadEntry { seq, reason })
+}
+
 /// The first line of an answer.
 fn answer_line(alloc: Global, answer: &ToldAnswer) -> Result<Vec<u8>, OutOfMemory>
     ensures { IfOk result (λ bytes. bytes.items ≡ text.line (told_answer_text answer.now)) }
@@ -146,27 +181,12 @@ fn answer_line(alloc: Global, answer: &ToldAnswer) -> Result<Vec<u8>, OutOfMemor
             offset,
             found,
             wanted,
-        } => printed(
-            alloc,
-            Answer::Differs {
-                m: *entries,
-                offset: *offset,
-                found: *found,
-                wanted: *wanted,
-            },
-        ),
+        } => differs_line(alloc, *entries, *offset, *found, *wanted),
         ToldAnswer::Length {
             entries,
             size,
             wanted,
-        } => printed(
-            alloc,
-            Answer::Length {
-                m: *entries,
-                size: *size,
-                wanted: *wanted,
-            },
-        ),
+        } => length_line(alloc, *entries, *size, *wanted),
         ToldAnswer::Bytes(m, bytes) => bytes_line(alloc, *m, bytes),
         ToldAnswer::NotFound(m) => printed(alloc, Answer::NotFound { m: *m }),
         ToldAnswer::IsDirectory(m) => printed(alloc, Answer::IsDirectory { m: *m }),
@@ -174,13 +194,7 @@ fn answer_line(alloc: Global, answer: &ToldAnswer) -> Result<Vec<u8>, OutOfMemor
         ToldAnswer::Report(sound) => report_line(alloc, *sound),
         ToldAnswer::NoSuperblock(fault) => super_line(alloc, fault),
         ToldAnswer::BadHeader(fault) => log_line(alloc, fault),
-        ToldAnswer::BadSlot(seq, reason) => printed(
-            alloc,
-            Answer::BadEntry {
-                seq: *seq,
-                reason: *reason,
-            },
-        ),
+        ToldAnswer::BadSlot(seq, reason) => slot_line(alloc, *seq, *reason),
         ToldAnswer::MediaFault(at) => printed(alloc, Answer::MediaFault(LineNo(*at))),
     }
 }

@@ -11,10 +11,11 @@ use Rattle.fam_sources.specs.declared.whole.WholeFault.TheVariants as fault
 use Rattle.fam_verdict.specs.declared.verdict.Known.{Known}
 use Rattle.fam_verdict.specs.declared.verdict.Verdict.{Verdict}
 use Rattle.fam_verdict.specs.declared.verdict.Verdict.TheVariants as verdict
+use Rattle.fam_words.specs.declared.wanted.JudgeCall.{JudgeCall}
 
 -- the line of words that ask for no history
 abbrev pub judge_usage : List ℕ
-judge_usage = line (codes "usage: famfs-judge HISTORY")
+judge_usage = line (codes "usage: famfs-judge HISTORY [IMAGE]")
 
 -- a space and a number, or a question mark where the states differ
 abbrev pub number_or : Option ℕ → List ℕ
@@ -60,3 +61,12 @@ unread_status (fault.TooLong size) = status.BadScript
 unread_status fault.Faulted = status.SourceFault
 unread_status (fault.Short size got) = status.SourceFault
 unread_status fault.OutOfMemory = status.OutOfMemory
+
+-- the media of the image failed at this line
+abbrev pub media_text : ℕ → List ℕ
+media_text at = line (codes "media fault" ++ number at)
+
+-- the image that the words name, where they name one
+abbrev pub image_named : Option JudgeCall → Option (List ℕ)
+image_named None = None
+image_named (Some call) = call.image

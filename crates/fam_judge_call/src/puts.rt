@@ -15,7 +15,7 @@ use fam_outcomes::Status;
 const MEMORY: &str = "out of memory\n";
 
 /// What is put where the words ask for no history.
-const USAGE: &str = "usage: famfs-judge HISTORY\n";
+const USAGE: &str = "usage: famfs-judge HISTORY [IMAGE]\n";
 
 /// Puts a text, and gives its status, or that of a sink that failed.
 fn put<K: Sink>(own: Status, text: &[u8], out: &mut K) -> Status

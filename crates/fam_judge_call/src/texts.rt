@@ -119,3 +119,10 @@ pub(crate) fn unread_status(fault: WholeFault) -> Status
         WholeFault::OutOfMemory => Status::OutOfMemory,
     }
 }
+
+/// That the media of the image failed at a line.
+pub(crate) fn media_text(alloc: Global, line: u64) -> Result<Vec<u8>, OutOfMemory>
+    ensures { IfOk result (λ bytes. bytes.items ≡ spec.media_text line) }
+{
+    line_of(alloc, format!(in alloc; "media fault {line}"))
+}

@@ -1,5 +1,5 @@
 -- The bytes of fills.
-use Rattle.std.proofs.Common.{◌≡◌, ℕ, ◌+◌, ◌-◌, ◌*◌, ◌/◌, ◌%◌, ◌<◌, ◌≤◌, List, replicate, Option, None, Some, sym, ap, ◌∙◌, inl, inr, arith}
+use Rattle.std.proofs.Common.{◌≡◌, ℕ, ◌+◌, ◌-◌, ◌*◌, ◌/◌, ◌%◌, ◌<◌, ◌≤◌, List, length, replicate, Option, None, Some, sym, ap, ◌∙◌, inl, inr, arith}
 use Rattle.std.proofs.lemmas.Bool.{cases_eq, cases_lt}
 use Rattle.std.proofs.lemmas.Grind.{same_number_lists}
 use Rattle.std.proofs.lemmas.List.{length-replicate}
@@ -16,12 +16,15 @@ use Rattle.fam_rules.specs.Decide.{Wish, wish_of}
 use Rattle.fam_rules.specs.Solo.{content_of}
 use Rattle.fam_judge.specs.Untold.{untold}
 
--- a file of so many untold bytes
+-- a file of as many bytes as are given
+pub given_fill : (bytes : List ℕ) (size : ℕ) → length bytes ≡ size → fill (content.Bytes bytes) size ≡ bytes
+given_fill bytes size same =
+    same_number_lists (fill (content.Bytes bytes) size) bytes (length_of_fill (content.Bytes bytes) size ∙ sym same)
+    (λ k below. byte_of_fill (content.Bytes bytes) size k (omega (arith, length_of_fill (content.Bytes bytes) size)))
+
+-- of so many untold bytes
 pub untold_fill : (n : ℕ) → fill (content.Bytes (replicate n untold)) n ≡ replicate n untold
-untold_fill n =
-    same_number_lists (fill (content.Bytes (replicate n untold)) n) (replicate n untold)
-    (length_of_fill (content.Bytes (replicate n untold)) n ∙ sym (length-replicate n untold))
-    (λ k below. byte_of_fill (content.Bytes (replicate n untold)) n k (omega (arith, length_of_fill (content.Bytes (replicate n untold)) n)))
+untold_fill n = given_fill (replicate n untold) n (length-replicate n untold)
 
 -- a byte of a line of a file
 pub line_byte : (content : Content) (size j o : ℕ) (line : List ℕ) → HoldsBytes content → line ≡ content_line content size j → o < size → 64 * j ≤ o → o < 64 * j + 64

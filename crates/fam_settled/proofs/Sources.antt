@@ -3,7 +3,7 @@ use Rattle.std.proofs.Common.{◌≡◌, ◌≢◌, ◌⊎◌, ◌↔◌, ℕ, �
 use Rattle.std.proofs.lemmas.List.{length-replicate, get_or-replicate, get_or-take, get_or-drop, length-take, length-drop}
 use Rattle.fam_base.specs.declared.cmd.Content.{Content}
 use Rattle.fam_base.specs.declared.cmd.Content.TheVariants as content
-use Rattle.fam_rules.specs.Content.{content_byte}
+use Rattle.fam_rules.specs.Content.{HoldsBytes, content_byte}
 use Rattle.fam_rules.specs.Asks.{file_bytes_from}
 use Rattle.fam_rules.proofs.ContentLines.{byte_of_fill, content_byte_fits, length_of_fill}
 use Rattle.fam_judge.specs.Untold.{untold}
@@ -11,7 +11,7 @@ use Rattle.fam_judge.specs.Fitting.{FitBytes, FitsWanted, AllowsSize, MayAgree, 
 use Rattle.fam_settled.specs.declared.against.Against.{Against}
 use Rattle.fam_settled.specs.declared.against.Against.TheVariants as against
 use Rattle.fam_settled.specs.declared.bytes.Bytes.{Bytes}
-use Rattle.fam_settled.specs.declared.bytes.Bytes.TheVariants.{Zero, Seed, Untold}
+use Rattle.fam_settled.specs.declared.bytes.Bytes.TheVariants.{Zero, Seed, Held, Untold}
 use Rattle.fam_settled.specs.Bytes.{MayAgreeTo, MayHave, byte_told, file_bytes_told, content_told}
 use Rattle.fam_history.specs.declared.answer.ToldAnswer.{ToldAnswer}
 use Rattle.fam_history.specs.declared.answer.ToldAnswer.TheVariants as told
@@ -22,24 +22,23 @@ use Rattle.fam_settled.specs.Fits.{FirstDiffers, IsSame, MayDifferAt, VerifiedTo
 told_byte : (b : Bytes) (x : Content) → content_told b ≡ Some x → (i : ℕ) → byte_told b i ≡ content_byte x i
 told_byte Zero x is i = let e : content.Zero ≡ x = cc in ap (λ (y : Content). content_byte y i) e
 told_byte (Seed seed) x is i = let e : content.Seed seed ≡ x = cc in ap (λ (y : Content). content_byte y i) e
+told_byte (Held bytes) x is i = let e : content.Bytes bytes ≡ x = cc in ap (λ (y : Content). content_byte y i) e
 told_byte Untold x is i = absurd (let e = is in cc)
 
 -- is a byte
-told_small : (b : Bytes) (x : Content) → content_told b ≡ Some x → (i : ℕ) → byte_told b i < 256
-told_small Zero x is i = content_byte_fits content.Zero i tt
-told_small (Seed seed) x is i = content_byte_fits (content.Seed seed) i tt
-told_small Untold x is i = absurd (let e = is in cc)
+told_small : (b : Bytes) (x : Content) → content_told b ≡ Some x → HoldsBytes x → (i : ℕ) → byte_told b i < 256
+told_small b x is holds i = let same = told_byte b x is i in omega (arith, same, content_byte_fits x i holds)
 
 -- fills may agree where they have the same bytes
-pub agree_told : (a b : Bytes) (x y : Content) → content_told a ≡ Some x → content_told b ≡ Some y → (end : ℕ) (r : Bool)
+pub agree_told : (a b : Bytes) (x y : Content) → content_told a ≡ Some x → content_told b ≡ Some y → HoldsBytes x → HoldsBytes y → (end : ℕ) (r : Bool)
     → (IsTrue r ↔ ((i : ℕ) → i < end → content_byte x i ≡ content_byte y i)) → IsTrue r ↔ MayAgreeTo a b end
-agree_told a b x y a_is b_is end r same = (
+agree_told a b x y a_is b_is a_holds b_holds end r same = (
   λ h i below. inl (told_byte a x a_is i ∙ same.0 h i below ∙ sym (told_byte b y b_is i)),
   λ may. same.1 (λ i below. sym (told_byte a x a_is i) ∙ by_case i (may i below) ∙ told_byte b y b_is i),
 )
   where
     by_case : (i : ℕ) → (byte_told a i ≡ byte_told b i) ⊎ (byte_told a i ≡ untold) ⊎ (byte_told b i ≡ untold) → byte_told a i ≡ byte_told b i
-    by_case i may = grind (arith, may, told_small a x a_is i, told_small b y b_is i)
+    by_case i may = grind (arith, may, told_small a x a_is a_holds i, told_small b y b_is b_holds i)
 
 -- Bytes of files.
 
@@ -47,12 +46,14 @@ agree_told a b x y a_is b_is end r same = (
 pub length-bytes_of : (b : Bytes) (size : ℕ) → length (file_bytes_told b size) ≡ size
 length-bytes_of Zero size = length_of_fill content.Zero size
 length-bytes_of (Seed seed) size = length_of_fill (content.Seed seed) size
+length-bytes_of (Held bytes) size = length_of_fill (content.Bytes bytes) size
 length-bytes_of Untold size = length-replicate size untold
 
 -- byte i
 pub get_or-bytes_of : (b : Bytes) (size i : ℕ) → i < size → get_or (file_bytes_told b size) i 0 ≡ byte_told b i
 get_or-bytes_of Zero size i below = byte_of_fill content.Zero size i below
 get_or-bytes_of (Seed seed) size i below = byte_of_fill (content.Seed seed) size i below
+get_or-bytes_of (Held bytes) size i below = byte_of_fill (content.Bytes bytes) size i below
 get_or-bytes_of Untold size i below = get_or-replicate size i untold 0 below
 
 -- What a file is compared with.

@@ -7,18 +7,20 @@ use Rattle.fam_rules.specs.Asks.{File}
 use Rattle.fam_rules.specs.Content.{content_byte, fill}
 use Rattle.fam_judge.specs.Untold.{untold}
 use Rattle.fam_settled.specs.declared.bytes.Bytes.{Bytes}
-use Rattle.fam_settled.specs.declared.bytes.Bytes.TheVariants.{Zero, Seed, Untold}
+use Rattle.fam_settled.specs.declared.bytes.Bytes.TheVariants.{Zero, Seed, Held, Untold}
 
 -- byte i, whatever the size
 abbrev pub byte_told : Bytes → ℕ → ℕ
 byte_told Zero i = content_byte content.Zero i
 byte_told (Seed seed) i = content_byte (content.Seed seed) i
+byte_told (Held bytes) i = content_byte (content.Bytes bytes) i
 byte_told Untold i = untold
 
--- all bytes of a file of this size
+-- all bytes of a file of this size; where fewer are held, zeros stand behind them
 abbrev pub file_bytes_told : Bytes → ℕ → List ℕ
 file_bytes_told Zero size = fill content.Zero size
 file_bytes_told (Seed seed) size = fill (content.Seed seed) size
+file_bytes_told (Held bytes) size = fill (content.Bytes bytes) size
 file_bytes_told Untold size = replicate size untold
 
 -- an entry with these bytes
@@ -42,4 +44,5 @@ MayHave b offset given =
 abbrev pub content_told : Bytes → Option Content
 content_told Zero = Some content.Zero
 content_told (Seed seed) = Some (content.Seed seed)
+content_told (Held bytes) = Some (content.Bytes bytes)
 content_told Untold = None

@@ -1,3 +1,4 @@
+pub mod Held
 pub mod Bytes
 pub mod Settled
 pub mod Logs

@@ -1,13 +1,13 @@
 //! The first entries of a log, with the one that pends among them, and what stands at a path.
 
-ghost use Rattle.std.specs.Prelude.{◌≡◌, ◌≤◌, ◌<◌, IfOk, Some, length, slice_get, take};
+ghost use Rattle.std.specs.Prelude.{◌≡◌, ◌≤◌, ◌<◌, IfOk, MatchOption, None, Some, length, slice_get, take};
 ghost use Rattle.fam_rules.specs.Asks.{entries_of, file_at};
 ghost use Rattle.fam_settled.specs.Bytes.{file_with};
 ghost use Rattle.fam_settled.specs.Settled.{settled_and_pending, filed, settled_files};
 
-use crate::bytes::Filed;
+use crate::bytes::{Bytes, Filed};
 use crate::log::Log;
-use fam_base::{OutOfMemory, Path};
+use fam_base::{Entry, OutOfMemory, Path};
 use fam_plan::Plan;
 use std::alloc::Global;
 
@@ -25,44 +25,59 @@ impl Log {
         }
     }
 
-    /// Entry `i` of those that are settled.
-    fn settled_at(&self, i: u64) -> Filed
+    /// Entry `i` of those that are settled, and where its bytes are from.
+    fn settled_at(&self, i: u64) -> (Entry, &Bytes)
         requires { i < length self.now.entries }
-        ensures { slice_get (settled_files self.now) i ≡ Some (file_with result.entry result.bytes) }
+        ensures { slice_get (settled_files self.now) i ≡ Some (file_with result.0 result.1.now) }
     {
-        let bytes = self.bytes.as_slice()[i as usize];
+        let bytes = &self.bytes.as_slice()[i as usize];
         match self.plan.at(i) {
-            Some(entry) => Filed { entry, bytes },
+            Some(entry) => (entry, bytes),
             None => unreachable!(),
         }
     }
 
-    /// Entry `i`, from 0: one that is settled, or the one that pends.
-    fn entry_at(&self, i: u64) -> Filed
+    /// Entry `i`, from 0, and where its bytes are from: one that is settled, or the one that pends.
+    fn entry_at(&self, i: u64) -> (Entry, &Bytes)
         requires { i < length (settled_and_pending self.now) }
-        ensures { slice_get (settled_and_pending self.now) i ≡ Some (file_with result.entry result.bytes) }
+        ensures { slice_get (settled_and_pending self.now) i ≡ Some (file_with result.0 result.1.now) }
     {
         if i < self.count() {
             return self.settled_at(i);
         }
         match self.pending() {
-            Some(pending) => *pending,
+            Some(pending) => (pending.entry, &pending.bytes),
             None => unreachable!(),
         }
     }
 
-    /// What stands at a path, by the first `m` entries, of which the pending one may be the last.
-    pub fn file_among(&self, m: u64, path: &Path) -> Option<Filed>
+    /// What stands at a path, by the first `m` entries, of which the pending one may be the last, and where its bytes are from.
+    pub(crate) fn found_among(&self, m: u64, path: &Path) -> Option<(Entry, &Bytes)>
         requires { m ≤ length (settled_and_pending self.now) }
-        ensures { filed result ≡ file_at (take m (settled_and_pending self.now)) path.now }
+        ensures { MatchOption result (file_at (take m (settled_and_pending self.now)) path.now ≡ None)
+            (λ found. file_at (take m (settled_and_pending self.now)) path.now ≡ Some (file_with found.0 found.1.now)) }
     {
         for i in 0..m {
-            let found = self.entry_at(i);
-            if found.entry.path == *path {
-                return Some(found);
+            let (entry, bytes) = self.entry_at(i);
+            if entry.path == *path {
+                return Some((entry, bytes));
             }
         }
         None
+    }
+
+    /// What stands at a path, by the first `m` entries, of which the pending one may be the last.
+    pub fn file_among(&self, m: u64, path: &Path) -> Result<Option<Filed>, OutOfMemory>
+        requires { m ≤ length (settled_and_pending self.now) }
+        ensures { IfOk result (λ found. filed found ≡ file_at (take m (settled_and_pending self.now)) path.now) }
+    {
+        match self.found_among(m, path) {
+            Some((entry, bytes)) => Ok(Some(Filed {
+                entry,
+                bytes: bytes.copy()?,
+            })),
+            None => Ok(None),
+        }
     }
 
     /// A plan of all entries, with the one that pends.

@@ -11,6 +11,7 @@ mod among;
 mod bytes;
 mod checks;
 mod contents;
+mod held;
 mod laws;
 mod listed;
 mod log;
@@ -22,6 +23,7 @@ mod told;
 mod verified;
 
 pub use bytes::{Bytes, Filed};
-pub use laws::a_told_command_is_untold;
+pub use held::HeldBytes;
+pub use laws::{a_told_command_is_untold, held_bytes_are_those_of_their_file};
 pub use log::Log;
 pub use told::bytes_told;

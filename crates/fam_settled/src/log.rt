@@ -1,13 +1,16 @@
 //! Settled entries in their order, and one that may follow them.
 
 ghost use Rattle.std.specs.Prelude.{◌≡◌, ◌+◌, ◌++◌, ◌∷◌, IfOk, OnErr, OnOk, length, [], None};
+ghost use Rattle.fam_base.specs.declared.cmd.Content.TheVariants as content;
 ghost use Rattle.fam_format.specs.Params.{SoundParams};
 ghost use Rattle.fam_journal.specs.Past.{acknowledges, finds, pends, shows, Sound};
 ghost use Rattle.fam_plan.specs.State.{MayBeAdded};
+ghost use Rattle.fam_rules.specs.Content.{fill};
 ghost use Rattle.fam_settled.specs.Bytes.{file_with};
 ghost use Rattle.fam_settled.specs.Settled.{settled_files, IsSettledLog, joined, plan_of, settled_log_state};
 
 use crate::bytes::{Bytes, Filed};
+use crate::held::HeldBytes;
 use fam_base::{Entry, OutOfMemory, Params};
 use fam_plan::Plan;
 use std::alloc::Global;
@@ -36,10 +39,10 @@ impl Model for Log {
 }
 
 /// An entry stands behind the others, and its bytes behind theirs.
-fn add_beside(plan: &mut Plan, list: &mut Vec<Bytes>, added: &Filed) -> Result<(), OutOfMemory>
-    requires { MayBeAdded plan.old added.now.entry }
-    ensures entries { OnOk result (plan.new.entries ≡ plan.old.entries ++ added.now.entry ∷ []) }
-    ensures bytes { OnOk result (list.new.items ≡ list.old.items ++ added.now.bytes ∷ []) }
+fn add_beside(plan: &mut Plan, list: &mut Vec<Bytes>, added: Filed) -> Result<(), OutOfMemory>
+    requires { MayBeAdded plan.old added.entry }
+    ensures entries { OnOk result (plan.new.entries ≡ plan.old.entries ++ added.entry ∷ []) }
+    ensures bytes { OnOk result (list.new.items ≡ list.old.items ++ added.bytes ∷ []) }
     ensures params { plan.new.params ≡ plan.old.params }
     ensures plan_kept { OnErr result (plan.new ≡ plan.old) }
     ensures bytes_kept { OnErr result (list.new.items ≡ list.old.items) }
@@ -55,14 +58,10 @@ fn add_beside(plan: &mut Plan, list: &mut Vec<Bytes>, added: &Filed) -> Result<(
 }
 
 /// The same of bytes that another log may have too: their list is copied first.
-fn add_shared(
-    plan: &mut Plan,
-    shared: &mut Rc<Vec<Bytes>>,
-    added: &Filed,
-) -> Result<(), OutOfMemory>
-    requires { MayBeAdded plan.old added.now.entry }
-    ensures entries { OnOk result (plan.new.entries ≡ plan.old.entries ++ added.now.entry ∷ []) }
-    ensures bytes { OnOk result (shared.new.value.items ≡ shared.old.value.items ++ added.now.bytes ∷ []) }
+fn add_shared(plan: &mut Plan, shared: &mut Rc<Vec<Bytes>>, added: Filed) -> Result<(), OutOfMemory>
+    requires { MayBeAdded plan.old added.entry }
+    ensures entries { OnOk result (plan.new.entries ≡ plan.old.entries ++ added.entry ∷ []) }
+    ensures bytes { OnOk result (shared.new.value.items ≡ shared.old.value.items ++ added.bytes ∷ []) }
     ensures params { plan.new.params ≡ plan.old.params }
     ensures plan_kept { OnErr result (plan.new ≡ plan.old) }
     ensures bytes_kept { OnErr result (shared.new.value.items ≡ shared.old.value.items) }
@@ -70,6 +69,16 @@ fn add_shared(
     match Rc::make_mut(shared) {
         Ok(list) => add_beside(plan, list, added),
         Err(_) => Err(OutOfMemory),
+    }
+}
+
+/// The same that pends, or nothing.
+fn copy_pending(pending: &Option<Filed>) -> Result<Option<Filed>, OutOfMemory>
+    ensures { IfOk result (λ copy. copy ≡ pending.now) }
+{
+    match pending {
+        Some(filed) => Ok(Some(filed.copy()?)),
+        None => Ok(None),
     }
 }
 
@@ -95,11 +104,12 @@ impl Log {
         ensures { IfOk result (λ log. log ≡ self.now) }
     {
         let plan = self.plan.copy(alloc)?;
+        let pending = copy_pending(&self.pending)?;
         match self.bytes.clone() {
             Ok(bytes) => Ok(Log {
                 plan,
                 bytes,
-                pending: self.pending,
+                pending,
             }),
             Err(_) => Err(OutOfMemory),
         }
@@ -145,9 +155,10 @@ impl Log {
     }
 
     /// An entry stands behind the others, with its bytes.
-    fn add(&mut self, added: &Filed) -> Result<(), OutOfMemory>
-        requires { MayBeAdded (plan_of self.old) added.now.entry }
-        ensures added { OnOk result (settled_files self.new ≡ settled_files self.old ++ file_with added.now.entry added.now.bytes ∷ []) }
+    fn add(&mut self, added: Filed) -> Result<(), OutOfMemory>
+        requires { MayBeAdded (plan_of self.old) added.entry }
+        ensures added { OnOk result (settled_files self.new ≡ settled_files self.old ++ file_with added.entry added.bytes ∷ []) }
+        ensures entries { OnOk result (self.new.entries ≡ self.old.entries ++ added.entry ∷ []) }
         ensures params { self.new.params ≡ self.old.params }
         ensures none { OnOk result (self.new.pending ≡ None) }
         ensures kept { OnErr result (self.new ≡ self.old) }
@@ -157,13 +168,31 @@ impl Log {
         Ok(())
     }
 
+    /// An entry of an image stands behind the others, with the bytes that its file has there: as many as its size says, the
+    /// others left out, and zeros behind where there are fewer.
+    pub fn hold(&mut self, entry: &Entry, bytes: HeldBytes) -> Result<(), OutOfMemory>
+        requires may { MayBeAdded (plan_of self.old) entry.now }
+        requires none { self.old.pending ≡ None }
+        ensures held { OnOk result (settled_log_state self.new
+            ≡ Sound self.old.params (settled_files self.old ++ record { entry = entry.now; bytes = fill (content.Bytes bytes) entry.now.size } ∷ []) None) }
+        ensures entries { OnOk result (self.new.entries ≡ self.old.entries ++ entry.now ∷ []) }
+        ensures params { self.new.params ≡ self.old.params }
+        ensures none { OnOk result (self.new.pending ≡ None) }
+        ensures kept { OnErr result (self.new ≡ self.old) }
+    {
+        self.add(Filed {
+            entry: *entry,
+            bytes: Bytes::Held(bytes),
+        })
+    }
+
     /// The pending entry joins the history, where there is one.
     fn join(&mut self) -> Result<(), OutOfMemory>
         ensures joined { OnOk result (settled_log_state self.new ≡ joined (settled_log_state self.old)) }
         ensures kept { OnErr result (self.new ≡ self.old) }
     {
-        match self.pending {
-            Some(pending) => self.add(&pending),
+        match copy_pending(&self.pending)? {
+            Some(pending) => self.add(pending),
             None => Ok(()),
         }
     }

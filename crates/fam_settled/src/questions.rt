@@ -93,12 +93,12 @@ impl Log {
         ensures { IsTrue result ↔ FileTold m (file_at (take m (settled_and_pending self.now)) path.now) answer.now
             (λ bytes. VerifiedTold m bytes (content_in against) answer.now) }
     {
-        let Some(found) = self.file_among(m, path) else {
+        let Some((entry, bytes)) = self.found_among(m, path) else {
             return is_not_found(m, answer);
         };
-        match found.entry.kind {
+        match entry.kind {
             Kind::Directory => is_directory(m, answer),
-            Kind::File => verified_fits(m, found.bytes, found.entry.size, against, answer),
+            Kind::File => verified_fits(m, bytes, entry.size, against, answer),
         }
     }
 
@@ -108,12 +108,12 @@ impl Log {
         ensures { IsTrue result ↔ FileTold m (file_at (take m (settled_and_pending self.now)) path.now) answer.now
             (λ bytes. ReadTold m bytes offset count answer.now) }
     {
-        let Some(found) = self.file_among(m, path) else {
+        let Some((entry, bytes)) = self.found_among(m, path) else {
             return is_not_found(m, answer);
         };
-        match found.entry.kind {
+        match entry.kind {
             Kind::Directory => is_directory(m, answer),
-            Kind::File => read_fits(m, found.bytes, found.entry.size, offset, count, answer),
+            Kind::File => read_fits(m, bytes, entry.size, offset, count, answer),
         }
     }
 

@@ -33,6 +33,19 @@ fn have_same_entries(a: &Plan, b: &Plan) -> bool
     true
 }
 
+/// Whether bytes are from the same place.
+fn are_same_bytes(a: &Bytes, b: &Bytes) -> bool
+    ensures { IsTrue result ↔ (a.now ≡ b.now) }
+{
+    match (a, b) {
+        (Bytes::Zero, Bytes::Zero) => true,
+        (Bytes::Seed(first), Bytes::Seed(second)) => *first == *second,
+        (Bytes::Held(first), Bytes::Held(second)) => first.as_slice() == second.as_slice(),
+        (Bytes::Untold, Bytes::Untold) => true,
+        _ => false,
+    }
+}
+
 /// Whether the bytes of each file are from the same place.
 fn are_from_same(a: &[Bytes], b: &[Bytes]) -> bool
     ensures { IsTrue result ↔ (a.now ≡ b.now) }
@@ -41,7 +54,7 @@ fn are_from_same(a: &[Bytes], b: &[Bytes]) -> bool
         return false;
     }
     'places: for i in 0..a.len() {
-        if a[i] != b[i] {
+        if !are_same_bytes(&a[i], &b[i]) {
             return false;
         }
     }
@@ -52,7 +65,7 @@ fn are_from_same(a: &[Bytes], b: &[Bytes]) -> bool
 fn is_same_filed(a: &Filed, b: &Filed) -> bool
     ensures { IsTrue result ↔ (a.now ≡ b.now) }
 {
-    a.entry.is_same(&b.entry) && a.bytes == b.bytes
+    a.entry.is_same(&b.entry) && are_same_bytes(&a.bytes, &b.bytes)
 }
 
 /// Whether the same pends, or nothing.
@@ -74,7 +87,7 @@ impl Log {
     {
         *self.params() == *other.params()
             && is_same_pending(&self.pending, &other.pending)
-            && are_from_same(self.bytes.as_slice(), other.bytes.as_slice())
             && have_same_entries(&self.plan, &other.plan)
+            && are_from_same(self.bytes.as_slice(), other.bytes.as_slice())
     }
 }

@@ -47,27 +47,34 @@ fn is_long(against: Against, size: u64) -> bool
 }
 
 /// Whether a file of this size may have the same bytes, and as many.
-fn same_fits(bytes: Bytes, size: u64, against: Against) -> bool
-    ensures { IsTrue result ↔ IsSame (file_bytes_told bytes size) (content_in against) }
+fn same_fits(bytes: &Bytes, size: u64, against: Against) -> bool
+    ensures { IsTrue result ↔ IsSame (file_bytes_told bytes.now size) (content_in against) }
 {
     if !is_long(against, size) {
         return false;
     }
-    may_agree(bytes, source_of(against), size)
+    may_agree(bytes, &source_of(against), size)
 }
 
 /// Whether the byte of a file at an offset may be this one.
-fn may_have_one(bytes: Bytes, size: u64, offset: u64, byte: u8) -> bool
+fn may_have_one(bytes: &Bytes, size: u64, offset: u64, byte: u8) -> bool
     requires { offset < size }
-    ensures { IsTrue result ↔ FitsWanted (byte_told bytes offset) byte }
+    ensures { IsTrue result ↔ FitsWanted (byte_told bytes.now offset) byte }
 {
     may_have(bytes, size, offset, &[byte])
 }
 
 /// Whether the bytes of a file and of what it is compared with may be these at an offset.
-fn may_have_two(bytes: Bytes, source: Bytes, size: u64, offset: u64, found: u8, wanted: u8) -> bool
+fn may_have_two(
+    bytes: &Bytes,
+    source: &Bytes,
+    size: u64,
+    offset: u64,
+    found: u8,
+    wanted: u8,
+) -> bool
     requires { offset < size }
-    ensures { IsTrue result ↔ (FitsWanted (byte_told bytes offset) found × FitsWanted (byte_told source offset) wanted) }
+    ensures { IsTrue result ↔ (FitsWanted (byte_told bytes.now offset) found × FitsWanted (byte_told source.now offset) wanted) }
 {
     if !may_have_one(bytes, size, offset, found) {
         return false;
@@ -76,9 +83,9 @@ fn may_have_two(bytes: Bytes, source: Bytes, size: u64, offset: u64, found: u8, 
 }
 
 /// Whether the two may first differ there.
-fn may_differ(bytes: Bytes, source: Bytes, size: u64, offset: u64, found: u8, wanted: u8) -> bool
+fn may_differ(bytes: &Bytes, source: &Bytes, size: u64, offset: u64, found: u8, wanted: u8) -> bool
     requires { offset < size }
-    ensures { IsTrue result ↔ MayDifferAt bytes source offset found wanted }
+    ensures { IsTrue result ↔ MayDifferAt bytes.now source.now offset found wanted }
 {
     if !may_agree(bytes, source, offset) {
         return false;
@@ -88,14 +95,14 @@ fn may_differ(bytes: Bytes, source: Bytes, size: u64, offset: u64, found: u8, wa
 
 /// Whether a file of this size may first differ so.
 fn differs_fits(
-    bytes: Bytes,
+    bytes: &Bytes,
     size: u64,
     against: Against,
     offset: u64,
     found: u8,
     wanted: u8,
 ) -> bool
-    ensures { IsTrue result ↔ FirstDiffers (file_bytes_told bytes size) (content_in against) offset found wanted }
+    ensures { IsTrue result ↔ FirstDiffers (file_bytes_told bytes.now size) (content_in against) offset found wanted }
 {
     if !is_long(against, size) {
         return false;
@@ -106,7 +113,7 @@ fn differs_fits(
     if found == wanted {
         return false;
     }
-    may_differ(bytes, source_of(against), size, offset, found, wanted)
+    may_differ(bytes, &source_of(against), size, offset, found, wanted)
 }
 
 /// Whether so many bytes were wanted of a file of another size.
@@ -122,12 +129,12 @@ fn length_fits(size: u64, against: Against, found: u64, wanted: u64) -> bool
 /// Whether a verify of the first `m` entries may be answered so, by a file's bytes.
 pub(crate) fn verified_fits(
     m: u64,
-    bytes: Bytes,
+    bytes: &Bytes,
     size: u64,
     against: Against,
     answer: &ToldAnswer,
 ) -> bool
-    ensures { IsTrue result ↔ VerifiedTold m (file_bytes_told bytes size) (content_in against) answer.now }
+    ensures { IsTrue result ↔ VerifiedTold m (file_bytes_told bytes.now size) (content_in against) answer.now }
 {
     match answer {
         ToldAnswer::Same(n) => *n == m && same_fits(bytes, size, against),
@@ -147,8 +154,8 @@ pub(crate) fn verified_fits(
 }
 
 /// Whether so many bytes from an offset on may be these.
-fn bytes_fit(bytes: Bytes, size: u64, offset: u64, count: u64, given: &[u8]) -> bool
-    ensures { IsTrue result ↔ FitBytes (file_bytes_from offset count (file_bytes_told bytes size)) given.now }
+fn bytes_fit(bytes: &Bytes, size: u64, offset: u64, count: u64, given: &[u8]) -> bool
+    ensures { IsTrue result ↔ FitBytes (file_bytes_from offset count (file_bytes_told bytes.now size)) given.now }
 {
     are_bytes(given);
     if given.len() as u64 != count.min(size.saturating_sub(offset)) {
@@ -163,13 +170,13 @@ fn bytes_fit(bytes: Bytes, size: u64, offset: u64, count: u64, given: &[u8]) -> 
 /// Whether a read of the first `m` entries may be answered so, by a file's bytes.
 pub(crate) fn read_fits(
     m: u64,
-    bytes: Bytes,
+    bytes: &Bytes,
     size: u64,
     offset: u64,
     count: u64,
     answer: &ToldAnswer,
 ) -> bool
-    ensures { IsTrue result ↔ ReadTold m (file_bytes_told bytes size) offset count answer.now }
+    ensures { IsTrue result ↔ ReadTold m (file_bytes_told bytes.now size) offset count answer.now }
 {
     match answer {
         ToldAnswer::Bytes(n, given) => {

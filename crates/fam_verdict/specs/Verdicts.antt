@@ -5,7 +5,9 @@ use Rattle.fam_tree.specs.Listings.{text_lines}
 use Rattle.fam_causes.specs.Asked.{Asked}
 use Rattle.fam_causes.specs.Causes.{IsCause}
 use Rattle.fam_causes.specs.declared.kinds.Cause.{Cause}
+use Rattle.fam_judging.specs.Among.{AllFine}
 use Rattle.fam_judging.specs.Candidates.{possible_of}
+use Rattle.fam_judging.specs.Pushing.{IsFine}
 use Rattle.fam_judging.specs.Texts.{IsJudging, IsLegal}
 use Rattle.fam_records.specs.Histories.{history_in}
 use Rattle.fam_records.specs.Records.{Recorded}
@@ -20,6 +22,7 @@ use Rattle.fam_verdict.specs.Known.{IsKnown}
 pub record IsBecause (start : Image) (before : List Recorded) (first : Recorded) (cause : Cause) : Type 0 where
   pub asked : Asked
   pub judging : IsJudging start before asked.hosts.seen.items (map (possible_of start asked.hosts) asked.candidates)
+  pub fine : AllFine (IsFine start asked.given asked.hosts.seen.items) asked.candidates
   pub read : IsReadAs asked.hosts.seen.items first asked.line
   pub name : asked.name ≡ first.told.name
   pub answers : asked.answers ≡ tells_answer first.told.note

@@ -13,6 +13,6 @@ mod laws;
 mod marks;
 mod verdict;
 
-pub use histories::{judge, judge_on_blank};
+pub use histories::{judge_on_blank, judge_on_damaged, judge_on_log};
 pub use laws::a_printed_history_is_judged;
 pub use verdict::{Known, Verdict};

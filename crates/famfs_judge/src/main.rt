@@ -2,8 +2,8 @@
 #![tactic(auto)]
 
 use fam_base::OutOfMemory;
-use fam_files::{FileShelf, StdSink};
-use fam_judge_call::famfs_judge;
+use fam_files::{FileMedia, FileShelf, StdSink, open_to_read};
+use fam_judge_call::{famfs_judge, judged_image};
 use fam_outcomes::Status;
 use std::env;
 use std::fs::File;
@@ -48,9 +48,15 @@ fn ran(rt: &HostRuntime) -> Result<Status, OutOfMemory> {
     let Some(_streams) = streams(rt) else {
         return Ok(Status::SinkFault);
     };
+    let file = match judged_image(rt.alloc(), &words)? {
+        Some(name) => open_to_read(rt, name.text()),
+        None => None,
+    };
+    let mut media = FileMedia::new(rt.alloc(), file);
     let mut shelf = FileShelf::new(rt);
     let mut out = StdSink::new(rt.stdout());
-    Ok(famfs_judge(rt.alloc(), &words, &mut shelf, &mut out))
+    let status = famfs_judge(rt.alloc(), &words, &mut media, &mut shelf, &mut out);
+    Ok(status)
 }
 
 fn main(rt: HostRuntime) -> ExitCode {

@@ -9,6 +9,9 @@ use Rattle.fam_causes.proofs.answered.other_cause.Goals as goal
 pub returns-then-is_some : goal.returns-then-is_some
 returns-then-is_some c marks name answers = c.decided_cause-wanted.ensures c.args.given.now marks name answers
 
+pub returns-then-is_some-2 : goal.returns-then-is_some-2
+returns-then-is_some-2 c marks name answers = c.damaged_cause-damaged.ensures marks name answers
+
 pub returns-in-Appended : goal.returns-in-Appended
 returns-in-Appended c marks name answers =
     subst (λ (a : HostAnswer). IfSome c.acknowledged_cause.result

@@ -1,4 +1,4 @@
-use Rattle.std.proofs.Common.{◌+◌, length, Option, ℕ, refl, sym, ap, subst, ◌∙◌, arith}
+use Rattle.std.proofs.Common.{◌+◌, length, refl, sym, ap, subst, ◌∙◌, arith}
 use Rattle.std.proofs.lemmas.Option.{slice_get_read}
 use Rattle.fam_causes.specs.Bounds.{MostOfFirst, greater}
 use Rattle.fam_causes.proofs.Firsts.{most_all, most_more}

@@ -1,4 +1,4 @@
-use Rattle.std.proofs.Common.{Some, sym, subst, Option}
+use Rattle.std.proofs.Common.{sym, subst, Option}
 use Rattle.std.specs.Result.{IfOk}
 use Rattle.fam_lines.specs.declared.line.Line.{Line}
 use Rattle.fam_causes.specs.Asked.{asked}

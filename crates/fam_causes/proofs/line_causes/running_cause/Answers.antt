@@ -1,9 +1,7 @@
-use Rattle.std.proofs.Common.{Some, sym, subst, ap, ◌∙◌}
-use Rattle.std.proofs.lemmas.Option.{same_Some}
+use Rattle.std.proofs.Common.{Some, sym, subst}
 use Rattle.std.specs.Result.{IfOk}
 use Rattle.fam_lines.specs.declared.line.Line.{Line}
 use Rattle.fam_causes.specs.Asked.{asked}
-use Rattle.fam_causes.specs.Asking.{giver_of}
 use Rattle.fam_causes.specs.Causes.{IsCause}
 use Rattle.fam_causes.proofs.line_causes.running_cause.Goals as goal
 

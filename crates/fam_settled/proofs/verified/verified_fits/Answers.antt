@@ -5,4 +5,4 @@ pub returns-then-entries-m-2 : goal.returns-then-entries-m-2
 returns-then-entries-m-2 c =
     let a = c.args in
     let told = c.in-Length in
-    length_told a.bytes a.size a.against a.m told.entries told.found told.wanted a.answer.now c.length_fits.result told.is c.if-entries-m-2.true c.length_fits.ensures
+    length_told a.bytes.now a.size a.against a.m told.entries told.found told.wanted a.answer.now c.length_fits.result told.is c.if-entries-m-2.true c.length_fits.ensures

@@ -1,6 +1,8 @@
 use Rattle.std.proofs.Common.{◌≡◌, map, sym, subst}
 use Rattle.fam_causes.specs.Asked.{asked}
+use Rattle.fam_judging.specs.Among.{AllFine}
 use Rattle.fam_judging.specs.Candidates.{possible_of}
+use Rattle.fam_judging.specs.Pushing.{IsFine}
 use Rattle.fam_judging.specs.Texts.{IsJudging}
 use Rattle.fam_judging.specs.Told.{AreToldCommands}
 use Rattle.fam_verdict.specs.declared.judged.Judged.{Judged}
@@ -30,6 +32,7 @@ returns-clause-stops c start records r long judged read named answered =
       record {
         asked = asked c.args.given.now now.hosts now.candidates.items c.deref.result.now c.args.name c.args.answers c.args.line.now;
         judging = subst (λ (j : Judged). IsJudging start records j.hosts.seen.items (map (possible_of start j.hosts) j.candidates.items)) (sym same) judged.judging;
+        fine = subst (λ (j : Judged). AllFine (IsFine start c.args.given.now j.hosts.seen.items) j.candidates.items) (sym same) judged.fine;
         read = subst (λ (j : Judged). IsReadAs j.hosts.seen.items r c.args.line.now) (sym same) read;
         name = named;
         answers = answered;

@@ -1,0 +1,5 @@
+pub mod Damaged
+pub mod Surveys
+pub mod SlotWords
+pub mod FileBytes
+pub mod Held

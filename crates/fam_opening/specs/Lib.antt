@@ -1,0 +1,4 @@
+pub mod Opening
+pub mod Files
+pub mod Opened
+pub mod Found
