@@ -10,3 +10,5 @@ pub mod ExtentSpellings
 pub mod PrintedEntries
 pub mod PrintedNotes
 pub mod HostNumbers
+pub mod Fitting
+pub mod CutSteps
