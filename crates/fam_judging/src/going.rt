@@ -20,7 +20,7 @@ ghost use Rattle.fam_judging.specs.Told.{AreToldCommands};
 use crate::behind::written;
 use crate::below::put_all_below;
 use crate::candidate::Candidate;
-use crate::candidates::copy;
+use crate::candidates::{copy, let_go};
 use crate::elsewhere::is_elsewhere;
 use crate::given::GivenImage;
 use crate::hosts::Hosts;
@@ -63,7 +63,10 @@ fn step_among(
         → OnOk result (StepsAmong start (note_of_line line.now) (possible_of start hosts.now candidate) (IsFine start given.now (seen_after hosts.now.seen.items line.now))
         (possible_after start hosts.now line.now) out.old.items out.new.items) }
 {
-    let seen = hosts.seen_behind(line)?;
+    let Ok(seen) = hosts.seen_behind(line) else {
+        let_go(candidate);
+        return Err(OutOfMemory);
+    };
     let mut news = Vec::new(alloc);
     step(alloc, given, lines, hosts, candidate, line, &mut news)?;
     put_all_below(&seen, news, out)
@@ -89,9 +92,11 @@ fn lead_behind(
         (possible_after start hosts.now line.now) out.old.items out.new.items) }
 {
     if written.tracks.len() != hosts.seen.len() {
+        let_go(written);
         return Ok(());
     }
     if tells_nothing(&written, at, line) {
+        let_go(written);
         return Ok(());
     }
     step_among(alloc, given, lines, hosts, written, line, out)

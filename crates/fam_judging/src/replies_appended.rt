@@ -7,18 +7,33 @@ ghost use Rattle.fam_journal.specs.Past.{acknowledges};
 ghost use Rattle.fam_rules.specs.Reply as reply;
 ghost use Rattle.fam_judging.specs.FoundLefts.{host_of};
 ghost use Rattle.fam_judging.specs.Lefts.{LeavesEndings};
-ghost use Rattle.fam_judging.specs.NamedLefts.{AcknowledgedLeft, FoundNamed, NamedLeft};
+ghost use Rattle.fam_judging.specs.NamedLefts.{AcknowledgedLeft, FoundNamed, IsAcknowledgedLeft, NamedLeft};
 ghost use Rattle.fam_judging.specs.Told.{IsToldCommand};
 
 use crate::candidate::{Settled, Stage, Track, Wrote};
 use crate::given::GivenImage;
 use crate::lefts::{Left, Lefts, none, one};
 use crate::naming::name_log;
+use crate::settled::{copy_found, let_log_go};
 use fam_base::OutOfMemory;
 use fam_history::ToldCommand;
 use fam_lines::SeenHost;
 use fam_settled::Log;
 use std::alloc::Global;
+
+/// What is left of a command, where entry `seq` is acknowledged.
+fn left_acknowledged(mut log: Log, seq: u64, track: Track) -> Result<Option<Left>, OutOfMemory>
+    ensures { IfOk result (λ left. IsAcknowledgedLeft log seq track left) }
+{
+    if log.acknowledge(seq).is_err() {
+        let_log_go(log);
+        return Err(OutOfMemory);
+    }
+    Ok(Some(Left {
+        settled: Settled::Log(log),
+        track,
+    }))
+}
 
 /// Where a command found what is settled, what is left behind entry `seq` of it.
 fn named(
@@ -33,16 +48,16 @@ fn named(
 {
     match name_log(&mut log, cmd, seen.uuid, seq) {
         Some(entry) => {
-            log.acknowledge(seq)?;
-            Ok(Some(Left {
-                settled: Settled::Log(log),
-                track: Track {
-                    wrote: Some(Wrote { seq, entry }),
-                    ..*track
-                },
-            }))
+            let track = Track {
+                wrote: Some(Wrote { seq, entry }),
+                ..*track
+            };
+            left_acknowledged(log, seq, track)
         }
-        None => Ok(None),
+        None => {
+            let_log_go(log);
+            Ok(None)
+        }
     }
 }
 
@@ -72,12 +87,8 @@ fn acknowledged(
     if !is_acknowledged(log, seen, cmd, track, seq) {
         return Ok(None);
     }
-    let mut log = log.copy(alloc)?;
-    log.acknowledge(seq)?;
-    Ok(Some(Left {
-        settled: Settled::Log(log),
-        track: *track,
-    }))
+    let log = log.copy(alloc)?;
+    left_acknowledged(log, seq, *track)
 }
 
 /// What is left behind entry `seq` of a command that finds so many entries now, where it may find them.
@@ -95,8 +106,7 @@ fn found_named(
     if !log.found_fits(seq) {
         return Ok(None);
     }
-    let mut log = log.copy(alloc)?;
-    log.finds(seq)?;
+    let log = copy_found(alloc, log, seq)?;
     named(log, seen, cmd, seq, track)
 }
 

@@ -15,6 +15,7 @@ ghost use Rattle.fam_judging.specs.ReplyKinds.{IsDecidedCause};
 use crate::candidate::{Settled, Stage, Track};
 use crate::given::GivenImage;
 use crate::lefts::{Left, Lefts, kept, none};
+use crate::settled::{copy_found, let_log_go};
 use fam_base::OutOfMemory;
 use fam_history::ToldCommand;
 use fam_lines::SeenHost;
@@ -60,14 +61,14 @@ fn found(
 ) -> Result<Option<Left>, OutOfMemory>
     ensures { IfOk result (λ left. FoundLeft log.now n seen.now cmd.now track.now why.now left) }
 {
-    let mut log = log.copy(alloc)?;
-    log.finds(n)?;
+    let log = copy_found(alloc, log, n)?;
     if declines(&log, seen.uuid, cmd, why) {
         Ok(Some(Left {
             settled: Settled::Log(log),
             track: *track,
         }))
     } else {
+        let_log_go(log);
         Ok(None)
     }
 }
