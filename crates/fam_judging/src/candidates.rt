@@ -25,8 +25,11 @@ pub(crate) fn let_go(_candidate: Candidate) {}
 pub(crate) fn push(out: &mut Vec<Candidate>, candidate: Candidate) -> Result<(), OutOfMemory>
     ensures { OnOk result (out.new.items ≡ out.old.items ++ candidate ∷ []) }
 {
-    if out.push(candidate).is_err() {
-        return Err(OutOfMemory);
+    match out.push(candidate) {
+        Ok(()) => Ok(()),
+        Err(refused) => {
+            let_go(refused.value);
+            Err(OutOfMemory)
+        }
     }
-    Ok(())
 }

@@ -6,13 +6,13 @@ ghost use Rattle.fam_journal.specs.Legal.{AppendedAllowed};
 ghost use Rattle.fam_journal.specs.Past.{acknowledges};
 ghost use Rattle.fam_rules.specs.Reply as reply;
 ghost use Rattle.fam_judging.specs.FoundLefts.{host_of};
-ghost use Rattle.fam_judging.specs.Lefts.{LeavesEndings};
+ghost use Rattle.fam_judging.specs.Lefts.{AtMostOne, LeavesEndings};
 ghost use Rattle.fam_judging.specs.NamedLefts.{AcknowledgedLeft, FoundNamed, IsAcknowledgedLeft, NamedLeft};
 ghost use Rattle.fam_judging.specs.Told.{IsToldCommand};
 
 use crate::candidate::{Settled, Stage, Track, Wrote};
 use crate::given::GivenImage;
-use crate::lefts::{Left, Lefts, none, one};
+use crate::lefts::{Left, Lefts, none};
 use crate::naming::name_log;
 use crate::settled::{copy_found, let_log_go};
 use fam_base::OutOfMemory;
@@ -22,17 +22,20 @@ use fam_settled::Log;
 use std::alloc::Global;
 
 /// What is left of a command, where entry `seq` is acknowledged.
-fn left_acknowledged(mut log: Log, seq: u64, track: Track) -> Result<Option<Left>, OutOfMemory>
-    ensures { IfOk result (λ left. IsAcknowledgedLeft log seq track left) }
+fn left_acknowledged(mut log: Log, seq: u64, track: Track) -> Result<Lefts, OutOfMemory>
+    ensures { IfOk result (λ lefts. AtMostOne (IsAcknowledgedLeft log seq track) lefts) }
 {
     if log.acknowledge(seq).is_err() {
         let_log_go(log);
         return Err(OutOfMemory);
     }
-    Ok(Some(Left {
-        settled: Settled::Log(log),
-        track,
-    }))
+    Ok(Lefts {
+        first: Some(Left {
+            settled: Settled::Log(log),
+            track,
+        }),
+        second: None,
+    })
 }
 
 /// Where a command found what is settled, what is left behind entry `seq` of it.
@@ -42,9 +45,9 @@ fn named(
     cmd: &ToldCommand,
     seq: u64,
     track: &Track,
-) -> Result<Option<Left>, OutOfMemory>
+) -> Result<Lefts, OutOfMemory>
     requires { IsToldCommand cmd.now }
-    ensures { IfOk result (λ left. NamedLeft log seq seen.now cmd.now track.now left) }
+    ensures { IfOk result (λ lefts. AtMostOne (NamedLeft log seq seen.now cmd.now track.now) lefts) }
 {
     match name_log(&mut log, cmd, seen.uuid, seq) {
         Some(entry) => {
@@ -56,7 +59,7 @@ fn named(
         }
         None => {
             let_log_go(log);
-            Ok(None)
+            Ok(none())
         }
     }
 }
@@ -81,11 +84,11 @@ fn acknowledged(
     cmd: &ToldCommand,
     track: &Track,
     seq: u64,
-) -> Result<Option<Left>, OutOfMemory>
-    ensures { IfOk result (λ left. AcknowledgedLeft log.now seq seen.now cmd.now track.now left) }
+) -> Result<Lefts, OutOfMemory>
+    ensures { IfOk result (λ lefts. AtMostOne (AcknowledgedLeft log.now seq seen.now cmd.now track.now) lefts) }
 {
     if !is_acknowledged(log, seen, cmd, track, seq) {
-        return Ok(None);
+        return Ok(none());
     }
     let log = log.copy(alloc)?;
     left_acknowledged(log, seq, *track)
@@ -99,12 +102,12 @@ fn found_named(
     cmd: &ToldCommand,
     track: &Track,
     seq: u64,
-) -> Result<Option<Left>, OutOfMemory>
+) -> Result<Lefts, OutOfMemory>
     requires { IsToldCommand cmd.now }
-    ensures { IfOk result (λ left. FoundNamed log.now seq seen.now cmd.now track.now left) }
+    ensures { IfOk result (λ lefts. AtMostOne (FoundNamed log.now seq seen.now cmd.now track.now) lefts) }
 {
     if !log.found_fits(seq) {
-        return Ok(None);
+        return Ok(none());
     }
     let log = copy_found(alloc, log, seq)?;
     named(log, seen, cmd, seq, track)
@@ -118,9 +121,9 @@ fn met_named(
     cmd: &ToldCommand,
     track: &Track,
     seq: u64,
-) -> Result<Option<Left>, OutOfMemory>
+) -> Result<Lefts, OutOfMemory>
     requires { IsToldCommand cmd.now }
-    ensures { IfOk result (λ left. NamedLeft log.now seq seen.now cmd.now track.now left) }
+    ensures { IfOk result (λ lefts. AtMostOne (NamedLeft log.now seq seen.now cmd.now track.now) lefts) }
 {
     let log = log.copy(alloc)?;
     named(log, seen, cmd, seq, track)
@@ -145,22 +148,19 @@ pub(crate) fn appended(
     };
     match track.stage {
         Stage::Begun | Stage::Marked => {
-            let left = found_named(alloc, log, seen, cmd, track, seq)?;
-            Ok(one(left))
+            found_named(alloc, log, seen, cmd, track, seq)
         }
         Stage::Met(n) => {
             if n != seq {
                 return Ok(none());
             }
-            let left = met_named(alloc, log, seen, cmd, track, seq)?;
-            Ok(one(left))
+            met_named(alloc, log, seen, cmd, track, seq)
         }
         Stage::Named(n) => {
             if n != seq {
                 return Ok(none());
             }
-            let left = acknowledged(alloc, log, seen, cmd, track, seq)?;
-            Ok(one(left))
+            acknowledged(alloc, log, seen, cmd, track, seq)
         }
     }
 }

@@ -4,4 +4,4 @@ use borrow.Author.Tests.{tests}
 use Rattle.fam_judging.proofs.replies_appended.left_acknowledged.Goals as goal
 
 pub returns : goal.returns
-returns c = (c.acknowledge.new.self, refl, search (tests, rules))
+returns c = ((c.acknowledge.new.self, refl, search (tests, rules)), refl)
