@@ -123,7 +123,9 @@ fn lead_all_behind(
         (IsFine start given.now (seen_after hosts.now.seen.items line.now)) (possible_after start hosts.now line.now) out.old.items out.new.items) }
 {
     'named: for i in 0..written.len() {
-        let one = copy(alloc, &written[i])?;
+        let Ok(one) = copy(alloc, &written[i]) else {
+            return Err(OutOfMemory);
+        };
         lead_behind(alloc, given, lines, hosts, one, at, line, out)?;
     }
     Ok(())
@@ -176,7 +178,9 @@ fn lead_hosts(
         → OnOk result (LeadsAmong start (note_of_line line.now) (length hosts.now.seen.items) (possible_of start hosts.now candidate.now)
         (IsFine start given.now (seen_after hosts.now.seen.items line.now)) (possible_after start hosts.now line.now) out.old.items out.new.items) }
 {
-    let own = copy(alloc, candidate)?;
+    let Ok(own) = copy(alloc, candidate) else {
+        return Err(OutOfMemory);
+    };
     step_among(alloc, given, lines, hosts, own, line, out)?;
     'hosts: for at in 0..hosts.seen.len() {
         lead_host(alloc, given, lines, hosts, candidate, at, line, out)?;

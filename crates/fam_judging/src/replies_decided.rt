@@ -61,7 +61,9 @@ fn found(
 ) -> Result<Option<Left>, OutOfMemory>
     ensures { IfOk result (λ left. FoundLeft log.now n seen.now cmd.now track.now why.now left) }
 {
-    let log = copy_found(alloc, log, n)?;
+    let Ok(log) = copy_found(alloc, log, n) else {
+        return Err(OutOfMemory);
+    };
     if declines(&log, seen.uuid, cmd, why) {
         Ok(Some(Left {
             settled: Settled::Log(log),
@@ -105,9 +107,13 @@ fn finding(
     ensures first { IfOk result (λ lefts. FoundLeft log.now (length log.now.entries) seen.now cmd.now track.now why.now lefts.first) }
     ensures second { IfOk result (λ lefts. PendingLeft log.now seen.now cmd.now track.now why.now log.now.pending lefts.second) }
 {
-    let first = found(alloc, log, log.count(), seen, cmd, track, why)?;
-    let second = found_pending(alloc, log, seen, cmd, track, why)?;
-    Ok(Lefts { first, second })
+    let Ok(first) = found(alloc, log, log.count(), seen, cmd, track, why) else {
+        return Err(OutOfMemory);
+    };
+    match found_pending(alloc, log, seen, cmd, track, why) {
+        Ok(second) => Ok(Lefts { first, second }),
+        Err(why) => Err(why),
+    }
 }
 
 /// What a refusal that the entries tell leaves.
