@@ -5,7 +5,7 @@ ghost use Rattle.fam_format.specs.declared.faults.Reason.TheVariants as reason;
 ghost use Rattle.fam_grammar.specs.Cursor.{words_left, IsShort, Tells};
 ghost use Rattle.fam_history.specs.Faults.{is_a_file, kind_of_word, last_kind, log_field_of, log_fault_line, numbered, reason_behind, reason_line, reason_word, super_field_of, super_line};
 
-use crate::literals::{last_word, is, last_number, last_two, literal, meaning};
+use crate::literals::{is, last_number, last_two, last_word, literal, meaning};
 use fam_base::Kind;
 use fam_format::{LogFault, LogField, Reason, SuperFault, SuperField};
 use fam_grammar::{Line, LineFault, Words, fitting};

@@ -147,9 +147,7 @@ pub(crate) fn appended(
         return Ok(none());
     };
     match track.stage {
-        Stage::Begun | Stage::Marked => {
-            found_named(alloc, log, seen, cmd, track, seq)
-        }
+        Stage::Begun | Stage::Marked => { found_named(alloc, log, seen, cmd, track, seq) }
         Stage::Met(n) => {
             if n != seq {
                 return Ok(none());
