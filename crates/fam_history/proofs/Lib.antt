@@ -10,3 +10,6 @@ pub mod ExtentSpellings
 pub mod PrintedEntries
 pub mod PrintedNotes
 pub mod HostNumbers
+pub mod KeywordSteps
+pub mod Fitting
+pub mod CutSteps

@@ -138,6 +138,26 @@ map_back Empty xs listed fits = ap (mapped Empty) (sym listed)
 map_back Simple xs listed fits = simple_back xs listed.0 listed.1 fits
 map_back (Striped chunk) xs listed fits = striped_back chunk xs listed.0 listed.1 listed.2 fits
 
+-- A map's word as the code reads it.
+
+pub dash_read : (text : List ℕ) (xs : List Extent) → bytes_eq text (codes "-") ≡ true → xs ≡ [] → mapped Empty xs ≡ listed_map text
+dash_read text xs is none = ap (mapped Empty) none ∙ sym (ap (λ (t : Bool). map_by t (length (front colon text) == length text) text) is)
+
+pub simple_read : (text first : List ℕ) (extents : Option (List Extent)) → bytes_eq text (codes "-") ≡ false → first ≡ front colon text → length first ≡ length text
+    → extents ≡ listed_extents text → simple_of extents ≡ listed_map text
+simple_read text first extents none cut whole read =
+    ap simple_of read
+    ∙ sym (ap (λ (t : Bool). map_by t (length (front colon text) == length text) text) none
+    ∙ ap (λ (t : Bool). map_by false t text) (eq-eqb (length (front colon text)) (length text) (sym (ap length cut) ∙ whole)))
+
+pub striped_read : (text first behind : List ℕ) (chunk : Option ℕ) (extents : Option (List Extent)) → bytes_eq text (codes "-") ≡ false → first ≡ front colon text
+    → behind ≡ back colon text → (length first ≡ length text → ⊥) → chunk ≡ number_of_text first → extents ≡ listed_extents behind
+    → striped_with chunk extents ≡ listed_map text
+striped_read text first behind chunk extents none cut rest part number read =
+    ap₂ striped_with (number ∙ ap number_of_text cut) (read ∙ ap listed_extents rest)
+    ∙ sym (ap (λ (t : Bool). map_by t (length (front colon text) == length text) text) none
+    ∙ ap (λ (t : Bool). map_by false t text) (ne_eqb (length (front colon text)) (length text) (λ e. part (ap length cut ∙ e))))
+
 -- Each is a word.
 
 -- bytes without a blank behind a word

@@ -9,7 +9,7 @@ ghost use Rattle.fam_history.specs.Answers.{answer_behind, answer_line, answer_w
 use crate::answer::ToldAnswer;
 use crate::byte_words::{bytes_of, one_byte};
 use crate::faults::{is_a_file, last_kind, log_fault, numbered, reason, super_fault};
-use crate::literals::{last_number, last_two, literal, meaning, skip};
+use crate::literals::{last_number, last_two, last_word, literal, meaning, skip};
 use fam_base::Path;
 use fam_format::SuperFault;
 use fam_grammar::{Line, LineFault, Words, fitting};
@@ -75,7 +75,7 @@ fn not(words: &mut Words<'_>, line: Line) -> Result<ToldAnswer, LineFault>
     ensures short { IsShort words.new }
 {
     if skip(words, "found") {
-        return Ok(ToldAnswer::NotFound(last_number(words, line)?));
+        return last_number(words, line).map(ToldAnswer::NotFound);
     }
     literal(words, line, "master")?;
     let me = words.uuid(line)?;
@@ -92,8 +92,9 @@ fn path(words: &mut Words<'_>, line: Line) -> Result<ToldAnswer, LineFault>
     ensures short { IsShort words.new }
 {
     literal(words, line, "too")?;
-    let limit = numbered(words, line, "long")?;
-    Ok(ToldAnswer::NotAppended(Refused::LongPath(limit)))
+    numbered(words, line, "long")
+        .map(Refused::LongPath)
+        .map(ToldAnswer::NotAppended)
 }
 
 fn entry(words: &mut Words<'_>, line: Line) -> Result<ToldAnswer, LineFault>
@@ -115,10 +116,10 @@ fn bad(words: &mut Words<'_>, line: Line) -> Result<ToldAnswer, LineFault>
         return words.ended(line, ToldAnswer::NotAppended(Refused::BadStripe));
     }
     if skip(words, "superblock") {
-        return Ok(ToldAnswer::NoSuperblock(super_fault(words, line)?));
+        return super_fault(words, line).map(ToldAnswer::NoSuperblock);
     }
     if skip(words, "log") {
-        return Ok(ToldAnswer::BadHeader(log_fault(words, line)?));
+        return log_fault(words, line).map(ToldAnswer::BadHeader);
     }
     literal(words, line, "entry")?;
     entry(words, line)
@@ -133,11 +134,13 @@ fn no(words: &mut Words<'_>, line: Line) -> Result<ToldAnswer, LineFault>
         return words.ended(line, ToldAnswer::NotAppended(Refused::NoParent));
     }
     if skip(words, "superblock") {
-        let word = last_number(words, line)?;
-        return Ok(ToldAnswer::NoSuperblock(SuperFault::NoSuper(word)));
+        return last_number(words, line)
+            .map(SuperFault::NoSuper)
+            .map(ToldAnswer::NoSuperblock);
     }
-    let units = numbered(words, line, "space")?;
-    Ok(ToldAnswer::NotAppended(Refused::NoSpace(units)))
+    numbered(words, line, "space")
+        .map(Refused::NoSpace)
+        .map(ToldAnswer::NotAppended)
 }
 
 /// A byte of two digits.
@@ -205,8 +208,7 @@ fn directory(words: &mut Words<'_>, line: Line) -> Result<ToldAnswer, LineFault>
     ensures short { IsShort words.new }
 {
     literal(words, line, "a")?;
-    let entries = numbered(words, line, "directory")?;
-    Ok(ToldAnswer::IsDirectory(entries))
+    numbered(words, line, "directory").map(ToldAnswer::IsDirectory)
 }
 
 /// A number behind a word.
@@ -231,7 +233,7 @@ fn some_path(words: &mut Words<'_>, line: Line) -> Result<Option<Path>, LineFaul
     ensures value { Tells line (words_left words.new) result (some_path line.end (words_left words.old)) }
     ensures short { IsShort words.new }
 {
-    Ok(Some(words.path(line)?))
+    words.path(line).map(Some)
 }
 
 /// A path; or `-` for none, where no path differs.
@@ -289,8 +291,7 @@ fn fsck(words: &mut Words<'_>, line: Line) -> Result<ToldAnswer, LineFault>
     if skip(words, "sound") {
         return words.ended(line, ToldAnswer::Report(true));
     }
-    literal(words, line, "damaged")?;
-    words.ended(line, ToldAnswer::Report(false))
+    last_word(words, line, "damaged", ToldAnswer::Report(false))
 }
 
 /// The words behind the first one.
@@ -305,33 +306,31 @@ fn behind(
     ensures short { IsShort words.new }
 {
     match first {
-        AnswerWord::Done => Ok(ToldAnswer::Ok(last_number(words, line)?)),
+        AnswerWord::Done => last_number(words, line).map(ToldAnswer::Ok),
         AnswerWord::Not => not(words, line),
         AnswerWord::Path => path(words, line),
         AnswerWord::Bad => bad(words, line),
-        AnswerWord::Exists => {
-            let kind = last_kind(words, line)?;
-            Ok(ToldAnswer::NotAppended(Refused::Exists(kind)))
-        }
+        AnswerWord::Exists => last_kind(words, line)
+            .map(Refused::Exists)
+            .map(ToldAnswer::NotAppended),
         AnswerWord::No => no(words, line),
         AnswerWord::Parent => {
             is_a_file(words, line)?;
             Ok(ToldAnswer::NotAppended(Refused::ParentIsFile))
         }
-        AnswerWord::Log => {
-            let slots = numbered(words, line, "full")?;
-            Ok(ToldAnswer::NotAppended(Refused::LogFull(slots)))
-        }
-        AnswerWord::Played => Ok(ToldAnswer::Played(last_number(words, line)?)),
-        AnswerWord::Mounted => Ok(ToldAnswer::Mounted(last_number(words, line)?)),
-        AnswerWord::Same => Ok(ToldAnswer::Same(last_number(words, line)?)),
+        AnswerWord::Log => numbered(words, line, "full")
+            .map(Refused::LogFull)
+            .map(ToldAnswer::NotAppended),
+        AnswerWord::Played => last_number(words, line).map(ToldAnswer::Played),
+        AnswerWord::Mounted => last_number(words, line).map(ToldAnswer::Mounted),
+        AnswerWord::Same => last_number(words, line).map(ToldAnswer::Same),
         AnswerWord::Differs => differs(words, line),
         AnswerWord::Length => length(words, line),
         AnswerWord::Bytes => bytes(alloc, words, line),
         AnswerWord::Is => directory(words, line),
         AnswerWord::Checked => checked(words, line),
         AnswerWord::Fsck => fsck(words, line),
-        AnswerWord::Media => Ok(ToldAnswer::MediaFault(numbered(words, line, "fault")?)),
+        AnswerWord::Media => numbered(words, line, "fault").map(ToldAnswer::MediaFault),
     }
 }
 

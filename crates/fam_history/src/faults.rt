@@ -1,10 +1,11 @@
 //! The words of faults. `specs/Faults.antt` has them from left to right.
 
 ghost use Rattle.std.specs.Prelude.{◌≡◌};
+ghost use Rattle.fam_format.specs.declared.faults.Reason.TheVariants as reason;
 ghost use Rattle.fam_grammar.specs.Cursor.{words_left, IsShort, Tells};
 ghost use Rattle.fam_history.specs.Faults.{is_a_file, kind_of_word, last_kind, log_field_of, log_fault_line, numbered, reason_behind, reason_line, reason_word, super_field_of, super_line};
 
-use crate::literals::{is, last_number, last_two, literal, meaning};
+use crate::literals::{is, last_number, last_two, last_word, literal, meaning};
 use fam_base::Kind;
 use fam_format::{LogFault, LogField, Reason, SuperFault, SuperField};
 use fam_grammar::{Line, LineFault, Words, fitting};
@@ -161,8 +162,27 @@ pub(crate) fn is_a_file(words: &mut Words<'_>, line: Line) -> Result<(), LineFau
 {
     literal(words, line, "is")?;
     literal(words, line, "a")?;
-    literal(words, line, "file")?;
-    words.ended(line, ())
+    last_word(words, line, "file", ())
+}
+
+/// A checksum that differs, of what was found and what was wanted.
+fn other_crc(pair: (u64, u64)) -> Reason
+    ensures { result ≡ reason.Crc pair.0 pair.1 }
+{
+    Reason::Crc {
+        found: pair.0,
+        wanted: pair.1,
+    }
+}
+
+/// So of an entry's number.
+fn other_seq(pair: (u64, u64)) -> Reason
+    ensures { result ≡ reason.Seq pair.0 pair.1 }
+{
+    Reason::Seq {
+        found: pair.0,
+        wanted: pair.1,
+    }
 }
 
 /// The words behind the first one.
@@ -172,29 +192,20 @@ fn behind(first: ReasonWord, words: &mut Words<'_>, line: Line) -> Result<Reason
     ensures short { IsShort words.new }
 {
     match first {
-        ReasonWord::Crc => {
-            let (found, wanted) = last_two(words, line)?;
-            Ok(Reason::Crc { found, wanted })
-        }
-        ReasonWord::Seq => {
-            let (found, wanted) = last_two(words, line)?;
-            Ok(Reason::Seq { found, wanted })
-        }
-        ReasonWord::Kind => Ok(Reason::BadKind(last_number(words, line)?)),
-        ReasonWord::Attribute => Ok(Reason::Attribute(last_number(words, line)?)),
+        ReasonWord::Crc => last_two(words, line).map(other_crc),
+        ReasonWord::Seq => last_two(words, line).map(other_seq),
+        ReasonWord::Kind => last_number(words, line).map(Reason::BadKind),
+        ReasonWord::Attribute => last_number(words, line).map(Reason::Attribute),
         ReasonWord::Path => words.ended(line, Reason::BadPath),
         ReasonWord::Map => words.ended(line, Reason::Map),
-        ReasonWord::Rest => Ok(Reason::Rest(last_number(words, line)?)),
-        ReasonWord::Exists => Ok(Reason::Exists(last_kind(words, line)?)),
-        ReasonWord::No => {
-            literal(words, line, "parent")?;
-            words.ended(line, Reason::NoParent)
-        }
+        ReasonWord::Rest => last_number(words, line).map(Reason::Rest),
+        ReasonWord::Exists => last_kind(words, line).map(Reason::Exists),
+        ReasonWord::No => last_word(words, line, "parent", Reason::NoParent),
         ReasonWord::Parent => {
             is_a_file(words, line)?;
             Ok(Reason::ParentIsFile)
         }
-        ReasonWord::Overlap => Ok(Reason::Overlap(last_number(words, line)?)),
+        ReasonWord::Overlap => last_number(words, line).map(Reason::Overlap),
     }
 }
 

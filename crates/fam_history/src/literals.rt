@@ -3,7 +3,7 @@
 ghost use Rattle.std.specs.Prelude.{◌≡◌, if◌then◌else◌};
 ghost use Rattle.std.specs.Str.{bytes_eq};
 ghost use Rattle.fam_grammar.specs.Cursor.{words_left, IsShort, Tells};
-ghost use Rattle.fam_grammar.specs.Reading.{word_of};
+ghost use Rattle.fam_grammar.specs.Reading.{ends_with, then_reads, word_of};
 ghost use Rattle.fam_history.specs.Literals.{behind_first, begins_with, meaning_by, last_number, last_two, the_word};
 
 use fam_grammar::{Line, LineFault, Words, fitting};
@@ -58,6 +58,23 @@ pub(crate) fn literal(words: &mut Words<'_>, line: Line, wanted: &str) -> Result
 {
     match words.expected(line) {
         Ok(word) => fitting(line, word.column, the_word(word.text, wanted)),
+        Err(fault) => Err(fault),
+    }
+}
+
+/// This word with no word behind it, for which a value stands.
+pub(crate) fn last_word<T: Drop>(
+    words: &mut Words<'_>,
+    line: Line,
+    wanted: &str,
+    value: T,
+) -> Result<T, LineFault>
+    requires short { IsShort words.old }
+    ensures value { Tells line (words_left words.new) result (then_reads (word_of (the_word wanted.now) line.end (words_left words.old)) (λ it. ends_with value)) }
+    ensures short { IsShort words.new }
+{
+    match literal(words, line, wanted) {
+        Ok(()) => words.ended(line, value),
         Err(fault) => Err(fault),
     }
 }

@@ -151,8 +151,8 @@ fn setup(first: SetupWord, words: &mut Words<'_>, line: Line) -> Result<LineNote
             let uuid = words.uuid(line)?;
             words.ended(line, LineNote::Host(uuid))
         }
-        SetupWord::Made => Ok(LineNote::Made(made(words, line)?)),
-        SetupWord::Mkfs => Ok(LineNote::Cut(numbered(words, line, "halted")?)),
+        SetupWord::Made => made(words, line).map(LineNote::Made),
+        SetupWord::Mkfs => numbered(words, line, "halted").map(LineNote::Cut),
     }
 }
 
@@ -179,10 +179,10 @@ fn task(
     ensures short { IsShort words.new }
 {
     match first {
-        TaskWord::Start => Ok(LineNote::Start(told_command(words, line)?)),
-        TaskWord::Found => Ok(LineNote::Found(last_number(words, line)?)),
+        TaskWord::Start => told_command(words, line).map(LineNote::Start),
+        TaskWord::Found => last_number(words, line).map(LineNote::Found),
         TaskWord::Writes => writes(words, line),
-        TaskWord::Refused => Ok(LineNote::Refused(told_refusal(alloc, words, line)?)),
+        TaskWord::Refused => told_refusal(alloc, words, line).map(LineNote::Refused),
     }
 }
 
@@ -217,7 +217,7 @@ fn note_or_answer(
 {
     match first {
         Some(word) => behind(alloc, word, words, line),
-        None => Ok(LineNote::Answered(told_answer(alloc, words, line)?)),
+        None => told_answer(alloc, words, line).map(LineNote::Answered),
     }
 }
 

@@ -2,11 +2,14 @@
 
 ghost use Rattle.std.specs.Prelude.{◌≡◌};
 ghost use Rattle.fam_grammar.specs.Cursor.{words_left, IsShort, Tells};
+ghost use Rattle.fam_grammar.specs.Reading.{ends_with, then_reads, word_of};
+ghost use Rattle.fam_grammar.specs.Spellings.{name_of};
 ghost use Rattle.fam_history.specs.Refusals.{bad_line, has_line, image_line, no_line, refusal_behind, refusal_line, refusal_word, same_line, too_line};
 
 use crate::faults::numbered;
-use crate::literals::{last_two, literal, meaning, skip};
+use crate::literals::{last_two, last_word, literal, meaning, skip};
 use crate::refusal::ToldRefusal;
+use fam_base::HostName;
 use fam_grammar::{Line, LineFault, Words, fitting};
 use std::alloc::Global;
 
@@ -66,8 +69,17 @@ fn no(alloc: Global, words: &mut Words<'_>, line: Line) -> Result<ToldRefusal, L
         let (line, lines) = last_two(words, line)?;
         return Ok(ToldRefusal::NoLine { line, lines });
     }
-    literal(words, line, "host")?;
-    words.ended(line, ToldRefusal::NoHost)
+    last_word(words, line, "host", ToldRefusal::NoHost)
+}
+
+/// A host's name with no word behind it.
+fn last_name(words: &mut Words<'_>, line: Line) -> Result<HostName, LineFault>
+    requires short { IsShort words.old }
+    ensures value { Tells line (words_left words.new) result (then_reads (word_of name_of line.end (words_left words.old)) ends_with) }
+    ensures short { IsShort words.new }
+{
+    let name = words.name(line)?;
+    words.ended(line, name)
 }
 
 fn same(words: &mut Words<'_>, line: Line) -> Result<ToldRefusal, LineFault>
@@ -76,8 +88,7 @@ fn same(words: &mut Words<'_>, line: Line) -> Result<ToldRefusal, LineFault>
     ensures short { IsShort words.new }
 {
     literal(words, line, "host")?;
-    let name = words.name(line)?;
-    words.ended(line, ToldRefusal::SameHost(name))
+    last_name(words, line).map(ToldRefusal::SameHost)
 }
 
 fn too(words: &mut Words<'_>, line: Line) -> Result<ToldRefusal, LineFault>
@@ -86,8 +97,7 @@ fn too(words: &mut Words<'_>, line: Line) -> Result<ToldRefusal, LineFault>
     ensures short { IsShort words.new }
 {
     if skip(words, "many") {
-        literal(words, line, "hosts")?;
-        return words.ended(line, ToldRefusal::TooManyHosts);
+        return last_word(words, line, "hosts", ToldRefusal::TooManyHosts);
     }
     literal(words, line, "small")?;
     let (need, have) = last_two(words, line)?;
@@ -103,8 +113,7 @@ fn bad(words: &mut Words<'_>, line: Line) -> Result<ToldRefusal, LineFault>
         let (unit, log) = last_two(words, line)?;
         return Ok(ToldRefusal::BadGeometry { unit, log });
     }
-    let at = numbered(words, line, "listing")?;
-    Ok(ToldRefusal::BadListing(at))
+    numbered(words, line, "listing").map(ToldRefusal::BadListing)
 }
 
 fn image(words: &mut Words<'_>, line: Line) -> Result<ToldRefusal, LineFault>
@@ -113,8 +122,7 @@ fn image(words: &mut Words<'_>, line: Line) -> Result<ToldRefusal, LineFault>
     ensures short { IsShort words.new }
 {
     literal(words, line, "too")?;
-    let lines = numbered(words, line, "small")?;
-    Ok(ToldRefusal::ImageSmall(lines))
+    numbered(words, line, "small").map(ToldRefusal::ImageSmall)
 }
 
 fn has(words: &mut Words<'_>, line: Line) -> Result<ToldRefusal, LineFault>
@@ -144,23 +152,14 @@ fn behind(
         RefusalWord::Too => too(words, line),
         RefusalWord::Bad => bad(words, line),
         RefusalWord::Image => image(words, line),
-        RefusalWord::Busy => {
-            let name = words.name(line)?;
-            words.ended(line, ToldRefusal::Busy(name))
-        }
-        RefusalWord::Dirty => {
-            let name = words.name(line)?;
-            words.ended(line, ToldRefusal::Dirty(name))
-        }
+        RefusalWord::Busy => last_name(words, line).map(ToldRefusal::Busy),
+        RefusalWord::Dirty => last_name(words, line).map(ToldRefusal::Dirty),
         RefusalWord::Has => has(words, line),
         RefusalWord::Idle => words.ended(line, ToldRefusal::Idle),
         RefusalWord::Mounted => words.ended(line, ToldRefusal::Mounted),
-        RefusalWord::Not => {
-            literal(words, line, "mounted")?;
-            words.ended(line, ToldRefusal::NotMounted)
-        }
-        RefusalWord::Copy => Ok(ToldRefusal::CopyLimit(numbered(words, line, "limit")?)),
-        RefusalWord::Media => Ok(ToldRefusal::MediaFault(numbered(words, line, "fault")?)),
+        RefusalWord::Not => last_word(words, line, "mounted", ToldRefusal::NotMounted),
+        RefusalWord::Copy => numbered(words, line, "limit").map(ToldRefusal::CopyLimit),
+        RefusalWord::Media => numbered(words, line, "fault").map(ToldRefusal::MediaFault),
     }
 }
 

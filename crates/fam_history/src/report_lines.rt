@@ -6,7 +6,7 @@ ghost use Rattle.fam_history.specs.ReportLines.{bad_entry_line, files_line, bad_
 
 use crate::answers::counted;
 use crate::faults::{log_fault, numbered, reason, super_fault};
-use crate::literals::{last_two, literal, skip};
+use crate::literals::{last_two, last_word, literal, skip};
 use fam_format::{LogFault, Reason, SuperFault};
 use fam_grammar::{Line, LineFault, Words};
 use fam_rules::{LogState, SuperState};
@@ -53,17 +53,14 @@ pub fn told_superblock(words: &mut Words<'_>, line: Line) -> Result<SuperState, 
     ensures short { IsShort words.new }
 {
     if skip(words, "superblock") {
-        literal(words, line, "sound")?;
-        return words.ended(line, SuperState::Sound);
+        return last_word(words, line, "sound", SuperState::Sound);
     }
     if skip(words, "no") {
-        let word = numbered(words, line, "superblock")?;
-        return Ok(SuperState::NoSuper(word));
+        return numbered(words, line, "superblock").map(SuperState::NoSuper);
     }
     literal(words, line, "bad")?;
     literal(words, line, "superblock")?;
-    let fault = super_fault(words, line)?;
-    Ok(super_state(fault))
+    super_fault(words, line).map(super_state)
 }
 
 /// A number, `of` and another.
@@ -97,8 +94,7 @@ pub fn told_log(words: &mut Words<'_>, line: Line) -> Result<LogState, LineFault
 {
     if skip(words, "bad") {
         literal(words, line, "log")?;
-        let fault = log_fault(words, line)?;
-        return Ok(log_state(fault));
+        return log_fault(words, line).map(log_state);
     }
     literal(words, line, "log")?;
     log_behind(words, line)
@@ -136,8 +132,7 @@ fn pair_or_none(words: &mut Words<'_>, line: Line) -> Result<Option<(u64, u64)>,
     if skip(words, "none") {
         return words.ended(line, None);
     }
-    let pair = last_two(words, line)?;
-    Ok(Some(pair))
+    last_two(words, line).map(Some)
 }
 
 /// The numbers of two entries that overlap, if any do.

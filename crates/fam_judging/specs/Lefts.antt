@@ -1,5 +1,5 @@
 -- Which endings are left, and that they are those of a reply.
-use Rattle.std.specs.Prelude.{◌≡◌, ◌↔◌, Bool, true, false, Some, None}
+use Rattle.std.specs.Prelude.{◌≡◌, ◌↔◌, Bool, true, false, Option, Some, None}
 use Rattle.fam_base.specs.Image.{Image}
 use Rattle.fam_history.specs.declared.command.ToldCommand.{ToldCommand}
 use Rattle.fam_lines.specs.declared.host.SeenHost.{SeenHost}
@@ -17,6 +17,10 @@ use Rattle.fam_judging.specs.ReplyKinds.{asker_of, ending_left, point_of}
 abbrev pub only : Bool → Settled → Track → Lefts
 only true settled track = record { first = Some (record { settled = settled; track = track }); second = None }
 only false settled track = record { first = None; second = None }
+
+-- one at most, of which this holds
+abbrev pub AtMostOne : (Option Left → Type 0) → Lefts → Type 0
+AtMostOne P lefts = P lefts.first × lefts.second ≡ None
 
 -- an ending is one of them
 pub data IsOfLefts (start : Image) (lefts : Lefts) (e : EndingState) : Type 0 where

@@ -9,6 +9,7 @@ use Rattle.fam_journal.specs.Shapes.{EntryShape}
 use Rattle.fam_lines.specs.declared.host.SeenHost.{SeenHost}
 use Rattle.fam_lines.specs.Lines.{untold_of}
 use Rattle.fam_settled.specs.Settled.{SettledLog as Log, settled_log_state}
+use Rattle.fam_judging.specs.declared.candidate.Settled.TheVariants as settled
 use Rattle.fam_judging.specs.declared.candidate.Track.{Track}
 use Rattle.fam_judging.specs.declared.lefts.Left.{Left}
 use Rattle.fam_judging.specs.FoundLefts.{host_of}
@@ -18,6 +19,10 @@ use Rattle.fam_judging.specs.Candidates.{named_of}
 -- an entry of a command is named and acknowledged
 abbrev pub acknowledged_state : ToldCommand → ℕ → Entry → State → State
 acknowledged_state cmd seq e state = acknowledges seq (pends (record { entry = e; bytes = filled_bytes (Some (untold_of cmd)) e.size }) state)
+
+-- entry `seq` is acknowledged in a log, and this is known of the host
+abbrev pub IsAcknowledgedLeft : Log → ℕ → Track → Option Left → Type 0
+IsAcknowledgedLeft log seq track left = (new : Log) × (left ≡ Some (record { settled = settled.Log new; track = track })) × settled_log_state new ≡ acknowledges seq (settled_log_state log)
 
 -- where it found what is settled it names an entry of this number, or not
 abbrev pub NamedLeft : Log → ℕ → SeenHost → ToldCommand → Track → Option Left → Type 0

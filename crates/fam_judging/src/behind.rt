@@ -10,7 +10,7 @@ ghost use Rattle.fam_judging.specs.Pushing.{IsFine, IsMore, Pushes, WrittenAt, f
 ghost use Rattle.fam_judging.specs.Told.{AreToldCommands};
 
 use crate::candidate::{Candidate, Settled, Stage};
-use crate::candidates::{copy, push};
+use crate::candidates::{copy, let_go, push};
 use crate::given::GivenImage;
 use crate::hosts::Hosts;
 use crate::settled::settled_count;
@@ -37,8 +37,12 @@ fn written_at(
         (possible_of start hosts.now) out.old.items out.new.items) }
 {
     let mut next = copy(alloc, candidate)?;
-    let named = wrote(given, hosts, &mut next, at, n)?;
+    let Ok(named) = wrote(given, hosts, &mut next, at, n) else {
+        let_go(next);
+        return Err(OutOfMemory);
+    };
     if named.is_none() {
+        let_go(next);
         return Ok(());
     }
     push(out, next)

@@ -8,7 +8,7 @@ ghost use Rattle.fam_judging.specs.After.{possible_in};
 ghost use Rattle.fam_judging.specs.Below.{AddsAll, AddsOne, AreHostsBelow, IsHostBelow, IsTrackBelow};
 
 use crate::candidate::{Candidate, Settled, Stage, Track, Wrote};
-use crate::candidates::push;
+use crate::candidates::{let_go, push};
 use fam_base::OutOfMemory;
 use fam_lines::SeenHost;
 
@@ -112,9 +112,6 @@ fn has_below(seen: &Vec<SeenHost>, candidate: &Candidate, others: &Vec<Candidate
     }
     false
 }
-
-/// Lets a candidate go.
-fn let_go(_candidate: Candidate) {}
 
 /// Puts a candidate behind the others, unless one of them allows no less.
 fn put_below(

@@ -18,12 +18,18 @@ pub(crate) fn copy(alloc: Global, candidate: &Candidate) -> Result<Candidate, Ou
     Ok(Candidate { settled, tracks })
 }
 
+/// Lets a candidate go.
+pub(crate) fn let_go(_candidate: Candidate) {}
+
 /// One candidate more.
 pub(crate) fn push(out: &mut Vec<Candidate>, candidate: Candidate) -> Result<(), OutOfMemory>
     ensures { OnOk result (out.new.items ≡ out.old.items ++ candidate ∷ []) }
 {
-    if out.push(candidate).is_err() {
-        return Err(OutOfMemory);
+    match out.push(candidate) {
+        Ok(()) => Ok(()),
+        Err(refused) => {
+            let_go(refused.value);
+            Err(OutOfMemory)
+        }
     }
-    Ok(())
 }

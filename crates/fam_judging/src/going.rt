@@ -20,7 +20,7 @@ ghost use Rattle.fam_judging.specs.Told.{AreToldCommands};
 use crate::behind::written;
 use crate::below::put_all_below;
 use crate::candidate::Candidate;
-use crate::candidates::copy;
+use crate::candidates::{copy, let_go};
 use crate::elsewhere::is_elsewhere;
 use crate::given::GivenImage;
 use crate::hosts::Hosts;
@@ -63,7 +63,10 @@ fn step_among(
         → OnOk result (StepsAmong start (note_of_line line.now) (possible_of start hosts.now candidate) (IsFine start given.now (seen_after hosts.now.seen.items line.now))
         (possible_after start hosts.now line.now) out.old.items out.new.items) }
 {
-    let seen = hosts.seen_behind(line)?;
+    let Ok(seen) = hosts.seen_behind(line) else {
+        let_go(candidate);
+        return Err(OutOfMemory);
+    };
     let mut news = Vec::new(alloc);
     step(alloc, given, lines, hosts, candidate, line, &mut news)?;
     put_all_below(&seen, news, out)
@@ -89,9 +92,11 @@ fn lead_behind(
         (possible_after start hosts.now line.now) out.old.items out.new.items) }
 {
     if written.tracks.len() != hosts.seen.len() {
+        let_go(written);
         return Ok(());
     }
     if tells_nothing(&written, at, line) {
+        let_go(written);
         return Ok(());
     }
     step_among(alloc, given, lines, hosts, written, line, out)
@@ -118,7 +123,9 @@ fn lead_all_behind(
         (IsFine start given.now (seen_after hosts.now.seen.items line.now)) (possible_after start hosts.now line.now) out.old.items out.new.items) }
 {
     'named: for i in 0..written.len() {
-        let one = copy(alloc, &written[i])?;
+        let Ok(one) = copy(alloc, &written[i]) else {
+            return Err(OutOfMemory);
+        };
         lead_behind(alloc, given, lines, hosts, one, at, line, out)?;
     }
     Ok(())
@@ -171,7 +178,9 @@ fn lead_hosts(
         → OnOk result (LeadsAmong start (note_of_line line.now) (length hosts.now.seen.items) (possible_of start hosts.now candidate.now)
         (IsFine start given.now (seen_after hosts.now.seen.items line.now)) (possible_after start hosts.now line.now) out.old.items out.new.items) }
 {
-    let own = copy(alloc, candidate)?;
+    let Ok(own) = copy(alloc, candidate) else {
+        return Err(OutOfMemory);
+    };
     step_among(alloc, given, lines, hosts, own, line, out)?;
     'hosts: for at in 0..hosts.seen.len() {
         lead_host(alloc, given, lines, hosts, candidate, at, line, out)?;

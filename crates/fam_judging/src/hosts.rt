@@ -53,10 +53,13 @@ fn declare(seen: &mut Vec<SeenHost>, name: HostName, uuid: Uuid) -> Result<(), O
 fn declare_command(commands: &mut Vec<Option<ToldCommand>>) -> Result<(), OutOfMemory>
     ensures { OnOk result (commands.new.items ≡ commands.old.items ++ None ∷ []) }
 {
-    if commands.push(None).is_err() {
-        return Err(OutOfMemory);
+    match commands.push(None) {
+        Ok(()) => Ok(()),
+        Err(refused) => {
+            let_go(refused.value);
+            Err(OutOfMemory)
+        }
     }
-    Ok(())
 }
 
 /// Whether a host runs a command.

@@ -15,7 +15,7 @@ ghost use Rattle.fam_judging.specs.StepLines.{IsStepLine};
 ghost use Rattle.fam_judging.specs.Told.{AreToldCommands};
 
 use crate::candidate::Candidate;
-use crate::candidates::push;
+use crate::candidates::{let_go, push};
 use crate::given::GivenImage;
 use crate::hosts::Hosts;
 use crate::plain::plain;
@@ -72,8 +72,12 @@ fn step_alone(
         (possible_after start hosts.now line.now) out.old.items out.new.items) }
 {
     let mut candidate = candidate;
-    let goes = lead_to(alloc, given, lines, hosts, &mut candidate, line)?;
+    let Ok(goes) = lead_to(alloc, given, lines, hosts, &mut candidate, line) else {
+        let_go(candidate);
+        return Err(OutOfMemory);
+    };
     if !goes {
+        let_go(candidate);
         return Ok(());
     }
     push(out, candidate)
@@ -100,7 +104,9 @@ pub fn step(
 {
     match line {
         Line::Answered(at, answer) if !is_fault(answer) => {
-            reply(alloc, given, hosts, &candidate, *at, answer, out)
+            let result = reply(alloc, given, hosts, &candidate, *at, answer, out);
+            let_go(candidate);
+            result
         }
         _ => step_alone(alloc, given, lines, hosts, candidate, line, out),
     }

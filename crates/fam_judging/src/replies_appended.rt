@@ -6,19 +6,37 @@ ghost use Rattle.fam_journal.specs.Legal.{AppendedAllowed};
 ghost use Rattle.fam_journal.specs.Past.{acknowledges};
 ghost use Rattle.fam_rules.specs.Reply as reply;
 ghost use Rattle.fam_judging.specs.FoundLefts.{host_of};
-ghost use Rattle.fam_judging.specs.Lefts.{LeavesEndings};
-ghost use Rattle.fam_judging.specs.NamedLefts.{AcknowledgedLeft, FoundNamed, NamedLeft};
+ghost use Rattle.fam_judging.specs.Lefts.{AtMostOne, LeavesEndings};
+ghost use Rattle.fam_judging.specs.NamedLefts.{AcknowledgedLeft, FoundNamed, IsAcknowledgedLeft, NamedLeft};
 ghost use Rattle.fam_judging.specs.Told.{IsToldCommand};
 
 use crate::candidate::{Settled, Stage, Track, Wrote};
 use crate::given::GivenImage;
-use crate::lefts::{Left, Lefts, none, one};
+use crate::lefts::{Left, Lefts, none};
 use crate::naming::name_log;
+use crate::settled::{copy_found, let_log_go};
 use fam_base::OutOfMemory;
 use fam_history::ToldCommand;
 use fam_lines::SeenHost;
 use fam_settled::Log;
 use std::alloc::Global;
+
+/// What is left of a command, where entry `seq` is acknowledged.
+fn left_acknowledged(mut log: Log, seq: u64, track: Track) -> Result<Lefts, OutOfMemory>
+    ensures { IfOk result (λ lefts. AtMostOne (IsAcknowledgedLeft log seq track) lefts) }
+{
+    if log.acknowledge(seq).is_err() {
+        let_log_go(log);
+        return Err(OutOfMemory);
+    }
+    Ok(Lefts {
+        first: Some(Left {
+            settled: Settled::Log(log),
+            track,
+        }),
+        second: None,
+    })
+}
 
 /// Where a command found what is settled, what is left behind entry `seq` of it.
 fn named(
@@ -27,22 +45,22 @@ fn named(
     cmd: &ToldCommand,
     seq: u64,
     track: &Track,
-) -> Result<Option<Left>, OutOfMemory>
+) -> Result<Lefts, OutOfMemory>
     requires { IsToldCommand cmd.now }
-    ensures { IfOk result (λ left. NamedLeft log seq seen.now cmd.now track.now left) }
+    ensures { IfOk result (λ lefts. AtMostOne (NamedLeft log seq seen.now cmd.now track.now) lefts) }
 {
     match name_log(&mut log, cmd, seen.uuid, seq) {
         Some(entry) => {
-            log.acknowledge(seq)?;
-            Ok(Some(Left {
-                settled: Settled::Log(log),
-                track: Track {
-                    wrote: Some(Wrote { seq, entry }),
-                    ..*track
-                },
-            }))
+            let track = Track {
+                wrote: Some(Wrote { seq, entry }),
+                ..*track
+            };
+            left_acknowledged(log, seq, track)
         }
-        None => Ok(None),
+        None => {
+            let_log_go(log);
+            Ok(none())
+        }
     }
 }
 
@@ -66,18 +84,14 @@ fn acknowledged(
     cmd: &ToldCommand,
     track: &Track,
     seq: u64,
-) -> Result<Option<Left>, OutOfMemory>
-    ensures { IfOk result (λ left. AcknowledgedLeft log.now seq seen.now cmd.now track.now left) }
+) -> Result<Lefts, OutOfMemory>
+    ensures { IfOk result (λ lefts. AtMostOne (AcknowledgedLeft log.now seq seen.now cmd.now track.now) lefts) }
 {
     if !is_acknowledged(log, seen, cmd, track, seq) {
-        return Ok(None);
+        return Ok(none());
     }
-    let mut log = log.copy(alloc)?;
-    log.acknowledge(seq)?;
-    Ok(Some(Left {
-        settled: Settled::Log(log),
-        track: *track,
-    }))
+    let log = log.copy(alloc)?;
+    left_acknowledged(log, seq, *track)
 }
 
 /// What is left behind entry `seq` of a command that finds so many entries now, where it may find them.
@@ -88,15 +102,14 @@ fn found_named(
     cmd: &ToldCommand,
     track: &Track,
     seq: u64,
-) -> Result<Option<Left>, OutOfMemory>
+) -> Result<Lefts, OutOfMemory>
     requires { IsToldCommand cmd.now }
-    ensures { IfOk result (λ left. FoundNamed log.now seq seen.now cmd.now track.now left) }
+    ensures { IfOk result (λ lefts. AtMostOne (FoundNamed log.now seq seen.now cmd.now track.now) lefts) }
 {
     if !log.found_fits(seq) {
-        return Ok(None);
+        return Ok(none());
     }
-    let mut log = log.copy(alloc)?;
-    log.finds(seq)?;
+    let log = copy_found(alloc, log, seq)?;
     named(log, seen, cmd, seq, track)
 }
 
@@ -108,9 +121,9 @@ fn met_named(
     cmd: &ToldCommand,
     track: &Track,
     seq: u64,
-) -> Result<Option<Left>, OutOfMemory>
+) -> Result<Lefts, OutOfMemory>
     requires { IsToldCommand cmd.now }
-    ensures { IfOk result (λ left. NamedLeft log.now seq seen.now cmd.now track.now left) }
+    ensures { IfOk result (λ lefts. AtMostOne (NamedLeft log.now seq seen.now cmd.now track.now) lefts) }
 {
     let log = log.copy(alloc)?;
     named(log, seen, cmd, seq, track)
@@ -134,23 +147,18 @@ pub(crate) fn appended(
         return Ok(none());
     };
     match track.stage {
-        Stage::Begun | Stage::Marked => {
-            let left = found_named(alloc, log, seen, cmd, track, seq)?;
-            Ok(one(left))
-        }
+        Stage::Begun | Stage::Marked => { found_named(alloc, log, seen, cmd, track, seq) }
         Stage::Met(n) => {
             if n != seq {
                 return Ok(none());
             }
-            let left = met_named(alloc, log, seen, cmd, track, seq)?;
-            Ok(one(left))
+            met_named(alloc, log, seen, cmd, track, seq)
         }
         Stage::Named(n) => {
             if n != seq {
                 return Ok(none());
             }
-            let left = acknowledged(alloc, log, seen, cmd, track, seq)?;
-            Ok(one(left))
+            acknowledged(alloc, log, seen, cmd, track, seq)
         }
     }
 }

@@ -31,16 +31,6 @@ pub(crate) fn may_mark(stage: Stage) -> bool
     }
 }
 
-/// Whether it has found entries.
-pub(crate) fn has_met(stage: Stage) -> bool
-    ensures { IsTrue result ↔ HasMet (stage_shape stage) }
-{
-    match stage {
-        Stage::Met(_) => true,
-        _ => false,
-    }
-}
-
 /// Whether a command doesn't check the file system.
 fn is_no_fsck(cmd: &ToldCommand) -> bool
     ensures { IsTrue result ↔ (untold_of cmd.now ≢ Fsck) }
@@ -152,7 +142,10 @@ fn fails_gate(
 fn may_read_slots(stage: Stage) -> bool
     ensures { IsTrue result ↔ (MayMark (stage_shape stage) ⊎ HasMet (stage_shape stage)) }
 {
-    may_mark(stage) || has_met(stage)
+    match stage {
+        Stage::Named(_) => false,
+        _ => true,
+    }
 }
 
 /// Whether a command finds that slot `i` is bad, for this reason.

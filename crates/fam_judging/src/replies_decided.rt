@@ -15,6 +15,7 @@ ghost use Rattle.fam_judging.specs.ReplyKinds.{IsDecidedCause};
 use crate::candidate::{Settled, Stage, Track};
 use crate::given::GivenImage;
 use crate::lefts::{Left, Lefts, kept, none};
+use crate::settled::{copy_found, let_log_go};
 use fam_base::OutOfMemory;
 use fam_history::ToldCommand;
 use fam_lines::SeenHost;
@@ -60,14 +61,16 @@ fn found(
 ) -> Result<Option<Left>, OutOfMemory>
     ensures { IfOk result (λ left. FoundLeft log.now n seen.now cmd.now track.now why.now left) }
 {
-    let mut log = log.copy(alloc)?;
-    log.finds(n)?;
+    let Ok(log) = copy_found(alloc, log, n) else {
+        return Err(OutOfMemory);
+    };
     if declines(&log, seen.uuid, cmd, why) {
         Ok(Some(Left {
             settled: Settled::Log(log),
             track: *track,
         }))
     } else {
+        let_log_go(log);
         Ok(None)
     }
 }
@@ -104,9 +107,13 @@ fn finding(
     ensures first { IfOk result (λ lefts. FoundLeft log.now (length log.now.entries) seen.now cmd.now track.now why.now lefts.first) }
     ensures second { IfOk result (λ lefts. PendingLeft log.now seen.now cmd.now track.now why.now log.now.pending lefts.second) }
 {
-    let first = found(alloc, log, log.count(), seen, cmd, track, why)?;
-    let second = found_pending(alloc, log, seen, cmd, track, why)?;
-    Ok(Lefts { first, second })
+    let Ok(first) = found(alloc, log, log.count(), seen, cmd, track, why) else {
+        return Err(OutOfMemory);
+    };
+    match found_pending(alloc, log, seen, cmd, track, why) {
+        Ok(second) => Ok(Lefts { first, second }),
+        Err(why) => Err(why),
+    }
 }
 
 /// What a refusal that the entries tell leaves.

@@ -12,6 +12,7 @@ use crate::candidate::{Settled, Track};
 use crate::given::GivenImage;
 use crate::lefts::{Left, Lefts, none, one};
 use crate::replies_damage::may_mark;
+use crate::settled::let_log_go;
 use fam_base::{Entry, OutOfMemory};
 use fam_history::{ToldAnswer, ToldCommand};
 use fam_lines::SeenHost;
@@ -52,7 +53,10 @@ pub(crate) fn shown_log(
     ensures { IfOk result (λ lefts. IsShown log.now m track.now lefts) }
 {
     let mut log = log.copy(alloc)?;
-    log.shows(m)?;
+    if log.shows(m).is_err() {
+        let_log_go(log);
+        return Err(OutOfMemory);
+    }
     Ok(one(Some(Left {
         settled: Settled::Log(log),
         track: *track,

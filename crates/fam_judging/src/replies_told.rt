@@ -62,7 +62,10 @@ fn told_in(alloc: Global, answer: &HostAnswer) -> Result<ToldAnswer, OutOfMemory
             size: *size,
             wanted: *wanted,
         }),
-        HostAnswer::Bytes(m, bytes) => Ok(ToldAnswer::Bytes(*m, copy_bytes(alloc, bytes)?)),
+        HostAnswer::Bytes(m, bytes) => match copy_bytes(alloc, bytes) {
+            Ok(copy) => Ok(ToldAnswer::Bytes(*m, copy)),
+            Err(why) => Err(why),
+        },
         HostAnswer::NotFound(m) => Ok(ToldAnswer::NotFound(*m)),
         HostAnswer::IsDirectory(m) => Ok(ToldAnswer::IsDirectory(*m)),
         HostAnswer::Checks(m, checked) => Ok(ToldAnswer::Checked(*m, *checked)),

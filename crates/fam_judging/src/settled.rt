@@ -26,6 +26,21 @@ pub(crate) fn copy_settled(alloc: Global, settled: &Settled) -> Result<Settled, 
     }
 }
 
+/// Lets a log go.
+pub(crate) fn let_log_go(_log: Log) {}
+
+/// A copy of a log finds so many entries.
+pub(crate) fn copy_found(alloc: Global, log: &Log, n: u64) -> Result<Log, OutOfMemory>
+    ensures { IfOk result (λ copy. settled_log_state copy ≡ finds n (settled_log_state log.now)) }
+{
+    let mut log = log.copy(alloc)?;
+    if log.finds(n).is_err() {
+        let_log_go(log);
+        return Err(OutOfMemory);
+    }
+    Ok(log)
+}
+
 /// Whether a number is one more than another one.
 pub(crate) fn is_next(n: u64, count: u64) -> bool
     ensures { IsTrue result ↔ (n ≡ count + 1) }

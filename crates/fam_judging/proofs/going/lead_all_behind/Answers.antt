@@ -20,16 +20,16 @@ named-preserved c start x long fine names =
     let see = possible_after start hosts c.args.line.now in
     let ws = c.args.written.now.items in
     let d = c.index.result.now in
-    let one = c.in_ok-one.one in
+    let one = c.in-Ok.one in
     let at_is = slice_get_read ws (length ws) c.named.i d refl (omega (arith, c.named-test.true, c.len-i-end.ensures)) c.index.ensures in
-    let same = copied start hosts d one c.in_ok-one.ensures.settled c.in_ok-one.ensures.tracks in
+    let same = copied start hosts d one c.in-Ok.ensures.settled c.in-Ok.ensures.tracks in
     let mid = c.named.out.items in
     let new = c.lead_behind.new.out.items in
     behind_next start line c.args.at x (possible_of start hosts) ws Fine see c.named.i d c.args.out.now.items mid new at_is
     (c.named.invariant start x long fine names)
     (subst (λ (w : Possible). LeadsBehind start line c.args.at x w Fine see mid new) same
     (c.in_ok-lead_behind.ensures start x long
-    (copy_fine start c.args.given.now hosts.seen.items d one c.in_ok-one.ensures.settled c.in_ok-one.ensures.tracks (fine c.named.i d at_is))
+    (copy_fine start c.args.given.now hosts.seen.items d one c.in-Ok.ensures.settled c.in-Ok.ensures.tracks (fine c.named.i d at_is))
     (subst (λ (w : Possible). Wrote start c.args.at x w) (sym same) (names c.named.i d at_is))))
 
 pub returns : goal.returns

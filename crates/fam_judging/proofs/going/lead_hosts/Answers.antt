@@ -16,14 +16,14 @@ pub hosts-init : goal.hosts-init
 hosts-init c start long has =
     let hosts = c.args.hosts.now in
     let old = c.args.candidate.now in
-    let own = c.in_ok-own.own in
+    let own = c.in-Ok.own in
     let line = note_of_line c.args.line.now in
     let Fine : Candidate → Type 0 = IsFine start c.args.given.now (seen_after hosts.seen.items c.args.line.now) in
     let see = possible_after start hosts c.args.line.now in
     let out = c.args.out.now.items in
     let new = c.step_among.new.out.items in
-    let same = copied start hosts old own c.in_ok-own.ensures.settled c.in_ok-own.ensures.tracks in
-    let said = subst (λ (s : Settled). HasGiven start c.args.given.now s) (sym c.in_ok-own.ensures.settled) has in
+    let same = copied start hosts old own c.in-Ok.ensures.settled c.in-Ok.ensures.tracks in
+    let said = subst (λ (s : Settled). HasGiven start c.args.given.now s) (sym c.in-Ok.ensures.settled) has in
     among_first start line (possible_of start hosts old) Fine see out new
     (subst (λ (x : Possible). StepsAmong start line x Fine see out new) same (c.in_ok-step_among.ensures start long said))
 

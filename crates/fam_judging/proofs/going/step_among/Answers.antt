@@ -24,7 +24,7 @@ returns c start long has =
     let old = c.args.out.now.items in
     let new = c.put_all_below.new.out.items in
     let pushes = subst (λ (l : List Candidate). Pushes (StepsTo start x line) Fine see l news) c.new-news.ensures.items (c.in_ok-step.ensures start long has) in
-    on_ok c.put_all_below.result (AddsAll (possible_in start c.in_ok-seen.seen.items cmds) news old new) (StepsAmong start line x Fine see old new)
+    on_ok c.put_all_below.result (AddsAll (possible_in start c.in-Ok.seen.items cmds) news old new) (StepsAmong start line x Fine see old new)
     (λ adds. steps_among start line x Fine see news old new pushes
-    (subst (λ (seen : List SeenHost). AddsAll (possible_in start seen cmds) news old new) c.in_ok-seen.ensures adds))
+    (subst (λ (seen : List SeenHost). AddsAll (possible_in start seen cmds) news old new) c.in-Ok.ensures adds))
     (c.put_all_below.ensures start cmds)

@@ -15,7 +15,7 @@ returns-then-not-goes c start long has =
     let P : Possible → Type 0 = StepsTo start (possible_of start c.args.hosts.now c.args.candidate) (note_of_line c.args.line.now) in
     let next = possible_after start c.args.hosts.now c.args.line.now c.lead_to.new.candidate in
     push_none P (IsFine start c.args.given.now (seen_after c.args.hosts.now.seen.items c.args.line.now)) (possible_after start c.args.hosts.now c.args.line.now)
-    c.args.out.now.items next (subst (λ (b : Bool). Goes P next b) c.if-not-goes.true (c.in_ok-goes.ensures.goes start long has))
+    c.args.out.now.items next (subst (λ (b : Bool). Goes P next b) c.if-not-goes.true (c.in-Ok.ensures.goes start long has))
 
 pub returns : goal.returns
 returns c start long has =
@@ -26,6 +26,6 @@ returns c start long has =
     on_ok c.push.result (c.push.new.out.items ≡ old ++ c.lead_to.new.candidate ∷ [])
     (Pushes P Fine (possible_after start c.args.hosts.now c.args.line.now) old c.push.new.out.items)
     (λ is. push_one P Fine (possible_after start c.args.hosts.now c.args.line.now) old c.lead_to.new.candidate c.push.new.out.items is
-    (subst (λ (b : Bool). Goes P next b) c.if-not-goes.false (c.in_ok-goes.ensures.goes start long has))
-    (record { placed = c.in_ok-goes.ensures.placed c.if-not-goes.false; said = c.lead_to.ensures.given start has }))
+    (subst (λ (b : Bool). Goes P next b) c.if-not-goes.false (c.in-Ok.ensures.goes start long has))
+    (record { placed = c.in-Ok.ensures.placed c.if-not-goes.false; said = c.lead_to.ensures.given start has }))
     c.push.ensures
