@@ -24,6 +24,11 @@ pub first_read : {A : Type 0} (xs : List A) (d : A) (n : ℕ) → n ≡ length x
 first_read [] d n count some is = absurd (true≢false (sym (ap (λ k. k == 0) count) ∙ some))
 first_read (x ∷ xs) d n count some is = ap Some (sym is)
 
+-- so of a list of one member
+pub one_read : {A : Type 0} (xs : List A) (d : A) → length xs ≡ 1 → d ≡ get_or xs 0 d → slice_get xs 0 ≡ Some d
+one_read [] d one is = absurd (omega (arith, one))
+one_read (x ∷ xs) d one is = ap Some (sym is)
+
 -- what is found, and what follows of it
 pub found_then : {X : Type 0} (r : Option X) (N : Type 0) {P Q : X → Type 0} → MatchOption r N P → ((x : X) → P x → Q x) → IfSome r Q
 found_then None N is more = tt

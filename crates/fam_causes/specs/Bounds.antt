@@ -99,11 +99,14 @@ pub record ShowsFew (x : Asked) (shown floor mark : ℕ) : Type 0 where
   pub few : shown < floor
   pub mark_is : slice_get x.marks host ≡ Some mark
 
--- so many are shown: no candidate has more than `most`, which are fewer
+-- so many are shown: no candidate has more entries than some number, and `most`, which is that or counts as well what running commands may
+-- have appended, is less
 pub record ShowsMany (x : Asked) (shown most : ℕ) : Type 0 where
   pub host : ℕ
   pub shows : ShowsSo x host shown
-  pub greatest : IsMost x.candidates (length x.candidates) most
+  pub base : ℕ
+  pub greatest : IsMost x.candidates (length x.candidates) base
+  pub above : base ≤ most
   pub many : most < shown
 
 -- in a candidate so many entries may be shown to host h: no fewer than were settled at its mark, and no more than there are

@@ -213,11 +213,12 @@ MayFind given (settled.Log log) n = FoundAllowed n (settled_log_state log)
 MayFind given settled.Given n = FoundBad n (past_damage given.damage) given.gate
 MayFind given settled.Halted n = ⊥
 
--- in the first candidate these two counts may be found, and no others; the line's is another one
+-- in the only candidate these two counts may be found, and no others; the line's is another one
 pub record FindsOther (x : Asked) (found first second : ℕ) : Type 0 where
   pub host : ℕ
   pub line_is : x.line ≡ Some (line.Found host found)
   pub one : Candidate
+  pub only : length x.candidates ≡ 1
   pub first_is : slice_get x.candidates 0 ≡ Some one
   pub may : (n : ℕ) → MayFind x.given one.settled n ↔ ((n ≡ first) ⊎ (n ≡ second))
   pub other : MayFind x.given one.settled found → ⊥

@@ -18,6 +18,7 @@ use crate::bounds::{least_floor, most, shown_count};
 use crate::damages::{first_damage, is_other_damage};
 use crate::decided::{decided, is_other};
 use crate::fitting::shown_cause;
+use crate::hosts::some_appends;
 use crate::kinds::Cause;
 use crate::trees::tree_cause;
 use fam_base::OutOfMemory;
@@ -51,15 +52,21 @@ fn few_cause(
     }
 }
 
-/// It shows too many.
-fn many_cause(candidates: &Vec<Candidate>, at: usize, answer: &HostAnswer, m: u64) -> Option<Cause>
+/// It shows too many, also where so many more may have been named of which nothing is told yet.
+fn many_cause(
+    candidates: &Vec<Candidate>,
+    late: u64,
+    at: usize,
+    answer: &HostAnswer,
+    m: u64,
+) -> Option<Cause>
     requires count { shown_count answer.now ≡ Some m }
     ensures { (given : GivenImage) (hosts : Hosts) (marks : List ℕ) (name : List ℕ) (answers : Bool) → IfSome result
         (IsCause (asked given hosts candidates.now.items marks name answers (Some (line.Answered at answer.now)))) }
 {
     let _ = at;
     let _ = answer;
-    let most = most(candidates)?;
+    let most = most(candidates)?.saturating_add(late);
     if m > most {
         Some(Cause::ShownMany { shown: m, most })
     } else {
@@ -70,6 +77,7 @@ fn many_cause(candidates: &Vec<Candidate>, at: usize, answer: &HostAnswer, m: u6
 /// Why an answer of so many entries can't stand, whatever it shows of them.
 fn count_cause(
     candidates: &Vec<Candidate>,
+    late: u64,
     marks: &[u64],
     at: usize,
     answer: &HostAnswer,
@@ -83,7 +91,7 @@ fn count_cause(
     if few.is_some() {
         return few;
     }
-    many_cause(candidates, at, answer, m)
+    many_cause(candidates, late, at, answer, m)
 }
 
 /// Whether an answer tells of damage.
@@ -174,7 +182,8 @@ fn showing_cause(
     ensures { (name : List ℕ) (answers : Bool) → IfOk result
         (IsCause (asked given.now hosts.now candidates.now.items marks.now name answers (Some (line.Answered at answer.now)))) }
 {
-    if let Some(cause) = count_cause(candidates, marks, at, answer, m) {
+    let late = if some_appends(hosts) { 1 } else { 0 };
+    if let Some(cause) = count_cause(candidates, late, marks, at, answer, m) {
         return Ok(cause);
     }
     if let Some(cause) = damaged_cause(given, hosts, candidates, at, cmd, answer) {

@@ -8,6 +8,7 @@ ghost use Rattle.fam_lines.specs.Resolved.{seen_number};
 ghost use Rattle.fam_judging.specs.Going.{running};
 ghost use Rattle.fam_causes.specs.Asked.{IsTaken, OwnRunsAs, RunsAs, SomeRunsAs};
 
+use crate::asking::{Asking, asking_of};
 use fam_base::HostName;
 use fam_history::ToldCommand;
 use fam_judging::Hosts;
@@ -118,4 +119,25 @@ pub(crate) fn running(hosts: &Hosts, at: usize) -> Option<&ToldCommand>
         Some(cmd) => Some(cmd),
         None => None,
     }
+}
+
+/// Whether a command appends.
+fn appends(cmd: Option<&ToldCommand>) -> bool {
+    match cmd {
+        Some(cmd) => match asking_of(cmd) {
+            Asking::Append => true,
+            _ => false,
+        },
+        None => false,
+    }
+}
+
+/// Whether some host runs a command that appends: it may have named an entry of which nothing is told yet.
+pub(crate) fn some_appends(hosts: &Hosts) -> bool {
+    for at in 0..hosts.seen.len() {
+        if appends(running(hosts, at)) {
+            return true;
+        }
+    }
+    false
 }

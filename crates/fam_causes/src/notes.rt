@@ -1,6 +1,6 @@
 //! How many entries may be found.
 
-ghost use Rattle.std.specs.Prelude.{◌≡◌, ◌⊎◌, ◌↔◌, ℕ, IfSome, slice_get, Some};
+ghost use Rattle.std.specs.Prelude.{◌≡◌, ◌⊎◌, ◌↔◌, ℕ, IfSome, length, slice_get, Some};
 ghost use Rattle.fam_judging.specs.declared.candidate.Candidate.{Candidate as AnyCandidate};
 ghost use Rattle.fam_causes.specs.Differing.{MayFind};
 
@@ -20,16 +20,16 @@ fn findable(given: &GivenImage, settled: &Settled) -> Option<(u64, u64)>
     }
 }
 
-/// So in the first candidate, where another count is found.
+/// So in the only candidate, where another count is found; nothing is said where there are several.
 pub(crate) fn found_other(
     given: &GivenImage,
     candidates: &Vec<Candidate>,
     n: u64,
 ) -> Option<(u64, u64)>
     ensures { IfSome result (λ p. (c : AnyCandidate) × (slice_get candidates.now.items 0 ≡ Some c)
-        × ((m : ℕ) → MayFind given.now c.settled m ↔ ((m ≡ p.0) ⊎ (m ≡ p.1))) × (MayFind given.now c.settled n → ⊥)) }
+        × ((m : ℕ) → MayFind given.now c.settled m ↔ ((m ≡ p.0) ⊎ (m ≡ p.1))) × (MayFind given.now c.settled n → ⊥) × (length candidates.now.items ≡ 1)) }
 {
-    if candidates.is_empty() {
+    if candidates.len() != 1 {
         return None;
     }
     let (first, second) = findable(given, &candidates[0].settled)?;
