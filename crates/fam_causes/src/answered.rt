@@ -18,7 +18,7 @@ use crate::bounds::{least_floor, most, shown_count};
 use crate::damages::{first_damage, is_other_damage};
 use crate::decided::{decided, is_other};
 use crate::fitting::shown_cause;
-use crate::hosts::some_appends;
+use crate::hosts::late_entries;
 use crate::kinds::Cause;
 use crate::trees::tree_cause;
 use fam_base::OutOfMemory;
@@ -182,7 +182,7 @@ fn showing_cause(
     ensures { (name : List ℕ) (answers : Bool) → IfOk result
         (IsCause (asked given.now hosts.now candidates.now.items marks.now name answers (Some (line.Answered at answer.now)))) }
 {
-    let late = if some_appends(hosts) { 1 } else { 0 };
+    let late = late_entries(hosts, candidates);
     if let Some(cause) = count_cause(candidates, late, marks, at, answer, m) {
         return Ok(cause);
     }

@@ -11,7 +11,7 @@ ghost use Rattle.fam_causes.specs.Asked.{IsTaken, OwnRunsAs, RunsAs, SomeRunsAs}
 use crate::asking::{Asking, asking_of};
 use fam_base::HostName;
 use fam_history::ToldCommand;
-use fam_judging::Hosts;
+use fam_judging::{Candidate, Hosts, Stage};
 use fam_lines::SeenHost;
 use uuid::Uuid;
 
@@ -132,12 +132,33 @@ fn appends(cmd: Option<&ToldCommand>) -> bool {
     }
 }
 
-/// Whether some host runs a command that appends: it may have named an entry of which nothing is told yet.
-pub(crate) fn some_appends(hosts: &Hosts) -> bool {
+/// Whether in a state the command of a host has named its entry.
+fn has_named(candidate: &Candidate, at: usize) -> bool {
+    if at >= candidate.tracks.len() {
+        return false;
+    }
+    match candidate.tracks[at].stage {
+        Stage::Named(_) => true,
+        _ => false,
+    }
+}
+
+/// Whether in a state some host runs a command that may have named an entry of which nothing is told yet.
+fn may_have_named(hosts: &Hosts, candidate: &Candidate) -> bool {
     for at in 0..hosts.seen.len() {
-        if appends(running(hosts, at)) {
+        if appends(running(hosts, at)) && !has_named(candidate, at) {
             return true;
         }
     }
     false
+}
+
+/// How many entries more than are told there may be: in some state a running command may have named one.
+pub(crate) fn late_entries(hosts: &Hosts, candidates: &Vec<Candidate>) -> u64 {
+    for i in 0..candidates.len() {
+        if may_have_named(hosts, &candidates[i]) {
+            return 1;
+        }
+    }
+    0
 }
